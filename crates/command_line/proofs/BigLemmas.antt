@@ -24,11 +24,17 @@ pub no_count_spelt : (a b : List ℕ) → number_of b ≡ None → request_of (c
 no_count_spelt a b e = rw (asked a b, number_in_none 1 commands_limit b e) (no_count (number_of a))
 
 pub small_count : (a b : List ℕ) (k : ℕ) → number_of b ≡ Some k → k < 1 → request_of (codes "big" ∷ a ∷ b ∷ []) ≡ None
-small_count a b k e small = rw (asked a b, number_in_some 1 commands_limit k b e, in_range_small 1 commands_limit k small) (no_count (number_of a))
+small_count a b k e small =
+    rw (asked a b, number_in_some 1 commands_limit k b e, in_range_small 1 commands_limit k small)
+    (no_count (number_of a))
 
-pub great_count : (a b : List ℕ) (k : ℕ) → number_of b ≡ Some k → commands_limit < k → request_of (codes "big" ∷ a ∷ b ∷ []) ≡ None
-great_count a b k e great = rw (asked a b, number_in_some 1 commands_limit k b e, in_range_no 1 commands_limit k great) (no_count (number_of a))
+pub great_count : (a b : List ℕ) (k : ℕ) → number_of b ≡ Some k → commands_limit < k
+    → request_of (codes "big" ∷ a ∷ b ∷ []) ≡ None
+great_count a b k e great = rw (asked a b, number_in_some 1 commands_limit k b e, in_range_no 1 commands_limit k great)
+    (no_count (number_of a))
 
 -- both are there
-pub big_asked : (a b : List ℕ) (n k : ℕ) → number_of a ≡ Some n → number_of b ≡ Some k → 1 ≤ k → k ≤ commands_limit → request_of (codes "big" ∷ a ∷ b ∷ []) ≡ Some (Big n k)
-big_asked a b n k number count some few = rw (asked a b, number, number_in_some 1 commands_limit k b count, in_range_yes 1 commands_limit k some few) refl
+pub big_asked : (a b : List ℕ) (n k : ℕ) → number_of a ≡ Some n → number_of b ≡ Some k → 1 ≤ k → k ≤ commands_limit
+    → request_of (codes "big" ∷ a ∷ b ∷ []) ≡ Some (Big n k)
+big_asked a b n k number count some few =
+    rw (asked a b, number, number_in_some 1 commands_limit k b count, in_range_yes 1 commands_limit k some few) refl

@@ -1,5 +1,7 @@
 -- What `format` asks for, by its arguments.
-use Rattle.std.proofs.Common.{◌≡◌, ◌≢◌, ℕ, ◌<◌, ◌≤◌, List, [], ◌∷◌, length, true, false, cond, ◌&&◌, Option, Some, None, eqb, leb, refl, sym, ap, ◌∙◌, ⊎_elim, arith, codes, if◌then◌else◌, Result, Ok, Err, IsOk, IfOk, ◌↔◌}
+use Rattle.std.proofs.Common.{◌≡◌, ◌≢◌, ℕ, ◌<◌, ◌≤◌, List, [], ◌∷◌, length, true, false, cond, ◌&&◌, Option, Some, None}
+use Rattle.std.proofs.Common.{eqb, leb, refl, sym, ap, ◌∙◌, ⊎_elim, arith, codes, if◌then◌else◌, Result, Ok, Err, IsOk}
+use Rattle.std.proofs.Common.{IfOk, ◌↔◌}
 use Rattle.std.specs.Option.{option_map}
 use Rattle.std.specs.Cmp.Lexicographic.{bytes_decides}
 use Rattle.std.specs.Result.{result_ok, OkIff}
@@ -24,14 +26,16 @@ params_of version n h kind seed = record { slots = n; height = h; kind = kind; s
 
 -- what a format asks for, by what its four arguments spell
 abbrev format_by : Version → Option ℕ → Option ℕ → Option DrawKind → Option (List ℕ) → Option Request
-format_by version slots height kind seed = slots >>= λ n. height >>= λ h. kind >>= λ k. seed >>= λ s. Some (Format (params_of version n h k s))
+format_by version slots height kind seed = slots >>= λ n. height >>= λ h. kind >>= λ k. seed >>=
+    λ s. Some (Format (params_of version n h k s))
 
 -- the words of a format
 abbrev pub format_words : Version → List ℕ → List ℕ → List ℕ → List ℕ → List (List ℕ)
 format_words version a b k s = format_word version ∷ a ∷ b ∷ k ∷ s ∷ []
 
 -- what they ask for
-asked : (v : Version) (a b k s : List ℕ) → request_of (format_words v a b k s) ≡ format_by v (number_in 1 slots_limit a) (number_in 1 8 b) (kind_of_word k) (seed_of_word s)
+asked : (v : Version) (a b k s : List ℕ) → request_of (format_words v a b k s)
+    ≡ format_by v (number_in 1 slots_limit a) (number_in 1 8 b) (kind_of_word k) (seed_of_word s)
 unfolding request_of version_of_word
 asked One a b k s = refl
 asked Two a b k s = refl
@@ -44,7 +48,8 @@ pub in_range_yes : (low high n : ℕ) → low ≤ n → n ≤ high → in_range 
 in_range_yes low high n low_le le_high = rw (le-leb low n low_le, le-leb n high le_high) refl
 
 pub in_range_no : (low high n : ℕ) → high < n → in_range low high n ≡ None
-in_range_no low high n h = rw (lt-leb n high h) (elim (leb low n) as (λ b. (if b && false then Some n else None) ≡ None) [ true ↦ refl | false ↦ refl ])
+in_range_no low high n h = rw (lt-leb n high h)
+    (elim (leb low n) as (λ b. (if b && false then Some n else None) ≡ None) [ true ↦ refl | false ↦ refl ])
 
 pub in_range_small : (low high n : ℕ) → n < low → in_range low high n ≡ None
 in_range_small low high n h = rw (lt-leb low n h) refl
@@ -57,7 +62,8 @@ pub number_in_some : (low high n : ℕ) (w : List ℕ) → number_of w ≡ Some 
 unfolding number_in
 number_in_some low high n w e = rw e refl
 
-no_height_request : (v : Version) (n : Option ℕ) (k : Option DrawKind) (s : Option (List ℕ)) → format_by v n None k s ≡ None
+no_height_request : (v : Version) (n : Option ℕ) (k : Option DrawKind) (s : Option (List ℕ))
+    → format_by v n None k s ≡ None
 no_height_request v None k s = refl
 no_height_request v (Some n) k s = refl
 
@@ -77,17 +83,22 @@ pub no_slots : (v : Version) (a b k s : List ℕ) → number_of a ≡ None → r
 no_slots v a b k s e = rw (asked v a b k s, number_in_none 1 slots_limit a e) refl
 
 pub no_height : (v : Version) (a b k s : List ℕ) → number_of b ≡ None → request_of (format_words v a b k s) ≡ None
-no_height v a b k s e = rw (asked v a b k s, number_in_none 1 8 b e) (no_height_request v (number_in 1 slots_limit a) (kind_of_word k) (seed_of_word s))
+no_height v a b k s e = rw (asked v a b k s, number_in_none 1 8 b e)
+    (no_height_request v (number_in 1 slots_limit a) (kind_of_word k) (seed_of_word s))
 
-pub great_height : (v : Version) (a b k s : List ℕ) (h : ℕ) → number_of b ≡ Some h → 8 < h → request_of (format_words v a b k s) ≡ None
+pub great_height : (v : Version) (a b k s : List ℕ) (h : ℕ) → number_of b ≡ Some h → 8 < h
+    → request_of (format_words v a b k s) ≡ None
 great_height v a b k s h e great =
-    rw (asked v a b k s, number_in_some 1 8 h b e, in_range_no 1 8 h great) (no_height_request v (number_in 1 slots_limit a) (kind_of_word k) (seed_of_word s))
+    rw (asked v a b k s, number_in_some 1 8 h b e, in_range_no 1 8 h great)
+    (no_height_request v (number_in 1 slots_limit a) (kind_of_word k) (seed_of_word s))
 
 pub no_kind : (v : Version) (a b k s : List ℕ) → kind_of_word k ≡ None → request_of (format_words v a b k s) ≡ None
-no_kind v a b k s e = rw (asked v a b k s, e) (no_kind_request v (number_in 1 slots_limit a) (number_in 1 8 b) (seed_of_word s))
+no_kind v a b k s e = rw (asked v a b k s, e)
+    (no_kind_request v (number_in 1 slots_limit a) (number_in 1 8 b) (seed_of_word s))
 
 pub no_seed : (v : Version) (a b k s : List ℕ) → seed_of_word s ≡ None → request_of (format_words v a b k s) ≡ None
-no_seed v a b k s e = rw (asked v a b k s, e) (no_seed_request v (number_in 1 slots_limit a) (number_in 1 8 b) (kind_of_word k))
+no_seed v a b k s e = rw (asked v a b k s, e)
+    (no_seed_request v (number_in 1 slots_limit a) (number_in 1 8 b) (kind_of_word k))
 
 -- a number that is read into a byte, and one that does not fit
 pub fits_byte : {E : Type 0} (r : Result ℕ E) (n x : ℕ) → OkIff r (n < 256) n → Some x ≡ result_ok r → x ≡ n
@@ -98,13 +109,20 @@ pub passes_byte : {E : Type 0} (r : Result ℕ E) (n : ℕ) → OkIff r (n < 256
 passes_byte (Ok y) n h e = absurd (cc)
 passes_byte (Err d) n h e = omega (arith, h)
 
--- what is made of two numbers, a draw and a seed of 32 bytes, exactly where they are in range, is what the words ask for
-made : {E : Type 0} (r : Result Parameters E) (v : Version) (n h : ℕ) (kind : DrawKind) (seed : List ℕ) → length seed ≡ 32 → IsBytes seed
+-- what is made of two numbers, a draw and a seed of 32 bytes, exactly where they are in range, is what the words ask
+-- for
+made : {E : Type 0} (r : Result Parameters E) (v : Version) (n h : ℕ) (kind : DrawKind) (seed : List ℕ)
+    → length seed ≡ 32 → IsBytes seed
     → IsOk r ↔ IsParameters (params_of One n h kind seed) → IfOk r (λ p. p ≡ params_of One n h kind seed)
-    → option_map (λ p. Format (with_version p v)) (result_ok r) ≡ format_by v (in_range 1 slots_limit n) (in_range 1 8 h) (Some kind) (Some seed)
+    → option_map (λ p. Format (with_version p v)) (result_ok r)
+    ≡ format_by v (in_range 1 slots_limit n) (in_range 1 8 h) (Some kind) (Some seed)
 made (Ok p) v n h kind seed size bytes exact value =
     let valid = exact.0 refl in
-    rw (in_range_yes 1 slots_limit n valid.some_slot valid.slots_in_range, in_range_yes 1 8 h valid.some_level valid.height_in_range) (ap (λ q. Some (Format (with_version q v))) value)
+    rw (
+      in_range_yes 1 slots_limit n valid.some_slot valid.slots_in_range,
+      in_range_yes 1 8 h
+          valid.some_level valid.height_in_range,
+    ) (ap (λ q. Some (Format (with_version q v))) value)
 made (Err e) v n h kind seed size bytes exact value =
     ⊎_elim
     (λ few. ⊎_elim
@@ -121,18 +139,23 @@ made (Err e) v n h kind seed size bytes exact value =
     (λ few. rw few refl)
     (cases_Bool (leb 1 n && leb n slots_limit))
 
-pub made_request : {E : Type 0} (r : Result Parameters E) (v : Version) (a b k s : List ℕ) (n h : ℕ) (kind : DrawKind) (seed : List ℕ)
-    → number_of a ≡ Some n → number_of b ≡ Some h → kind_of_word k ≡ Some kind → seed_of_word s ≡ Some seed → length seed ≡ 32 → IsBytes seed
+pub made_request : {E : Type 0} (r : Result Parameters E) (v : Version) (a b k s : List ℕ) (n h : ℕ)
+    (kind : DrawKind) (seed : List ℕ)
+    → number_of a ≡ Some n → number_of b ≡ Some h → kind_of_word k ≡ Some kind → seed_of_word s ≡ Some seed
+    → length seed ≡ 32 → IsBytes seed
     → IsOk r ↔ IsParameters (params_of One n h kind seed) → IfOk r (λ p. p ≡ params_of One n h kind seed)
     → option_map (λ p. Format (with_version p v)) (result_ok r) ≡ request_of (format_words v a b k s)
 made_request r v a b k s n h kind seed slots height draw digits size bytes exact value =
-    rw (asked v a b k s, number_in_some 1 slots_limit n a slots, number_in_some 1 8 h b height, draw, digits) (made r v n h kind seed size bytes exact value)
+    rw (asked v a b k s, number_in_some 1 slots_limit n a slots, number_in_some 1 8 h b height, draw, digits)
+    (made r v n h kind seed size bytes exact value)
 
 pub not_same : (xs ys : List ℕ) → xs ≢ ys → same_bytes xs ys ≡ false
-not_same xs ys other = ⊎_elim (λ yes. absurd (other ((bytes_decides xs ys).0 yes))) (λ no. no) (cases_Bool (same_bytes xs ys))
+not_same xs ys other = ⊎_elim (λ yes. absurd (other ((bytes_decides xs ys).0 yes))) (λ no. no)
+    (cases_Bool (same_bytes xs ys))
 
 -- another single word than these asks for nothing
-pub other_single : (w : List ℕ) → w ≢ codes "run" → w ≢ codes "session" → w ≢ codes "check" → w ≢ codes "scrub" → w ≢ codes "wipe" → w ≢ codes "upgrade"
+pub other_single : (w : List ℕ) → w ≢ codes "run" → w ≢ codes "session" → w ≢ codes "check" → w ≢ codes "scrub"
+    → w ≢ codes "wipe" → w ≢ codes "upgrade"
     → w ≢ codes "dump" → w ≢ codes "load" → request_of (w ∷ []) ≡ None
 unfolding request_of
 other_single w run session check scrub wipe upgrade dump load =
@@ -164,11 +187,13 @@ no_value (Ok v) none = absurd (none v refl)
 no_value (Err x) none = refl
 
 -- a seed of 64 digits, decoded
-pub seed_decoded : (w : List ℕ) (r : Result (List ℕ) FromHexError) → r ≡ decode_sized w 32 → result_ok r ≡ seed_of_word w
+pub seed_decoded : (w : List ℕ) (r : Result (List ℕ) FromHexError) → r ≡ decode_sized w 32
+    → result_ok r ≡ seed_of_word w
 seed_decoded w r e =
     ap result_ok e ∙ ⊎_elim
     (λ h. ap result_ok (decode_sized-twice w 32 (eqb-true _ _ h)) ∙ same_value (decode_of w) ∙ sym (seed_right w h))
-    (λ h. no_value (decode_sized w 32) (λ bytes q. false≢true (sym h ∙ eq-eqb _ _ (decode_sized-ok w 32 bytes q))) ∙ sym (seed_wrong w h))
+    (λ h. no_value (decode_sized w 32) (λ bytes q. false≢true (sym h ∙ eq-eqb _ _ (decode_sized-ok w 32 bytes q)))
+    ∙ sym (seed_wrong w h))
     (cases_Bool (eqb (length w) 64))
 
 -- a word that is neither of the two names no draw

@@ -1,5 +1,6 @@
 -- A line that asks for something is taken by `clap`.
-use Rattle.std.proofs.Common.{◌≡◌, ◌∙◌, true, cond, List, [], ◌∷◌, Option, Some, None, IfSome, refl, sym, ap, subst, codes, arith, ⊎_elim, inl, inr, ◌⊎◌}
+use Rattle.std.proofs.Common.{◌≡◌, ◌∙◌, true, cond, List, [], ◌∷◌, Option, Some, None, IfSome, refl, sym, ap, subst}
+use Rattle.std.proofs.Common.{codes, arith, ⊎_elim, inl, inr, ◌⊎◌}
 use Rattle.std.specs.Cmp.Lexicographic.{bytes_decides}
 use Rattle.std.proofs.lemmas.Bool.{cases_Bool, le-leb}
 use Rattle.clap.specs.Simple.{App, HasMatchesOf, is_simple, subcommand_of, subcommand_rows_of}
@@ -12,18 +13,23 @@ use Rattle.store_model.specs.declared.version.Version.TheVariants.{One, Two}
 use Rattle.store_model.specs.Lists.{same_bytes}
 use Rattle.store_model.specs.Grammar.{◌>>=◌, number_limit, number_of, on_word}
 use Rattle.store_model.specs.Parameters.{slots_limit, height_limit}
-use Rattle.store_model.specs.Words.{Request, commands_limit, kind_of_word, number_in, request_of, seed_of_word, version_of_word}
+use Rattle.store_model.specs.Words.{Request, commands_limit, kind_of_word, number_in, request_of, seed_of_word}
+use Rattle.store_model.specs.Words.{version_of_word}
 use Rattle.store_model.specs.Words.Request.{Format, Run, Session, Check, Scrub, Wipe, Upgrade, Dump, Load, Big}
 use Rattle.store_model.proofs.ListsLemmas.{first_true}
 use Rattle.command_line.specs.Line.{HoldsLine, IsLine, TakesDraws, format_word}
 use Rattle.command_line.proofs.LineLemmas.{some_same}
-use Rattle.command_line.proofs.TakenLines.{IsTaken, run_taken, session_taken, check_taken, scrub_taken, wipe_taken, upgrade_taken, dump_taken, load_taken, big_taken, format_taken}
-use Rattle.command_line.proofs.ValueLemmas.{draw_names, draw_passes, draw_plain, number_limited, number_plain, number_passes, range_passes, range_plain, seed_plain}
+use Rattle.command_line.proofs.TakenLines.{IsTaken, run_taken, session_taken, check_taken, scrub_taken, wipe_taken}
+use Rattle.command_line.proofs.TakenLines.{upgrade_taken, dump_taken, load_taken, big_taken, format_taken}
+use Rattle.command_line.proofs.ValueLemmas.{draw_names, draw_passes, draw_plain, number_limited, number_plain}
+use Rattle.command_line.proofs.ValueLemmas.{number_passes, range_passes, range_plain, seed_plain}
 
 -- where one of two words was found, it is the first, or the other was found
-by_word : {A : Type 0} (word name : Text) (here other : Option A) (x : A) → on_word word name here other ≡ Some x → ((word ≡ name) × (here ≡ Some x)) ⊎ (other ≡ Some x)
+by_word : {A : Type 0} (word name : Text) (here other : Option A) (x : A) → on_word word name here other ≡ Some x
+    → ((word ≡ name) × (here ≡ Some x)) ⊎ (other ≡ Some x)
 by_word word name here other x e =
-    ⊎_elim (λ yes. inl ((bytes_decides word name).0 yes, subst (λ b. cond b here other ≡ Some x) yes e)) (λ no. inr (subst (λ b. cond b here other ≡ Some x) no e)) (cases_Bool (same_bytes word name))
+    ⊎_elim (λ yes. inl ((bytes_decides word name).0 yes, subst (λ b. cond b here other ≡ Some x) yes e))
+    (λ no. inr (subst (λ b. cond b here other ≡ Some x) no e)) (cases_Bool (same_bytes word name))
 
 -- a value that comes of another, which is there then
 record Comes {A B : Type 0} (from : Option A) (f : A → Option B) (y : B) : Type 0 where
@@ -43,15 +49,22 @@ word_of_version : (word : Text) (version : Version) → version_of_word word ≡
 unfolding version_of_word
 word_of_version word version e =
     ⊎_elim (λ one. one.0 ∙ ap format_word (some_same _ _ one.1))
-    (λ other. ⊎_elim (λ two. two.0 ∙ ap format_word (some_same _ _ two.1)) (λ none. nothing version none) (by_word word (codes "format2") _ _ version other))
+    (λ other. ⊎_elim (λ two. two.0 ∙ ap format_word (some_same _ _ two.1)) (λ none. nothing version none)
+    (by_word word (codes "format2") _ _ version other))
     (by_word word (codes "format") _ _ version e)
 
 module _ (draws : Version → ValueParser) (takes : (version : Version) → TakesDraws (draws version)) where
-  single : (word : Text) (request : Request) → on_word word (codes "run") (Some Run) (on_word word (codes "session") (Some Session) (on_word word (codes "check") (Some Check) (on_word word (codes "scrub") (Some Scrub) (on_word word (codes "wipe") (Some Wipe) (on_word word (codes "upgrade") (Some Upgrade)
+  single : (word : Text) (request : Request)
+      → on_word word (codes "run") (Some Run)
+      (on_word word (codes "session") (Some Session)
+      (on_word word (codes "check") (Some Check)
+      (on_word word (codes "scrub") (Some Scrub)
+      (on_word word (codes "wipe") (Some Wipe) (on_word word (codes "upgrade") (Some Upgrade)
       (on_word word (codes "dump") (Some Dump) (on_word word (codes "load") (Some Load) None))))))) ≡ Some request
       → IsTaken draws (word ∷ [])
   single word request e =
-      let taken = λ (name : Text) (is : word ≡ name) (so : IsTaken draws (name ∷ [])). subst (λ w. IsTaken draws (w ∷ [])) (sym is) so in
+      let taken = λ (name : Text) (is : word ≡ name) (so : IsTaken draws (name ∷ [])).
+      subst (λ w. IsTaken draws (w ∷ [])) (sym is) so in
       ⊎_elim (λ run. taken (codes "run") run.0 (run_taken draws))
       (λ not_run. ⊎_elim (λ session. taken (codes "session") session.0 (session_taken draws))
       (λ not_session. ⊎_elim (λ check. taken (codes "check") check.0 (check_taken draws))
@@ -70,15 +83,22 @@ module _ (draws : Version → ValueParser) (takes : (version : Version) → Take
       (by_word word (codes "session") _ _ request not_run))
       (by_word word (codes "run") _ _ request e)
 
-  big : (number count : Text) (request : Request) → (number_of number >>= λ n. number_in 1 commands_limit count >>= λ k. Some (Big n k)) ≡ Some request → IsTaken draws (codes "big" ∷ number ∷ count ∷ [])
+  big : (number count : Text) (request : Request)
+      → (number_of number >>= λ n. number_in 1 commands_limit count >>= λ k. Some (Big n k)) ≡ Some request
+      → IsTaken draws (codes "big" ∷ number ∷ count ∷ [])
   big number count request e =
       let first = comes (number_of number) _ request e in
       let second = comes (number_in 1 commands_limit count) _ request first.then in
-      big_taken draws number count (number_plain number first.value first.there) (range_plain 1 commands_limit second.value count second.there)
-      (number_passes number 0 number_limit first.value first.there (le-leb 0 first.value (omega arith)) (number_limited number first.value first.there)) (range_passes 1 commands_limit second.value count second.there)
+      big_taken draws number count (number_plain number first.value first.there)
+      (range_plain 1 commands_limit second.value count second.there)
+      (number_passes number 0 number_limit first.value first.there (le-leb 0 first.value (omega arith))
+      (number_limited number first.value first.there))
+      (range_passes 1 commands_limit second.value count second.there)
 
   format : (version : Version) (slots height draw seed : Text) (request : Request)
-      → (number_in 1 slots_limit slots >>= λ n. number_in 1 height_limit height >>= λ h. kind_of_word draw >>= λ k. seed_of_word seed >>= λ s. Some (Format (record { slots = n; height = h; kind = k; seed = s; version = version }))) ≡ Some request
+      → (number_in 1 slots_limit slots >>= λ n. number_in 1 height_limit height >>= λ h. kind_of_word draw >>=
+      λ k. seed_of_word seed >>=
+      λ s. Some (Format (record { slots = n; height = h; kind = k; seed = s; version = version }))) ≡ Some request
       → IsTaken draws (format_word version ∷ slots ∷ height ∷ draw ∷ seed ∷ [])
   format version slots height draw seed request e =
       let first = comes (number_in 1 slots_limit slots) _ request e in
@@ -86,8 +106,12 @@ module _ (draws : Version → ValueParser) (takes : (version : Version) → Take
       let third = comes (kind_of_word draw) _ request second.then in
       let fourth = comes (seed_of_word seed) _ request third.then in
       let named = draw_names draw third.value third.there in
-      format_taken draws version slots height draw seed (range_plain 1 slots_limit first.value slots first.there) (range_plain 1 height_limit second.value height second.there) (draw_plain draw named) (seed_plain seed fourth.value fourth.there)
-      (range_passes 1 slots_limit first.value slots first.there) (range_passes 1 height_limit second.value height second.there) (draw_passes (draws version) draw (takes version) named)
+      format_taken draws version slots height draw seed (range_plain 1 slots_limit first.value slots first.there)
+      (range_plain 1 height_limit second.value height second.there) (draw_plain draw named)
+      (seed_plain seed fourth.value fourth.there)
+      (range_passes 1 slots_limit first.value slots first.there)
+      (range_passes 1 height_limit second.value height second.there)
+      (draw_passes (draws version) draw (takes version) named)
 
   pub request_taken : (line : List Text) (request : Request) → request_of line ≡ Some request → IsTaken draws line
   unfolding request_of
@@ -95,15 +119,18 @@ module _ (draws : Version → ValueParser) (takes : (version : Version) → Take
   request_taken (w ∷ []) request e = single w request e
   request_taken (w ∷ a ∷ []) request e = nothing request e
   request_taken (w ∷ a ∷ b ∷ []) request e =
-      ⊎_elim (λ found. subst (λ (word : Text). IsTaken draws (word ∷ a ∷ b ∷ [])) (sym found.0) (big a b request found.1)) (λ none. nothing request none) (by_word w (codes "big") _ _ request e)
+      ⊎_elim (λ found. subst (λ (word : Text). IsTaken draws (word ∷ a ∷ b ∷ [])) (sym found.0)
+      (big a b request found.1)) (λ none. nothing request none) (by_word w (codes "big") _ _ request e)
   request_taken (w ∷ a ∷ b ∷ c ∷ []) request e = nothing request e
   request_taken (w ∷ a ∷ b ∷ c ∷ d ∷ []) request e =
       let version = comes (version_of_word w) _ request e in
-      subst (λ (word : Text). IsTaken draws (word ∷ a ∷ b ∷ c ∷ d ∷ [])) (sym (word_of_version w version.value version.there)) (format version.value a b c d request version.then)
+      subst (λ (word : Text). IsTaken draws (word ∷ a ∷ b ∷ c ∷ d ∷ []))
+      (sym (word_of_version w version.value version.there)) (format version.value a b c d request version.then)
   request_taken (w ∷ a ∷ b ∷ c ∷ d ∷ x ∷ rest) request e = nothing request e
 
 -- What `clap` answers to a line that asks for something.
-module _ (app : App) (line : List Text) (is_line : IsLine app) (request : Request) (asks : request_of line ≡ Some request) where
+module _ (app : App) (line : List Text) (is_line : IsLine app) (request : Request)
+    (asks : request_of line ≡ Some request) where
   taken : IsTaken is_line.draws line
   taken = request_taken is_line.draws is_line.takes_draws line request asks
 
@@ -118,8 +145,10 @@ module _ (app : App) (line : List Text) (is_line : IsLine app) (request : Reques
       subst (HoldsLine line) (sym (found.1 ∙ ap (λ a. subcommand_of a line) is_line.line_is)) taken.held
 
 -- what was asked of matches, where clap took the line
-pub asked_of : (app : App) (line : List Text) → IsLine app → (m : ArgMatches) → HasMatchesOf app line m → (asked : Option Request)
-    → IfSome asked (λ request. request_of line ≡ Some request) → (HoldsLine line (subcommand_rows_of m) → asked ≡ request_of line) → asked ≡ request_of line
+pub asked_of : (app : App) (line : List Text) → IsLine app → (m : ArgMatches) → HasMatchesOf app line m
+    → (asked : Option Request)
+    → IfSome asked (λ request. request_of line ≡ Some request)
+    → (HoldsLine line (subcommand_rows_of m) → asked ≡ request_of line) → asked ≡ request_of line
 asked_of app line is_line m matches (Some request) right whole = sym right
 asked_of app line is_line m matches None right whole = go (request_of line) refl
   where

@@ -8,4 +8,5 @@ use Rattle.command_line.specs.declared.line.Subcommand.{Subcommand}
 -- the line after has these subcommands behind those of the line before, one after another
 abbrev pub AddsSubcommands : List Subcommand → App → App → Type 0
 AddsSubcommands [] before after = after ≡ before
-AddsSubcommands (subcommand ∷ rest) before after = (command : Command) × IsSubcommandOf subcommand command × AddsSubcommands rest (with_subcommand before (app_of command).top) after
+AddsSubcommands (subcommand ∷ rest) before after = (command : Command) × IsSubcommandOf subcommand command
+    × AddsSubcommands rest (with_subcommand before (app_of command).top) after

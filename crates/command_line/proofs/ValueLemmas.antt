@@ -1,5 +1,7 @@
 -- What `clap` asks of the values of a well-formed line holds of them.
-use Rattle.std.proofs.Common.{◌≡◌, ◌∙◌, ℕ, ◌+◌, ◌-◌, ◌*◌, ◌%◌, ◌^◌, ◌≤◌, Bool, true, false, cond, ◌==◌, ◌&&◌, List, [], ◌∷◌, length, Option, Some, None, Err, nat_le, nat_lt, refl, ap, arith, codes, subst, ⊎_elim, inl, inr, ◌⊎◌}
+use Rattle.std.proofs.Common.{◌≡◌, ◌∙◌, ℕ, ◌+◌, ◌-◌, ◌*◌, ◌%◌, ◌^◌, ◌≤◌, Bool, true, false, cond, ◌==◌, ◌&&◌, List, []}
+use Rattle.std.proofs.Common.{◌∷◌, length, Option, Some, None, Err, nat_le, nat_lt, refl, ap, arith, codes, subst}
+use Rattle.std.proofs.Common.{⊎_elim, inl, inr, ◌⊎◌}
 use Rattle.std.specs.List.{fold, list_all, list_any}
 use Rattle.std.specs.Char.{digit_value}
 use Rattle.std.specs.Str.{bytes_eq}
@@ -43,13 +45,15 @@ digit_is c h =
 digit_small : (c : ℕ) → is_digit c ≡ true → nat_lt (digit_value c) 10 ≡ true
 digit_small c h = let range = digit_range c h in rw (digit_is c h) (lt-ltb _ _ (omega (arith, range.0, range.1)))
 
-value_after : (digits : List ℕ) (n : ℕ) → list_all is_digit digits ≡ true → digits_value_after 10 n digits ≡ fold (λ m c. 10 * m + (c - 48)) n digits
+value_after : (digits : List ℕ) (n : ℕ) → list_all is_digit digits ≡ true
+    → digits_value_after 10 n digits ≡ fold (λ m c. 10 * m + (c - 48)) n digits
 value_after [] n h = refl
 value_after (c ∷ digits) n h =
     let same : n * 10 + digit_value c ≡ 10 * n + (c - 48) = rw (digit_is c (first_true _ _ h)) (omega arith) in
     ap (λ m. digits_value_after 10 m digits) same ∙ value_after digits (10 * n + (c - 48)) (second_true _ _ h)
 
-digits_small : (digits : List ℕ) → list_all is_digit digits ≡ true → list_all (λ d. nat_lt (digit_value d) 10) digits ≡ true
+digits_small : (digits : List ℕ) → list_all is_digit digits ≡ true
+    → list_all (λ d. nat_lt (digit_value d) 10) digits ≡ true
 digits_small [] h = refl
 digits_small (c ∷ digits) h = all_true _ _ (digit_small c (first_true _ _ h)) (digits_small digits (second_true _ _ h))
 
@@ -80,7 +84,8 @@ numeral_digits (c ∷ d ∷ digits) h = from_digit c (d ∷ digits) (second_true
 
 -- ---- numbers
 
-number_is : (text : Text) (n : ℕ) → number_of text ≡ Some n → (is_numeral text ≡ true) × (digits_value text ≡ n) × (n ≤ number_limit)
+number_is : (text : Text) (n : ℕ) → number_of text ≡ Some n
+    → (is_numeral text ≡ true) × (digits_value text ≡ n) × (n ≤ number_limit)
 unfolding number_of
 number_is text n e =
     let found = some_if _ _ _ e in
@@ -93,33 +98,44 @@ pub number_limited : (text : Text) (n : ℕ) → number_of text ≡ Some n → n
 number_limited text n e = le-leb _ _ (number_is text n e).2
 
 -- a number in the range passes
-pub number_passes : (text : Text) (low high n : ℕ) → number_of text ≡ Some n → nat_le low n ≡ true → nat_le n high ≡ true → Passes (parsers.Unsigned low high) text
+pub number_passes : (text : Text) (low high n : ℕ) → number_of text ≡ Some n → nat_le low n ≡ true
+    → nat_le n high ≡ true → Passes (parsers.Unsigned low high) text
 unfolding digits_value
 number_passes text low high n e from to =
     let found = number_is text n e in
     let digits = numeral_digits text found.0 in
     let n_is : digits_value_after 10 0 text ≡ n = value_after text 0 digits.all ∙ found.1 in
     let limit = found.2 in
-    ap (λ (t : Text). tests.is_numeral t && (nat_lt (digits_value_after 10 0 t) (2 ^ 64) && (nat_le low (digits_value_after 10 0 t) && nat_le (digits_value_after 10 0 t) high))) digits.no_plus
+    ap (λ (t : Text). tests.is_numeral t
+    && (nat_lt (digits_value_after 10 0 t) (2 ^ 64)
+    && (nat_le low (digits_value_after 10 0 t) && nat_le (digits_value_after 10 0 t) high))) digits.no_plus
     ∙ all_true _ _ (all_true _ _ digits.some (digits_small text digits.all))
-    (ap (λ m. nat_lt m (2 ^ 64) && (nat_le low m && nat_le m high)) n_is ∙ all_true _ _ (lt-ltb n (2 ^ 64) (omega (arith, limit))) (all_true _ _ from to))
+    (ap (λ m. nat_lt m (2 ^ 64) && (nat_le low m && nat_le m high)) n_is
+    ∙ all_true _ _ (lt-ltb n (2 ^ 64) (omega (arith, limit))) (all_true _ _ from to))
 
 -- the number of a word that spells one in the range
-pub in_range : (low high n : ℕ) (text : Text) → number_in low high text ≡ Some n → (number_of text ≡ Some n) × (nat_le low n ≡ true) × (nat_le n high ≡ true)
+pub in_range : (low high n : ℕ) (text : Text) → number_in low high text ≡ Some n
+    → (number_of text ≡ Some n) × (nat_le low n ≡ true) × (nat_le n high ≡ true)
 unfolding number_in
 in_range low high n text e = go (number_of text) e
   where
-    go : (o : Option ℕ) → (o >>= λ m. cond (nat_le low m && nat_le m high) (Some m) None) ≡ Some n → (o ≡ Some n) × (nat_le low n ≡ true) × (nat_le n high ≡ true)
+    go : (o : Option ℕ) → (o >>= λ m. cond (nat_le low m && nat_le m high) (Some m) None) ≡ Some n
+        → (o ≡ Some n) × (nat_le low n ≡ true) × (nat_le n high ≡ true)
     go None h = absurd (cc)
     go (Some m) h =
-        let found = some_if _ _ _ h in
-        (ap Some found.1, subst (λ k. nat_le low k ≡ true) found.1 (first_true _ _ found.0), subst (λ k. nat_le k high ≡ true) found.1 (second_true _ _ found.0))
+        let found = some_if _ _ _ h in (
+          ap Some found.1,
+          subst (λ k. nat_le low k ≡ true) found.1 (first_true _ _ found.0),
+          subst (λ k. nat_le k high ≡ true) found.1 (second_true _ _ found.0),
+        )
 
 pub range_plain : (low high n : ℕ) (text : Text) → number_in low high text ≡ Some n → is_plain text ≡ true
 range_plain low high n text e = number_plain text n (in_range low high n text e).0
 
-pub range_passes : (low high n : ℕ) (text : Text) → number_in low high text ≡ Some n → Passes (parsers.Unsigned low high) text
-range_passes low high n text e = let found = in_range low high n text e in number_passes text low high n found.0 found.1 found.2
+pub range_passes : (low high n : ℕ) (text : Text) → number_in low high text ≡ Some n
+    → Passes (parsers.Unsigned low high) text
+range_passes low high n text e = let found = in_range low high n text e
+    in number_passes text low high n found.0 found.1 found.2
 
 -- ---- seeds
 
@@ -127,7 +143,8 @@ no_hyphen_seed : (digits : List ℕ) → seed_of_word (45 ∷ digits) ≡ None
 unfolding seed_of_word decode_pairs
 no_hyphen_seed digits = go (length (45 ∷ digits) == 2 * seed_len) (length (45 ∷ digits) % 2 == 1) digits
   where
-    go : (sized odd : Bool) (digits : List ℕ) → cond sized (ok_value (cond odd (Err OddLength) (decode_pairs 0 (45 ∷ digits)))) None ≡ None
+    go : (sized odd : Bool) (digits : List ℕ)
+        → cond sized (ok_value (cond odd (Err OddLength) (decode_pairs 0 (45 ∷ digits)))) None ≡ None
     go false odd digits = refl
     go true true digits = refl
     go true false [] = refl
@@ -136,28 +153,35 @@ no_hyphen_seed digits = go (length (45 ∷ digits) == 2 * seed_len) (length (45 
 pub seed_plain : (text seed : List ℕ) → seed_of_word text ≡ Some seed → is_plain text ≡ true
 seed_plain [] seed e = refl
 seed_plain (c ∷ digits) seed e =
-    ⊎_elim (λ yes. let none = no_hyphen_seed digits in let is = eqb-true c 45 yes in absurd (cc)) (λ no. rw no refl) (cases_Bool (c == 45))
+    ⊎_elim (λ yes. let none = no_hyphen_seed digits in let is = eqb-true c 45 yes in absurd (cc))
+    (λ no. rw no refl) (cases_Bool (c == 45))
 
 -- ---- draws
 
-no_draw : (text : Text) → same_bytes text (codes "ruler") ≡ false → same_bytes text (codes "sha256") ≡ false → kind_of_word text ≡ None
+no_draw : (text : Text) → same_bytes text (codes "ruler") ≡ false → same_bytes text (codes "sha256") ≡ false
+    → kind_of_word text ≡ None
 unfolding kind_of_word
 no_draw text ruler sha = rw (ruler, sha) refl
 
 -- a word that names a draw passes, and is no flag
-pub draw_names : (text : Text) (kind : DrawKind) → kind_of_word text ≡ Some kind → (text ≡ codes "ruler") ⊎ (text ≡ codes "sha256")
+pub draw_names : (text : Text) (kind : DrawKind) → kind_of_word text ≡ Some kind
+    → (text ≡ codes "ruler") ⊎ (text ≡ codes "sha256")
 unfolding kind_of_word
 draw_names text kind e =
     ⊎_elim (λ yes. inl ((bytes_decides text (codes "ruler")).0 yes))
-    (λ no. ⊎_elim (λ yes. inr ((bytes_decides text (codes "sha256")).0 yes)) (λ other. let none = no_draw text no other in absurd (cc)) (cases_Bool (same_bytes text (codes "sha256"))))
+    (λ no. ⊎_elim (λ yes. inr ((bytes_decides text (codes "sha256")).0 yes))
+    (λ other. let none = no_draw text no other in absurd (cc)) (cases_Bool (same_bytes text (codes "sha256"))))
     (cases_Bool (same_bytes text (codes "ruler")))
 
 pub draw_plain : (text : Text) → (text ≡ codes "ruler") ⊎ (text ≡ codes "sha256") → is_plain text ≡ true
 draw_plain text names = ⊎_elim (λ e. ap is_plain e) (λ e. ap is_plain e) names
 
-pub draw_passes : (draws : ValueParser) (text : Text) → TakesDraws draws → (text ≡ codes "ruler") ⊎ (text ≡ codes "sha256") → Passes draws text
+pub draw_passes : (draws : ValueParser) (text : Text) → TakesDraws draws
+    → (text ≡ codes "ruler") ⊎ (text ≡ codes "sha256") → Passes draws text
 draw_passes draws text takes names =
     let parser = ap (λ parser. accepts false parser text) takes.parser_is in
     let listed = list_any-map (λ (name : Text). bytes_eq name text) (λ (name : Bor Text). name.now) takes.names.now in
     let here = ap (list_any (λ (name : Text). bytes_eq name text)) takes.names_are in
-    parser ∙ listed ∙ here ∙ ⊎_elim (λ e. ap (λ t. list_any (λ (name : Text). bytes_eq name t) (codes "ruler" ∷ codes "sha256" ∷ [])) e) (λ e. ap (λ t. list_any (λ (name : Text). bytes_eq name t) (codes "ruler" ∷ codes "sha256" ∷ [])) e) names
+    parser ∙ listed ∙ here
+    ∙ ⊎_elim (λ e. ap (λ t. list_any (λ (name : Text). bytes_eq name t) (codes "ruler" ∷ codes "sha256" ∷ [])) e)
+    (λ e. ap (λ t. list_any (λ (name : Text). bytes_eq name t) (codes "ruler" ∷ codes "sha256" ∷ [])) e) names

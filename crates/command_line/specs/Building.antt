@@ -24,7 +24,8 @@ pub record AddsArguments (arguments : List Argument) (before after : Command) : 
 
 -- the command is a subcommand of this name with these arguments
 pub record IsBuilt (name : Text) (arguments : List Argument) (command : Command) : Type 0 where
-  pub subcommand_is : app_of command ≡ with_rules (record { top = without_help name []; subs = [] }) (map rule_told arguments)
+  pub subcommand_is : app_of command ≡ with_rules (record { top = without_help name []; subs = [] })
+      (map rule_told arguments)
   pub local : (out-Command command).has_globals ≡ false
 
 -- the line after has this subcommand behind those of the line before

@@ -32,23 +32,31 @@ format_word Two = codes "format2"
 -- the subcommand that makes them, where its DRAW passes this parser
 abbrev pub format_subcommand : Version → ValueParser → Shape
 format_subcommand version draws = without_help (format_word version)
-    (argument (codes "SLOTS") (parsers.Unsigned 1 slots_limit) ∷ argument (codes "HEIGHT") (parsers.Unsigned 1 height_limit)
+    (argument (codes "SLOTS") (parsers.Unsigned 1 slots_limit)
+    ∷ argument (codes "HEIGHT") (parsers.Unsigned 1 height_limit)
     ∷ argument (codes "DRAW") draws ∷ argument (codes "SEED") parsers.String ∷ [])
 
 abbrev pub big_subcommand : Shape
-big_subcommand = without_help (codes "big") (argument (codes "NUMBER") (parsers.Unsigned 0 number_limit) ∷ argument (codes "COUNT") (parsers.Unsigned 1 commands_limit) ∷ [])
+big_subcommand = without_help (codes "big")
+    (argument (codes "NUMBER") (parsers.Unsigned 0 number_limit)
+    ∷ argument (codes "COUNT") (parsers.Unsigned 1 commands_limit) ∷ [])
 
 -- the subcommands, by the parser of each DRAW
 abbrev pub subcommands_of : (Version → ValueParser) → List Shape
 subcommands_of draws =
-    format_subcommand One (draws One) ∷ format_subcommand Two (draws Two) ∷ without_help (codes "run") [] ∷ without_help (codes "session") [] ∷ without_help (codes "check") []
+    format_subcommand One (draws One) ∷ format_subcommand Two (draws Two) ∷ without_help (codes "run") []
+    ∷ without_help (codes "session") [] ∷ without_help (codes "check") []
     ∷ without_help (codes "scrub") [] ∷ without_help (codes "wipe") [] ∷ without_help (codes "upgrade") []
     ∷ without_help (codes "dump") [] ∷ without_help (codes "load") [] ∷ big_subcommand ∷ []
 
 -- the command line with no subcommands: one is required, and the program's name is not among them
 abbrev pub without_subcommands : App
 without_subcommands = record {
-  top = record (without_help (codes "hstore") []) { no_binary_name = true; disable_help_subcommand = true; subcommand_required = true };
+  top = record (without_help (codes "hstore") []) {
+    no_binary_name = true;
+    disable_help_subcommand = true;
+    subcommand_required = true;
+  };
   subs = [];
 }
 
@@ -104,7 +112,8 @@ arguments_of name =
     else if bytes_eq name (codes "big") then codes "NUMBER" ∷ codes "COUNT" ∷ []
     else []
 
--- The line is what the matches have: the name of a subcommand, and in its turn the value of each of the arguments of it.
+-- The line is what the matches have: the name of a subcommand, and in its turn the value of each of the arguments of
+-- it.
 pub record HoldsLine (line : List Text) (found : Option (Text × List Row)) : Type 0 where
   pub subcommand : Text
   pub values : List Text

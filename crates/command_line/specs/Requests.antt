@@ -40,7 +40,8 @@ IsInRange (own_requests.Big number count) = (1 ≤ count) × (count ≤ commands
 
 -- the words of a line that was read
 abbrev pub words_read : LineRead → List Text
-words_read (lines.Format version slots height draw seed) = format_word version ∷ slots.now ∷ height.now ∷ draw.now ∷ seed.now ∷ []
+words_read (lines.Format version slots height draw seed) =
+    format_word version ∷ slots.now ∷ height.now ∷ draw.now ∷ seed.now ∷ []
 words_read (lines.Big number count) = codes "big" ∷ number.now ∷ count.now ∷ []
 words_read (lines.Single name) = name.now ∷ []
 

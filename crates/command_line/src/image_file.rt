@@ -81,7 +81,8 @@ impl Request {
 /// `NoMemory`: it was not found out.
 pub fn wanted_file(words: &Words) -> Result<FileRequest, NoMemory>
     ensures wanted { IfOk result (λ file. file.wanted ≡ wanted_of (request_of words.now)) }
-    ensures access { IfOk result (λ file. (file.access ≡ Access.Reading) ↔ (request_of words.now ≡ Some Check)) }
+    ensures access { IfOk result (λ file. (file.access ≡ Access.Reading)
+        ↔ (request_of words.now ≡ Some Check)) }
 {
     let Some(request) = words.request()? else {
         return Ok(FileRequest {

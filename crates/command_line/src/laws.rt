@@ -11,6 +11,9 @@ ghost use Rattle.command_line.specs.Line.{HoldsLine, IsLine};
 /// `clap` takes each line that asks for something, and its matches have just that subcommand and those values. So where
 /// `clap` refuses a line, it asks for nothing.
 pub fn lines_are_taken()
-    ensures taken { (app : App) (line : List Text) (request : Request) → IsLine app → request_of line ≡ Some request → takes app line ≡ true }
-    ensures held { (app : App) (line : List Text) (request : Request) → IsLine app → request_of line ≡ Some request → (matches : ArgMatches) → HasMatchesOf app line matches → HoldsLine line (subcommand_rows_of matches) }
+    ensures taken { (app : App) (line : List Text) (request : Request) → IsLine app
+        → request_of line ≡ Some request → takes app line ≡ true }
+    ensures held { (app : App) (line : List Text) (request : Request) → IsLine app
+        → request_of line ≡ Some request → (matches : ArgMatches) → HasMatchesOf app line matches
+        → HoldsLine line (subcommand_rows_of matches) }
 {}

@@ -27,7 +27,8 @@ pub(crate) enum LineRead<'a> {
 
 /// The value of an argument.
 fn value<'a>(given: &ArgMatches<'a>, name: &str) -> Option<&'a str>
-    ensures { option_map (λ text. text.now) result ≡ first_of name.now (rows_of (found_of given.now)) }
+    ensures { option_map (λ text. text.now) result
+        ≡ first_of name.now (rows_of (found_of given.now)) }
 {
     given.get_str(name)
 }
@@ -35,7 +36,8 @@ fn value<'a>(given: &ArgMatches<'a>, name: &str) -> Option<&'a str>
 impl<'a> LineRead<'a> {
     /// The line that the matches hold.
     pub(crate) fn of(matches: &ArgMatches<'a>) -> Option<LineRead<'a>>
-        ensures { (line : List (List ℕ)) → HoldsLine line (subcommand_rows_of matches.now) → option_map words_read result ≡ Some line }
+        ensures { (line : List (List ℕ)) → HoldsLine line (subcommand_rows_of matches.now)
+            → option_map words_read result ≡ Some line }
     {
         let (name, given) = matches.subcommand()?;
         match name {
@@ -48,7 +50,9 @@ impl<'a> LineRead<'a> {
 
     /// The line of a `format` or `format2` with these values.
     fn of_format(version: Version, given: &ArgMatches<'a>) -> Option<LineRead<'a>>
-        ensures { (values : List (List ℕ)) → map (λ name. first_of name (rows_of (found_of given.now))) format_arguments ≡ map Some values
+        ensures { (values : List (List ℕ))
+            → map (λ name. first_of name (rows_of (found_of given.now))) format_arguments
+            ≡ map Some values
             → option_map words_read result ≡ Some (format_word version ∷ values) }
     {
         let slots = value(given, "SLOTS")?;
@@ -60,7 +64,9 @@ impl<'a> LineRead<'a> {
 
     /// The line of a `big` with these values.
     fn of_big(given: &ArgMatches<'a>) -> Option<LineRead<'a>>
-        ensures { (values : List (List ℕ)) → map (λ name. first_of name (rows_of (found_of given.now))) (arguments_of (codes "big")) ≡ map Some values
+        ensures { (values : List (List ℕ))
+            → map (λ name. first_of name (rows_of (found_of given.now)))
+            (arguments_of (codes "big")) ≡ map Some values
             → option_map words_read result ≡ Some (codes "big" ∷ values) }
     {
         let number = value(given, "NUMBER")?;

@@ -65,7 +65,8 @@ pub(crate) fn format_request(
     draw: &str,
     seed: &str,
 ) -> Option<Request>
-    ensures value { option_map request_seen result ≡ request_of (format_word version ∷ slots.now ∷ height.now ∷ draw.now ∷ seed.now ∷ []) }
+    ensures value { option_map request_seen result
+        ≡ request_of (format_word version ∷ slots.now ∷ height.now ∷ draw.now ∷ seed.now ∷ []) }
     ensures valid { IfSome result IsInRange }
 {
     Some(Request::Format(params_of_values(version, slots, height, draw, seed)?))
@@ -79,7 +80,8 @@ fn params_of_values(
     draw: &str,
     seed: &str,
 ) -> Option<Params>
-    ensures value { option_map Format result ≡ request_of (format_word version ∷ slots.now ∷ height.now ∷ draw.now ∷ seed.now ∷ []) }
+    ensures value { option_map Format result
+        ≡ request_of (format_word version ∷ slots.now ∷ height.now ∷ draw.now ∷ seed.now ∷ []) }
     ensures valid { IfSome result IsParameters }
 {
     let slots = parse_number(slots.as_bytes())?;
@@ -111,7 +113,8 @@ fn seed_of(word: &str) -> Option<[u8; 32]>
 
 /// What `big` asks for, by its arguments.
 pub(crate) fn big_request(number: &str, count: &str) -> Option<Request>
-    ensures value { option_map request_seen result ≡ request_of (codes "big" ∷ number.now ∷ count.now ∷ []) }
+    ensures value { option_map request_seen result
+        ≡ request_of (codes "big" ∷ number.now ∷ count.now ∷ []) }
     ensures valid { IfSome result IsInRange }
 {
     let number = parse_number(number.as_bytes())?;

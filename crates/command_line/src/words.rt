@@ -98,8 +98,10 @@ fn not_asked(why: ErrorKind) -> Result<Option<Request>, NoMemory>
 
 /// What the matches ask for, where they hold the words just as they stand.
 fn asked(words: &[String], matches: &ArgMatches<'_>) -> Option<Request>
-    ensures right { IfSome result (λ request. request_of (map string_bytes words.now) ≡ Some (request_seen request)) }
-    ensures whole { HoldsLine (map string_bytes words.now) (subcommand_rows_of matches.now) → option_map request_seen result ≡ request_of (map string_bytes words.now) }
+    ensures right { IfSome result (λ request. request_of (map string_bytes words.now)
+        ≡ Some (request_seen request)) }
+    ensures whole { HoldsLine (map string_bytes words.now) (subcommand_rows_of matches.now)
+        → option_map request_seen result ≡ request_of (map string_bytes words.now) }
     ensures valid { IfSome result IsInRange }
 {
     let line = LineRead::of(matches)?;

@@ -1,14 +1,17 @@
 -- Lemmas on the order of keys: of any two, of those of a subtree and of the places behind it.
-use Rattle.std.proofs.Common.{◌≡◌, ℕ, zero, suc, ◌<◌, arith, List, [], ◌∷◌, ◌++◌, length, drop, Bool, true, false, IsTrue, refl, sym, ap, ◌∙◌, Ordering, Less, Equal, Greater, nat_cmp}
+use Rattle.std.proofs.Common.{◌≡◌, ℕ, zero, suc, ◌<◌, arith, List, [], ◌∷◌, ◌++◌, length, drop, Bool, true, false}
+use Rattle.std.proofs.Common.{IsTrue, refl, sym, ap, ◌∙◌, Ordering, Less, Equal, Greater, nat_cmp}
 use Rattle.std.specs.Ordering.{is_le, eq_by_cmp, ordering_reverse, ordering_then}
 use Rattle.std.specs.Cmp.{tied_itself}
 use Rattle.std.specs.Cmp.Lexicographic.{nat_list_cmp_total}
 use Rattle.std.specs.FinMap.{slice_cmp-IsAntisymmetric, nat_cmp-IsAntisymmetric}
 use Rattle.std.proofs.lemmas.Bool.{both_ways, or_left}
-use Rattle.store_model.specs.Paths.{Path, is_root, is_path, is_place, path_cmp, same_path, is_inside, is_at_or_inside, key, key_cmp}
+use Rattle.store_model.specs.Paths.{Path, is_root, is_path, is_place, path_cmp, same_path, is_inside, is_at_or_inside}
+use Rattle.store_model.specs.Paths.{key, key_cmp}
 use Rattle.store_model.proofs.ListsLemmas.{nat_cmp-lt}
 use Rattle.store_model.proofs.PathsLemmas.{place_of_path, order_of_keys}
-use Rattle.store_model.proofs.TreesLemmasPaths.{same_path-itself, at_or_inside-append, at_or_inside-split, same_from_tie, tie_from_test}
+use Rattle.store_model.proofs.TreesLemmasPaths.{same_path-itself, at_or_inside-append, at_or_inside-split}
+use Rattle.store_model.proofs.TreesLemmasPaths.{same_from_tie, tie_from_test}
 use Rattle.path_keys.proofs.PastBytes.{past_bytes, past_written, subtree_before_past, past_before_later, past_not_above}
 use Rattle.dir_tree.specs.SubtreeCalls.{end_of, IsBeforeEnd}
 
@@ -87,28 +90,33 @@ pub at_itself : (x : Path) → is_at_or_inside x x ≡ true
 at_itself x = or_left (same_path x x) (is_inside x x) (same_path-itself x)
 
 -- the keys of a subtree stand before those of each path behind it
-pub subtree_before : (top x y : Path) (i j : ℕ) → IsTrue (is_path top) → IsTrue (is_path y) → is_at_or_inside x top ≡ true → is_at_or_inside y top ≡ false → path_cmp top y ≡ Less
+pub subtree_before : (top x y : Path) (i j : ℕ) → IsTrue (is_path top) → IsTrue (is_path y)
+    → is_at_or_inside x top ≡ true → is_at_or_inside y top ≡ false → path_cmp top y ≡ Less
     → key_cmp (key x i) (key y j) ≡ Less
 subtree_before top x y i j valid path inside outside behind = by_root (is_root top) refl
   where
     by_root : (b : Bool) → is_root top ≡ b → key_cmp (key x i) (key y j) ≡ Less
     by_root true e = absurd (both_ways _ outside (at_or_inside_root top y e))
-    by_root false e = nat_list_cmp_total.trans (key x i) (past_bytes top) (key y j) (subtree_before_past top x i e inside) (past_before_later top y j e valid path outside behind)
+    by_root false e = nat_list_cmp_total.trans (key x i) (past_bytes top) (key y j)
+        (subtree_before_past top x i e inside) (past_before_later top y j e valid path outside behind)
 
 -- the first key of a subtree is not above its others
 front_is_lowest : (top s : Path) → is_le (path_cmp top (top ++ s)) ≡ true
 front_is_lowest [] [] = refl
 front_is_lowest [] (n ∷ s) = refl
-front_is_lowest (n ∷ top) s = ap (λ o. is_le (ordering_then o (path_cmp top (top ++ s)))) (key_itself n) ∙ front_is_lowest top s
+front_is_lowest (n ∷ top) s = ap (λ o. is_le (ordering_then o (path_cmp top (top ++ s)))) (key_itself n)
+    ∙ front_is_lowest top s
 
 zero_is_lowest : (n : ℕ) → is_le (nat_cmp 0 n) ≡ true
 zero_is_lowest zero = refl
 zero_is_lowest (suc n) = ap is_le (nat_cmp-lt 0 (suc n) (omega arith))
 
-pub top_is_lowest : (top x : Path) (i : ℕ) → IsTrue (is_place top) → IsTrue (is_place x) → i < 4294967296 → is_at_or_inside x top ≡ true → is_le (key_cmp (key top 0) (key x i)) ≡ true
+pub top_is_lowest : (top x : Path) (i : ℕ) → IsTrue (is_place top) → IsTrue (is_place x) → i < 4294967296
+    → is_at_or_inside x top ≡ true → is_le (key_cmp (key top 0) (key x i)) ≡ true
 top_is_lowest top x i path valid l inside =
     ap is_le (order_of_keys top x 0 i path valid (omega arith) l)
-    ∙ both (path_cmp top x) (nat_cmp 0 i) (ap (λ y. is_le (path_cmp top y)) (at_or_inside-split x top inside) ∙ front_is_lowest top (drop (length top) x)) (zero_is_lowest i)
+    ∙ both (path_cmp top x) (nat_cmp 0 i) (ap (λ y. is_le (path_cmp top y)) (at_or_inside-split x top inside)
+    ∙ front_is_lowest top (drop (length top) x)) (zero_is_lowest i)
   where
     both : (a b : Ordering) → is_le a ≡ true → is_le b ≡ true → is_le (ordering_then a b) ≡ true
     both Less b h g = refl
@@ -120,12 +128,15 @@ pub le_at_first : (top : Path) (k : List ℕ) → k ≡ key top 0 → is_le (key
 le_at_first top k e = ap (λ q. is_le (key_cmp (key top 0) q)) e ∙ ap is_le (key_itself (key top 0))
 
 -- the keys of a place stand before those of a later one
-pub less_keys : (a b : Path) (i j : ℕ) → IsTrue (is_place a) → IsTrue (is_place b) → i < 4294967296 → j < 4294967296 → path_cmp a b ≡ Less → key_cmp (key a i) (key b j) ≡ Less
+pub less_keys : (a b : Path) (i j : ℕ) → IsTrue (is_place a) → IsTrue (is_place b) → i < 4294967296 → j < 4294967296
+    → path_cmp a b ≡ Less → key_cmp (key a i) (key b j) ≡ Less
 less_keys a b i j ha hb hi hj l = order_of_keys a b i j ha hb hi hj ∙ ap (λ o. ordering_then o (nat_cmp i j)) l
 
 -- and keys that tie are those of one place and number
-pub same_place : (a b : Path) (i j : ℕ) → IsTrue (is_place a) → IsTrue (is_place b) → i < 4294967296 → j < 4294967296 → key a i ≡ key b j → (a ≡ b) × (i ≡ j)
-same_place a b i j ha hb hi hj e = by_parts (path_cmp a b) (nat_cmp i j) refl refl (sym (order_of_keys a b i j ha hb hi hj) ∙ ap (key_cmp (key a i)) (sym e) ∙ key_itself (key a i))
+pub same_place : (a b : Path) (i j : ℕ) → IsTrue (is_place a) → IsTrue (is_place b) → i < 4294967296 → j < 4294967296
+    → key a i ≡ key b j → (a ≡ b) × (i ≡ j)
+same_place a b i j ha hb hi hj e = by_parts (path_cmp a b) (nat_cmp i j) refl refl
+    (sym (order_of_keys a b i j ha hb hi hj) ∙ ap (key_cmp (key a i)) (sym e) ∙ key_itself (key a i))
   where
     by_parts : (o r : Ordering) → path_cmp a b ≡ o → nat_cmp i j ≡ r → ordering_then o r ≡ Equal → (a ≡ b) × (i ≡ j)
     by_parts Less r f g h = cc
@@ -142,16 +153,24 @@ end_written top below = past_written top below
 
 -- the keys of places at a path or below it stand before its end
 pub before_end : (top x : Path) (i : ℕ) → is_at_or_inside x top ≡ true → IsBeforeEnd top (key x i)
-before_end top x i inside below = ap (key_cmp (key x i)) (end_written top below) ∙ subtree_before_past top x i below inside
+before_end top x i inside below = ap (key_cmp (key x i)) (end_written top below)
+    ∙ subtree_before_past top x i below inside
 
 -- and those are all keys of places from the path's first key on and before its end
-pub within_stretch : (top x : Path) (i : ℕ) → IsTrue (is_path top) → IsTrue (is_place x) → i < 4294967296 → is_le (key_cmp (key top 0) (key x i)) ≡ true → IsBeforeEnd top (key x i) → is_at_or_inside x top ≡ true
+pub within_stretch : (top x : Path) (i : ℕ) → IsTrue (is_path top) → IsTrue (is_place x) → i < 4294967296
+    → is_le (key_cmp (key top 0) (key x i)) ≡ true → IsBeforeEnd top (key x i) → is_at_or_inside x top ≡ true
 within_stretch top x i path place l low before = by_root (is_root top) refl
   where
     not_outside : is_root top ≡ false → is_at_or_inside x top ≡ false → (o : Ordering) → path_cmp top x ≡ o → ⊥
-    not_outside below outside Less e = below_and_le (key x i) (end_of top) (before below) (ap (λ k. is_le (key_cmp k (key x i))) (end_written top below) ∙ past_not_above top x i below path place outside e)
-    not_outside below outside Equal e = both_ways _ outside (ap (λ z. is_at_or_inside z top) (sym (same_from_tie top x e)) ∙ at_itself top)
-    not_outside below outside Greater e = both_ways _ (ap is_le (order_of_keys top x 0 i (place_of_path top path) place (omega arith) l ∙ ap (λ o. ordering_then o (nat_cmp 0 i)) e)) low
+    not_outside below outside Less e =
+        below_and_le (key x i) (end_of top) (before below)
+        (ap (λ k. is_le (key_cmp k (key x i))) (end_written top below)
+        ∙ past_not_above top x i below path place outside e)
+    not_outside below outside Equal e =
+        both_ways _ outside (ap (λ z. is_at_or_inside z top) (sym (same_from_tie top x e)) ∙ at_itself top)
+    not_outside below outside Greater e =
+        both_ways _ (ap is_le (order_of_keys top x 0 i (place_of_path top path) place (omega arith) l
+        ∙ ap (λ o. ordering_then o (nat_cmp 0 i)) e)) low
 
     by_test : is_root top ≡ false → (b : Bool) → is_at_or_inside x top ≡ b → is_at_or_inside x top ≡ true
     by_test below true e = e

@@ -12,13 +12,16 @@ use Rattle.ordered_pairs.specs.PairsState.{PairsState, IsObservable}
 use Rattle.tree_pairs.specs.TreeCalls.{HoldsTree, KeepsPairs}
 
 -- a call that says whether a command is refused, and why
-pub record TellsRefusal (command : Command) (old new : PairsState) (result : Result (Option Refusal) Fault) : Type 0 where
+pub record TellsRefusal (command : Command) (old new : PairsState)
+    (result : Result (Option Refusal) Fault) : Type 0 where
   pub faults : new.faults ≡ disk_faults_after old.faults result
   pub keeps : KeepsPairs old new
-  pub told : IsObservable old → (t : Tree) (p : Parameters) → HoldsTree old t p → IfOk result (λ refusal. refusal ≡ refusal_of t command)
+  pub told : IsObservable old → (t : Tree) (p : Parameters) → HoldsTree old t p
+      → IfOk result (λ refusal. refusal ≡ refusal_of t command)
 
 -- a call that says whether a directory has a child
 pub record TellsChild (path : Path) (old new : PairsState) (result : Result Bool Fault) : Type 0 where
   pub faults : new.faults ≡ disk_faults_after old.faults result
   pub keeps : KeepsPairs old new
-  pub told : IsObservable old → (t : Tree) (p : Parameters) → HoldsTree old t p → is_directory t path ≡ true → IfOk result (λ found. found ≡ has_child t path)
+  pub told : IsObservable old → (t : Tree) (p : Parameters) → HoldsTree old t p → is_directory t path ≡ true
+      → IfOk result (λ found. found ≡ has_child t path)

@@ -1,5 +1,6 @@
 -- What the inner calls on the pairs of a subtree do.
-use Rattle.std.specs.Prelude.{◌≡◌, ◌-◌, ℕ, true, false, cond, List, slice_set, Option, None, IsTrue, IsSome, MatchOption, Result, IfOk, OnOk}
+use Rattle.std.specs.Prelude.{◌≡◌, ◌-◌, ℕ, true, false, cond, List, slice_set, Option, None, IsTrue, IsSome}
+use Rattle.std.specs.Prelude.{MatchOption, Result, IfOk, OnOk}
 use Rattle.std.specs.Ordering.{is_le}
 use Rattle.std.specs.FinMap.{find}
 use Rattle.std.specs.declared.cmp.Ordering.TheVariants.{Less}
@@ -33,13 +34,16 @@ pub record IsFirstFrom (from : List ℕ) (top : Path) (s : List Pair) (k : List 
   pub there : IsSome (find key_cmp k s)
   pub behind : is_le (key_cmp from k) ≡ true
   pub before : IsBeforeEnd top k
-  pub first : (other : List ℕ) → is_le (key_cmp from other) ≡ true → key_cmp other k ≡ Less → find key_cmp other s ≡ None
+  pub first : (other : List ℕ) → is_le (key_cmp from other) ≡ true → key_cmp other k ≡ Less
+      → find key_cmp other s ≡ None
 
 -- a call that finds the first key from one on, where it stands before the end of the subtree
-pub record FindsKey (from : List ℕ) (top : Path) (old new : PairsState) (result : Result (Option (List ℕ)) Fault) : Type 0 where
+pub record FindsKey (from : List ℕ) (top : Path) (old new : PairsState)
+    (result : Result (Option (List ℕ)) Fault) : Type 0 where
   pub faults : new.faults ≡ disk_faults_after old.faults result
   pub keeps : KeepsPairs old new
-  pub found : IsObservable old → IfOk result (λ found. MatchOption found (LacksFrom from top old.pairs) (IsFirstFrom from top old.pairs))
+  pub found : IsObservable old
+      → IfOk result (λ found. MatchOption found (LacksFrom from top old.pairs) (IsFirstFrom from top old.pairs))
 
 -- the blocks without those of a subtree
 abbrev pub blocks_outside : Path → BlockMap → BlockMap
@@ -50,4 +54,5 @@ pub record TakesSubtree {T : Type 0} (top : Path) (old new : PairsState) (result
   pub faults : new.faults ≡ disk_faults_after old.faults result
   pub valid : IsTrue (is_path top)
   pub observable : IsObservable old → OnOk result (IsObservable new)
-  pub taken : IsObservable old → (blocks : BlockMap) → HasPathBlocks blocks old.pairs → OnOk result (HasPathBlocks (blocks_outside top blocks) new.pairs)
+  pub taken : IsObservable old → (blocks : BlockMap) → HasPathBlocks blocks old.pairs
+      → OnOk result (HasPathBlocks (blocks_outside top blocks) new.pairs)

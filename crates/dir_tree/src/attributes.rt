@@ -31,7 +31,8 @@ pub fn set_attr<P: OrderedPairs>(
     bytes: &Bytes,
 ) -> Result<Answer<()>, Fault>
     requires room { HasRoom (P.state pairs.old) }
-    ensures call { CarriesOut (λ _. Acknowledged) (SetAttribute path.now name.now bytes.now) (P.state pairs.old) (P.state pairs.new) result }
+    ensures call { CarriesOut (λ _. Acknowledged) (SetAttribute path.now name.now bytes.now)
+        (P.state pairs.old) (P.state pairs.new) result }
     ensures follows { P.follows pairs.old pairs.new }
 {
     if let Some(refusal) = refusal_to_find(pairs, path)? {
@@ -56,7 +57,8 @@ pub fn unset_attr<P: OrderedPairs>(
     path: &Path,
     name: &AttrName,
 ) -> Result<Answer<()>, Fault>
-    ensures call { CarriesOut (λ _. Acknowledged) (UnsetAttribute path.now name.now) (P.state pairs.old) (P.state pairs.new) result }
+    ensures call { CarriesOut (λ _. Acknowledged) (UnsetAttribute path.now name.now)
+        (P.state pairs.old) (P.state pairs.new) result }
     ensures follows { P.follows pairs.old pairs.new }
 {
     if let Some(refusal) = refusal_to_find(pairs, path)? {
@@ -80,7 +82,8 @@ pub fn attr<P: OrderedPairs>(
     path: &Path,
     name: &AttrName,
 ) -> Result<Answer<Bytes>, Fault>
-    ensures call { CarriesOut Content (GetAttribute path.now name.now) (P.state pairs.old) (P.state pairs.new) result }
+    ensures call { CarriesOut Content (GetAttribute path.now name.now) (P.state pairs.old)
+        (P.state pairs.new) result }
     ensures keeps { KeepsPairs (P.state pairs.old) (P.state pairs.new) }
     ensures follows { P.follows pairs.old pairs.new }
 {
@@ -106,7 +109,8 @@ pub fn attrs<P: OrderedPairs>(
     pairs: &mut P,
     path: &Path,
 ) -> Result<Answer<AttrEntries>, Fault>
-    ensures call { CarriesOut AttributeListing (ListAttributes path.now) (P.state pairs.old) (P.state pairs.new) result }
+    ensures call { CarriesOut AttributeListing (ListAttributes path.now) (P.state pairs.old)
+        (P.state pairs.new) result }
     ensures keeps { KeepsPairs (P.state pairs.old) (P.state pairs.new) }
     ensures follows { P.follows pairs.old pairs.new }
 {
@@ -118,7 +122,8 @@ pub fn attrs<P: OrderedPairs>(
 
 /// Why a path's attributes are not looked for, if that is refused: the path is the root, or nothing stands there.
 fn refusal_to_find<P: OrderedPairs>(pairs: &mut P, path: &Path) -> Result<Option<Refusal>, Fault>
-    ensures call { TellsRefusal (ListAttributes path.now) (P.state pairs.old) (P.state pairs.new) result }
+    ensures call { TellsRefusal (ListAttributes path.now) (P.state pairs.old)
+        (P.state pairs.new) result }
     ensures hidden { IsObservable (P.state pairs.new) → IsObservable (P.state pairs.old) }
     ensures follows { P.follows pairs.old pairs.new }
 {
@@ -147,7 +152,8 @@ fn set_pair(path: &Path, name: &AttrName, bytes: &[u8]) -> Answer<(Key, Value)>
 
 /// The bytes of the attribute that has this value; none where it is no attribute's.
 fn bytes_in(value: &Value) -> Bytes
-    ensures value { (bytes : List ℕ) → length bytes ≤ attribute_limit → value.now ≡ values.attribute_value bytes → result ≡ bytes }
+    ensures value { (bytes : List ℕ) → length bytes ≤ attribute_limit
+        → value.now ≡ values.attribute_value bytes → result ≡ bytes }
     ensures short { length result ≤ attribute_limit }
 {
     match attribute_in(value.as_slice()) {

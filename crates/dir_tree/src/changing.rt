@@ -20,7 +20,8 @@ use tree_pairs::{Kind, directory_value, kind_of};
 /// promised of the pairs after it.
 pub fn make<P: OrderedPairs>(pairs: &mut P, path: &Path) -> Result<Answer<()>, Fault>
     requires room { HasRoom (P.state pairs.old) }
-    ensures call { CarriesOut (λ _. Acknowledged) (Make path.now) (P.state pairs.old) (P.state pairs.new) result }
+    ensures call { CarriesOut (λ _. Acknowledged) (Make path.now) (P.state pairs.old)
+        (P.state pairs.new) result }
     ensures follows { P.follows pairs.old pairs.new }
 {
     if let Some(refusal) = refusal_to_make(pairs, path)? {
@@ -58,7 +59,8 @@ pub fn refusal_to_make<P: OrderedPairs>(
 /// directory with a child does. A refusal changes nothing. A fault of the pairs is handed on; nothing is promised of
 /// the pairs after it.
 pub fn remove<P: OrderedPairs>(pairs: &mut P, path: &Path) -> Result<Answer<()>, Fault>
-    ensures call { CarriesOut (λ _. Acknowledged) (Remove path.now) (P.state pairs.old) (P.state pairs.new) result }
+    ensures call { CarriesOut (λ _. Acknowledged) (Remove path.now) (P.state pairs.old)
+        (P.state pairs.new) result }
     ensures follows { P.follows pairs.old pairs.new }
 {
     if let Some(refusal) = refusal_to_remove(pairs, path)? {

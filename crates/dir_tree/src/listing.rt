@@ -22,7 +22,8 @@ pub fn list<P: OrderedPairs>(
     pairs: &mut P,
     path: &Path,
 ) -> Result<Answer<Entries>, Fault>
-    ensures call { CarriesOut Listing (ListChildren path.now) (P.state pairs.old) (P.state pairs.new) result }
+    ensures call { CarriesOut Listing (ListChildren path.now) (P.state pairs.old)
+        (P.state pairs.new) result }
     ensures keeps { KeepsPairs (P.state pairs.old) (P.state pairs.new) }
     ensures follows { P.follows pairs.old pairs.new }
 {

@@ -1,5 +1,7 @@
 -- The bytes that a record has pending, and how they are copied call by call, the newest first.
-use Rattle.std.proofs.Common.{◌≤◌, ◌-◌, take, drop, sym, ◌∙◌, ap, arith, length-take, length-drop, get_or-take, get_or-drop, ◌≡◌, ◌⊎◌, ℕ, ◌+◌, ◌<◌, List, [], ◌∷◌, length, slice_index, get_or, inl, inr, ⊎_elim}
+use Rattle.std.proofs.Common.{◌≤◌, ◌-◌, take, drop, sym, ◌∙◌, ap, arith, length-take, length-drop, get_or-take}
+use Rattle.std.proofs.Common.{get_or-drop, ◌≡◌, ◌⊎◌, ℕ, ◌+◌, ◌<◌, List, [], ◌∷◌, length, slice_index, get_or, inl, inr}
+use Rattle.std.proofs.Common.{⊎_elim}
 use Rattle.std.proofs.lemmas.Bool.{cases_lt}
 use Rattle.std.proofs.lemmas.List.{take_more, reverse-append, ext_get_or}
 use mathlib.Core.List.{reverse}
@@ -14,17 +16,21 @@ use Rattle.disk_model.specs.Record.{CopiesPending}
 pub record CopiesSoFar (all rest : List Call) (source old now : List ℕ) : Type 0 where
   pub size : length now ≡ length old
   pub part : (place : ℕ) → IsPending rest place → IsPending all place
-  pub copied : (place : ℕ) → place < length old → IsPending all place → IsPending rest place ⊎ (slice_index now place ≡ slice_index source place)
+  pub copied : (place : ℕ) → place < length old → IsPending all place
+      → IsPending rest place ⊎ (slice_index now place ≡ slice_index source place)
   pub kept : (place : ℕ) → ¬ IsPending all place → slice_index now place ≡ slice_index old place
 
 -- the newest of the calls that are left
-pub reverse-take : (calls : List Call) (left : ℕ) (call d : Call) → 0 < left → left ≤ length calls → get_or calls (left - 1) d ≡ call → reverse (take left calls) ≡ call ∷ reverse (take (left - 1) calls)
+pub reverse-take : (calls : List Call) (left : ℕ) (call d : Call) → 0 < left → left ≤ length calls
+    → get_or calls (left - 1) d ≡ call → reverse (take left calls) ≡ call ∷ reverse (take (left - 1) calls)
 reverse-take calls left call d some low is =
     let whole : left - 1 + 1 ≡ left = omega arith in
     ap (λ (n : ℕ). reverse (take n calls)) (sym whole) ∙ ap reverse (take_more calls (left - 1) d (omega arith))
-    ∙ reverse-append (take (left - 1) calls) (get_or calls (left - 1) d ∷ []) ∙ ap (λ (x : Call). x ∷ reverse (take (left - 1) calls)) is
+    ∙ reverse-append (take (left - 1) calls) (get_or calls (left - 1) d ∷ [])
+    ∙ ap (λ (x : Call). x ∷ reverse (take (left - 1) calls)) is
 
-module _ (all earlier : List Call) (at len : ℕ) (source old now : List ℕ) (alike : length source ≡ length old) (within : at + len ≤ length old) (so_far : CopiesSoFar all (Write at len ∷ earlier) source old now) where
+module _ (all earlier : List Call) (at len : ℕ) (source old now : List ℕ) (alike : length source ≡ length old)
+    (within : at + len ≤ length old) (so_far : CopiesSoFar all (Write at len ∷ earlier) source old now) where
   abbrev part_of : List ℕ
   part_of = take len (drop at source)
 
@@ -34,13 +40,16 @@ module _ (all earlier : List Call) (at len : ℕ) (source old now : List ℕ) (a
   fits : at + length part_of ≤ length now
   fits = omega (arith, length-part, so_far.size)
 
-  inside : (place : ℕ) → at ≤ place → place < at + len → slice_index (overwrite now at part_of) place ≡ slice_index source place
+  inside : (place : ℕ) → at ≤ place → place < at + len
+      → slice_index (overwrite now at part_of) place ≡ slice_index source place
   inside place low high =
       let there : at + (place - at) ≡ place = omega arith in
-      slice_index-overwrite now at part_of place fits low (omega (arith, length-part)) ∙ get_or-take len (drop at source) (place - at) 0 (omega arith)
+      slice_index-overwrite now at part_of place fits low (omega (arith, length-part))
+      ∙ get_or-take len (drop at source) (place - at) 0 (omega arith)
       ∙ get_or-drop at source (place - at) 0 ∙ ap (slice_index source) there
 
-  outside : (place : ℕ) → (place < at) ⊎ (at + len ≤ place) → slice_index (overwrite now at part_of) place ≡ slice_index now place
+  outside : (place : ℕ) → (place < at) ⊎ (at + len ≤ place)
+      → slice_index (overwrite now at part_of) place ≡ slice_index now place
   outside place (inl low) = (SameOutside-overwrite now at part_of fits).below place low
   outside place (inr high) = (SameOutside-overwrite now at part_of fits).above place (omega (arith, length-part))
 
@@ -85,7 +94,8 @@ pending_or_not (Write at len ∷ earlier) place = elim (pending_or_not earlier p
 ]
 
 -- what differs in pending bytes alone is made equal
-pub copied_all : (calls : List Call) (source old new : List ℕ) → IsCrashImage source calls old → CopiesPending calls source old new → new ≡ source
+pub copied_all : (calls : List Call) (source old new : List ℕ) → IsCrashImage source calls old
+    → CopiesPending calls source old new → new ≡ source
 copied_all calls source old new alike copies =
     ext_get_or 0 new source (copies.size ∙ alike.size) λ place low. elim (pending_or_not calls place) [
       | inl here ↦ copies.copied place (omega (arith, copies.size)) here

@@ -12,6 +12,13 @@ counted disk faults writes syncs = record disk {
 }
 
 -- its parts hang together as before; it stands here since a trait's law is proved by it
-pub counted_is_sound : (disk : DiskState) (faults writes syncs : ℕ) → IsSound disk → IsSound (counted disk faults writes syncs)
+pub counted_is_sound : (disk : DiskState) (faults writes syncs : ℕ) → IsSound disk
+    → IsSound (counted disk faults writes syncs)
 counted_is_sound disk faults writes syncs sound =
-    record { size = sound.size; read_image = sound.read_image; image_size = sound.image_size; includes_now = sound.includes_now; only_now = sound.only_now }
+    record {
+      size = sound.size;
+      read_image = sound.read_image;
+      image_size = sound.image_size;
+      includes_now = sound.includes_now;
+      only_now = sound.only_now;
+    }

@@ -1,5 +1,6 @@
 -- What one call of a disk does, and what several calls after one another may leave.
-use Rattle.std.specs.Prelude.{◌≡◌, ◌↔◌, ◌⊎◌, ℕ, ◌+◌, ◌^◌, ◌<◌, ◌≤◌, List, length, take, drop, slice_index, Result, OnOk, OnErr}
+use Rattle.std.specs.Prelude.{◌≡◌, ◌↔◌, ◌⊎◌, ℕ, ◌+◌, ◌^◌, ◌<◌, ◌≤◌, List, length, take, drop, slice_index, Result, OnOk}
+use Rattle.std.specs.Prelude.{OnErr}
 pub use Rattle.store_model.specs.Lists.{overwrite}
 pub use Rattle.store_base.specs.Counts.{raised_by, raised, Rose, faults_after}
 use Rattle.disk_model.specs.DiskState.{DiskState, IsObservable, IsDurable}
@@ -17,7 +18,8 @@ Torn at n images image = (whole : List ℕ) × images whole × SameOutside at n 
 -- Time goes on: the images since an earlier moment are those that there were at `old`, and those left since `old`.
 pub record Elapses (old new : DiskState) : Type 0 where
   pub later : old.clock ≤ new.clock
-  pub since : (t : ℕ) (image : List ℕ) → t ≤ old.clock → new.crash_images_since t image ↔ (old.crash_images_since t image ⊎ new.crash_images_since old.clock image)
+  pub since : (t : ℕ) (image : List ℕ) → t ≤ old.clock → new.crash_images_since t image
+      ↔ (old.crash_images_since t image ⊎ new.crash_images_since old.clock image)
 
 -- Each image that a crash at some moment from `old` to `new` might have left has P.
 pub record LeavesOnly (old new : DiskState) (P : List ℕ → Type 0) : Type 0 where
@@ -39,7 +41,8 @@ pub record IsCall {T E : Type 0} (old new : DiskState) (result : Result T E) : T
   pub last_sync : new.syncs < 2 ^ 64
 
 -- what a read into a buffer does to a disk that tells its bytes
-pub record ReadsBytes {T E : Type 0} (old new : DiskState) (at : ℕ) (buffer : List ℕ) (result : Result T E) : Type 0 where
+pub record ReadsBytes {T E : Type 0} (old new : DiskState) (at : ℕ) (buffer : List ℕ)
+    (result : Result T E) : Type 0 where
   pub time : Elapses old new
   pub read : OnOk result (buffer ≡ take (length buffer) (drop at old.bytes))
   pub bytes : new.bytes ≡ old.bytes
@@ -49,15 +52,18 @@ pub record ReadsBytes {T E : Type 0} (old new : DiskState) (at : ℕ) (buffer : 
   pub sync_count : new.syncs ≡ old.syncs
 
 -- what a write of these bytes does to a disk that tells its bytes
-pub record WritesBytes {T E : Type 0} (old new : DiskState) (at : ℕ) (bytes : List ℕ) (result : Result T E) : Type 0 where
+pub record WritesBytes {T E : Type 0} (old new : DiskState) (at : ℕ) (bytes : List ℕ)
+    (result : Result T E) : Type 0 where
   pub time : Elapses old new
   pub written : OnOk result (new.bytes ≡ overwrite old.bytes at bytes)
   pub outside : SameOutside at (length bytes) old.bytes new.bytes
-  -- until a sync succeeds a crash may leave any bytes in the range: after a failed write perhaps, after one that succeeded always
+  -- until a sync succeeds a crash may leave any bytes in the range: after a failed write perhaps, after one that
+  -- succeeded always
   pub during : (image : List ℕ) → new.crash_images_since old.clock image → Torn at (length bytes) old.crash_images image
   pub pending : OnOk result ((image : List ℕ) → Torn at (length bytes) old.crash_images image → new.crash_images image)
   -- what was pending outside the range still is
-  pub still_pending : (whole : List ℕ) → old.crash_images whole → (image : List ℕ) × new.crash_images image × SameOutside at (length bytes) whole image
+  pub still_pending : (whole : List ℕ) → old.crash_images whole
+      → (image : List ℕ) × new.crash_images image × SameOutside at (length bytes) whole image
   pub write_count : new.writes ≡ raised old.writes
   pub sync_count : new.syncs ≡ old.syncs
 

@@ -39,5 +39,6 @@ pub record IsSound (disk : DiskState) : Type 0 where
   pub read_image : disk.crash_images disk.bytes
   pub image_size : (image : List ℕ) → disk.crash_images image → length image ≡ disk.size
   -- this moment is one of those since an earlier one, and since this moment there is no other
-  pub includes_now : (t : ℕ) (image : List ℕ) → t ≤ disk.clock → disk.crash_images image → disk.crash_images_since t image
+  pub includes_now : (t : ℕ) (image : List ℕ) → t ≤ disk.clock → disk.crash_images image
+      → disk.crash_images_since t image
   pub only_now : (image : List ℕ) → disk.crash_images_since disk.clock image → disk.crash_images image

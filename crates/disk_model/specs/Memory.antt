@@ -1,5 +1,6 @@
 -- A disk in memory, as its clauses see it, and what a crash may leave of it, computed from what it keeps.
-use Rattle.std.specs.Prelude.{◌≡◌, ◌⊎◌, ℕ, ◌+◌, ◌-◌, ◌*◌, ◌<◌, ◌≤◌, nat_lt, true, List, [], ◌∷◌, ◌++◌, length, take, drop, slice_index, if◌then◌else◌}
+use Rattle.std.specs.Prelude.{◌≡◌, ◌⊎◌, ℕ, ◌+◌, ◌-◌, ◌*◌, ◌<◌, ◌≤◌, nat_lt, true, List, [], ◌∷◌, ◌++◌, length, take}
+use Rattle.std.specs.Prelude.{drop, slice_index, if◌then◌else◌}
 use Rattle.disk_model.specs.DiskState.{DiskState}
 use Rattle.disk_model.specs.DiskCalls.{raised, raised_by, overwrite}
 use Rattle.disk_model.specs.declared.record.Call.{Call}
@@ -47,7 +48,9 @@ replaced_before (Write at len) replaced = take (length replaced - len) replaced
 abbrev pub IsCrashImageSince : List ℕ → List Call → List ℕ → ℕ → List ℕ → Type 0
 IsCrashImageSince bytes [] replaced t image = IsCrashImage bytes [] image
 IsCrashImageSince bytes (call ∷ earlier) replaced t image =
-    IsCrashImage bytes (call ∷ earlier) image ⊎ ((t ≤ length earlier) × IsCrashImageSince (undone call replaced bytes) earlier (replaced_before call replaced) t image)
+    IsCrashImage bytes (call ∷ earlier) image
+    ⊎ ((t ≤ length earlier) × IsCrashImageSince (undone call replaced bytes) earlier
+    (replaced_before call replaced) t image)
 
 -- the meaning of a disk in memory; its clock is the number of calls in its record
 abbrev pub memory_state : Memory → DiskState
@@ -82,7 +85,8 @@ refused_write memory = record memory { faults = raised memory.faults; writes = r
 
 -- after a write of these bytes
 abbrev pub after_write : Memory → ℕ → List ℕ → Memory
-after_write memory at bytes = if nat_lt (room_left memory) (length bytes + 16) then refused_write memory else written memory at bytes
+after_write memory at bytes = if nat_lt (room_left memory) (length bytes + 16) then refused_write memory else
+    written memory at bytes
 
 -- after a sync that found room
 abbrev pub flushed : Memory → Memory
@@ -98,7 +102,17 @@ after_sync memory = if nat_lt (room_left memory) 16 then refused_sync memory els
 
 -- a disk with these bytes, all of them durable, on which no call was made
 abbrev pub fresh : List ℕ → ℕ → Memory
-fresh bytes room = record { bytes = bytes; synced = bytes; calls = []; replaced = []; room = room; faults = 0; writes = 0; syncs = 0; fetched = 0 }
+fresh bytes room = record {
+  bytes = bytes;
+  synced = bytes;
+  calls = [];
+  replaced = [];
+  room = room;
+  faults = 0;
+  writes = 0;
+  syncs = 0;
+  fetched = 0;
+}
 
 -- after a crash that left this image: all of it is durable, and the record is empty
 abbrev pub restarted : Memory → List ℕ → Memory

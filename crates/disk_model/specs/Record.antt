@@ -13,7 +13,8 @@ LieWithin size (Write at len ∷ earlier) = (at + len ≤ size) × LieWithin siz
 -- the pending bytes are copied from one list to another
 pub record CopiesPending (calls : List Call) (source old new : List ℕ) : Type 0 where
   pub size : length new ≡ length old
-  pub copied : (place : ℕ) → place < length old → IsPending calls place → slice_index new place ≡ slice_index source place
+  pub copied : (place : ℕ) → place < length old → IsPending calls place
+      → slice_index new place ≡ slice_index source place
   pub kept : (place : ℕ) → ¬ IsPending calls place → slice_index new place ≡ slice_index old place
 
 -- what is kept of a disk in memory agrees, and there is memory for as many calls as its room allows

@@ -9,4 +9,5 @@ use Rattle.disk_model.specs.Memory.{IsPending}
 abbrev pub IsChosen : StopChoice → List ℕ → List ℕ → List Call → List ℕ → Type 0
 IsChosen Old synced bytes calls image = image ≡ synced
 IsChosen New synced bytes calls image = image ≡ bytes
-IsChosen (Fill byte) synced bytes calls image = (place : ℕ) → place < length bytes → IsPending calls place → slice_index image place ≡ byte
+IsChosen (Fill byte) synced bytes calls image = (place : ℕ) → place < length bytes → IsPending calls place
+    → slice_index image place ≡ byte

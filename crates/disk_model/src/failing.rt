@@ -21,7 +21,8 @@ pub struct FailingDisk<D: Disk> {
 impl<D: Disk> FailingDisk<D> {
     ghost use Rattle.std.specs.Prelude.{◌≡◌, if◌then◌else◌};
     ghost use Rattle.disk_model.specs.DiskCalls.{raised};
-    ghost use Rattle.disk_model.specs.FailingDisk.{inner, call_number, listed, first_of_all, will_fail, faults_here, writes_here, syncs_here};
+    ghost use Rattle.disk_model.specs.FailingDisk.{inner, call_number, listed, first_of_all, will_fail, faults_here};
+    ghost use Rattle.disk_model.specs.FailingDisk.{writes_here, syncs_here};
 
     /// Makes fail the calls whose numbers stand in `calls`, and, where `from` is given, all from that number on.
     pub fn new(disk: D, calls: Vec<u64>, from: Option<u64>) -> FailingDisk<D>
@@ -55,7 +56,11 @@ impl<D: Disk> FailingDisk<D> {
     /// Counts a call, and says whether it is to fail.
     fn takes_fault(&mut self) -> bool
         ensures answer { result ≡ will_fail self.old }
-        ensures after { self.new ≡ record self.old { next = raised self.old.next; faults = if result then raised self.old.faults else self.old.faults } }
+        ensures after { self.new ≡ record self.old {
+          next = raised self.old.next;
+          faults =
+              if result then raised self.old.faults else self.old.faults;
+        } }
     {
         let fails = self.fails_next();
         self.next = self.next.saturating_add(1);
@@ -87,7 +92,9 @@ impl<D: Disk> Disk for FailingDisk<D> {
 
     ghost state = { failing_state D.state };
 
-    ghost sound = { λ failing observable. counted_is_sound (D.state failing.disk) failing.faults failing.writes failing.syncs (D.sound failing.disk observable) };
+    ghost sound = { λ failing observable.
+        counted_is_sound (D.state failing.disk)
+        failing.faults failing.writes failing.syncs (D.sound failing.disk observable) };
 
     fn len(&self) -> u64 {
         self.disk.len()
@@ -95,11 +102,14 @@ impl<D: Disk> Disk for FailingDisk<D> {
 
     fn read_at(&mut self, at: u64, into: &mut [u8]) -> Result<(), DiskFault>
         requires { at + length into.old ≤ (D.state (inner self.old)).size }
-        ensures read { IsRead (failing_state D.state self.old) (failing_state D.state self.new) at into.new result }
+        ensures read { IsRead (failing_state D.state self.old)
+            (failing_state D.state self.new) at into.new result }
 
         // A call fails that is to fail, and no other, unless the disk below fails it.
-        ensures fails { IsTrue (will_fail self.old) → IsErr result × (inner self.new ≡ inner self.old) }
-        ensures passes { will_fail self.old ≡ false → IsRead (D.state (inner self.old)) (D.state (inner self.new)) at into.new result }
+        ensures fails { IsTrue (will_fail self.old)
+            → IsErr result × (inner self.new ≡ inner self.old) }
+        ensures passes { will_fail self.old ≡ false
+            → IsRead (D.state (inner self.old)) (D.state (inner self.new)) at into.new result }
         ensures counts { CountsCall self.old self.new }
     {
         if self.takes_fault() {
@@ -110,9 +120,12 @@ impl<D: Disk> Disk for FailingDisk<D> {
 
     fn write_at(&mut self, at: u64, bytes: &[u8]) -> Result<(), DiskFault>
         requires { at + length bytes.now ≤ (D.state (inner self.old)).size }
-        ensures write { IsWrite (failing_state D.state self.old) (failing_state D.state self.new) at bytes.now result }
-        ensures fails { IsTrue (will_fail self.old) → IsErr result × (inner self.new ≡ inner self.old) }
-        ensures passes { will_fail self.old ≡ false → IsWrite (D.state (inner self.old)) (D.state (inner self.new)) at bytes.now result }
+        ensures write { IsWrite (failing_state D.state self.old)
+            (failing_state D.state self.new) at bytes.now result }
+        ensures fails { IsTrue (will_fail self.old)
+            → IsErr result × (inner self.new ≡ inner self.old) }
+        ensures passes { will_fail self.old ≡ false
+            → IsWrite (D.state (inner self.old)) (D.state (inner self.new)) at bytes.now result }
         ensures counts { CountsCall self.old self.new }
     {
         if self.takes_fault() {
@@ -123,9 +136,12 @@ impl<D: Disk> Disk for FailingDisk<D> {
     }
 
     fn sync(&mut self) -> Result<(), DiskFault>
-        ensures sync { IsSync (failing_state D.state self.old) (failing_state D.state self.new) result }
-        ensures fails { IsTrue (will_fail self.old) → IsErr result × (inner self.new ≡ inner self.old) }
-        ensures passes { will_fail self.old ≡ false → IsSync (D.state (inner self.old)) (D.state (inner self.new)) result }
+        ensures sync { IsSync (failing_state D.state self.old)
+            (failing_state D.state self.new) result }
+        ensures fails { IsTrue (will_fail self.old)
+            → IsErr result × (inner self.new ≡ inner self.old) }
+        ensures passes { will_fail self.old ≡ false
+            → IsSync (D.state (inner self.old)) (D.state (inner self.new)) result }
         ensures counts { CountsCall self.old self.new }
     {
         if self.takes_fault() {

@@ -39,7 +39,9 @@ impl FileDisk {
     fn count(&mut self, outcome: io::Result<()>) -> Result<(), DiskFault>
         ensures variant { is_ok result ≡ is_ok outcome }
         ensures size { (file_state self.new).size ≡ (file_state self.old).size }
-        ensures faults { (file_state self.new).faults ≡ (if is_ok outcome then (file_state self.old).faults else raised (file_state self.old).faults) }
+        ensures faults { (file_state self.new).faults
+            ≡ (if is_ok outcome then (file_state self.old).faults else raised
+            (file_state self.old).faults) }
     {
         if outcome.is_err() {
             self.faults = self.faults.saturating_add(1);

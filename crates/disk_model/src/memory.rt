@@ -1,7 +1,8 @@
 //! A disk in memory, which notes each call that changes it, so that it can show what a crash at any moment may leave.
 ghost use Rattle.std.specs.Prelude.{◌≡◌, ◌↔◌, ◌+◌, ◌<◌, ◌≤◌, length, IfOk, IsOk, IsErr};
 ghost use Rattle.disk_model.specs.DiskCalls.{IsRead, IsWrite, IsSync};
-ghost use Rattle.disk_model.specs.Memory.{memory_state, room_left, after_read, after_write, after_sync, fresh, restarted};
+ghost use Rattle.disk_model.specs.Memory.{memory_state, room_left, after_read, after_write, after_sync, fresh};
+ghost use Rattle.disk_model.specs.Memory.{restarted};
 ghost use Rattle.disk_model.specs.MemoryLaws.{memory_is_sound};
 ghost use Rattle.disk_model.specs.StopChoice.{IsChosen};
 
@@ -136,7 +137,8 @@ impl Disk for MemDisk {
 
     fn write_at(&mut self, at: u64, bytes: &[u8]) -> Result<(), DiskFault>
         requires { at + length bytes.now ≤ length self.old.bytes }
-        ensures write { IsWrite (memory_state self.old) (memory_state self.new) at bytes.now result }
+        ensures write { IsWrite (memory_state self.old)
+            (memory_state self.new) at bytes.now result }
         ensures full { IsErr result ↔ (room_left self.old < length bytes.now + 16) }
         ensures after { self.new ≡ after_write self.old at bytes.now }
     {

@@ -1,5 +1,6 @@
 -- No mark says that two trees are equal.
-use Rattle.std.proofs.Common.{◌≡◌, ◌↔◌, List, [], ◌∷◌, cond, true, false, not, Bool, T, Option, Some, None, refl, sym, ap, subst, ◌∙◌}
+use Rattle.std.proofs.Common.{◌≡◌, ◌↔◌, List, [], ◌∷◌, cond, true, false, not, Bool, T, Option, Some, None, refl, sym}
+use Rattle.std.proofs.Common.{ap, subst, ◌∙◌}
 use Rattle.std.specs.Ordering.{is_eq}
 use Rattle.std.specs.Cmp.{tied_itself}
 use Rattle.std.specs.FinMap.{find}
@@ -33,16 +34,21 @@ never_itself Attributes (Some e) h = h.other refl
 find_first : (p : Path) (mark : Mark) (marks : List (Path × Mark)) → find path_cmp p ((p, mark) ∷ marks) ≡ Some mark
 find_first p mark marks = ap (λ b. cond b (Some mark) (find path_cmp p marks)) (ap is_eq (tied_itself path_cmp_total p))
 
-pub no_mark : (t u : Tree) (marks : List (Path × Mark)) → IsTree t → IsTree u → AreDifferences t u marks → (marks ≡ []) ↔ (t ≡ u)
+pub no_mark : (t u : Tree) (marks : List (Path × Mark)) → IsTree t → IsTree u → AreDifferences t u marks
+    → (marks ≡ []) ↔ (t ≡ u)
 no_mark t u marks is is' are = (equal, unmarked marks are)
   where
     equal : marks ≡ [] → t ≡ u
-    equal none = same_entries path_cmp path_cmp_total same_from_tie t u (subst T (sym is.sorted) tt) (subst T (sym is'.sorted) tt)
-        (λ p. subst (λ (ms : List (Path × Mark)). Tells (find path_cmp p ms) (find path_cmp p t) (find path_cmp p u)) none (are.each p))
+    equal none = same_entries path_cmp path_cmp_total same_from_tie t u (subst T (sym is.sorted) tt)
+        (subst T (sym is'.sorted) tt)
+        (λ p. subst (λ (ms : List (Path × Mark)). Tells (find path_cmp p ms) (find path_cmp p t) (find path_cmp p u))
+        none (are.each p))
 
     unmarked : (ms : List (Path × Mark)) → AreDifferences t u ms → t ≡ u → ms ≡ []
     unmarked [] are same = refl
     unmarked (m ∷ ms) are same =
         let told : DifferSo m.1 (find path_cmp m.0 t) (find path_cmp m.0 u) =
-        subst (λ (found : Option Mark). Tells found (find path_cmp m.0 t) (find path_cmp m.0 u)) (find_first m.0 m.1 ms) (are.each m.0) in
-        absurd (never_itself m.1 (find path_cmp m.0 t) (subst (λ (v : Tree). DifferSo m.1 (find path_cmp m.0 t) (find path_cmp m.0 v)) (sym same) told))
+        subst (λ (found : Option Mark). Tells found (find path_cmp m.0 t) (find path_cmp m.0 u))
+        (find_first m.0 m.1 ms) (are.each m.0) in
+        absurd (never_itself m.1 (find path_cmp m.0 t)
+        (subst (λ (v : Tree). DifferSo m.1 (find path_cmp m.0 t) (find path_cmp m.0 v)) (sym same) told))

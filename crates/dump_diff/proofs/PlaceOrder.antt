@@ -1,5 +1,6 @@
 -- The order of the places of commands.
-use Rattle.std.proofs.Common.{◌≡◌, ℕ, suc, zero, List, [], ◌∷◌, Bool, true, false, refl, sym, ap, ap₂, ◌∙◌, arith, Ordering, Less, Equal, Greater, nat_cmp}
+use Rattle.std.proofs.Common.{◌≡◌, ℕ, suc, zero, List, [], ◌∷◌, Bool, true, false, refl, sym, ap, ap₂, ◌∙◌, arith}
+use Rattle.std.proofs.Common.{Ordering, Less, Equal, Greater, nat_cmp}
 use borrow.Author.Tests.{eqb-true}
 use Rattle.std.specs.Ordering.{ordering_then, is_le}
 use Rattle.std.specs.Cmp.{IsTotalOrder, tied_itself}
@@ -9,7 +10,8 @@ use Rattle.std.proofs.lemmas.Bool.{false≢true}
 use Rattle.std.proofs.lemmas.Cmp.{then_total, on_total}
 use Rattle.store_model.specs.Paths.{Path, path_cmp}
 use Rattle.store_model.specs.Commands.{Command}
-use Rattle.store_model.specs.Commands.Command.{Make, Write, Cut, Rename, Remove, Prune, ListChildren, Read, Space, Digest, SetAttribute, UnsetAttribute, GetAttribute, ListAttributes}
+use Rattle.store_model.specs.Commands.Command.{Make, Write, Cut, Rename, Remove, Prune, ListChildren, Read, Space}
+use Rattle.store_model.specs.Commands.Command.{Digest, SetAttribute, UnsetAttribute, GetAttribute, ListAttributes}
 use Rattle.store_model.proofs.ListsLemmas.{nat_cmp-gt}
 use Rattle.store_model.proofs.TreesLemmasPaths.{path_cmp_total, same_from_tie}
 use Rattle.dump_diff.specs.Places.{command_path, part, part_cmp, place_cmp, is_first, offset, sets}
@@ -26,10 +28,12 @@ both_tied Equal b e = (refl, e)
 both_tied Greater b e = cc
 
 pub tied_paths : (c d : Command) → place_cmp c d ≡ Equal → command_path c ≡ command_path d
-tied_paths c d e = same_from_tie (command_path c) (command_path d) (both_tied (path_cmp (command_path c) (command_path d)) (part_cmp c d) e).0
+tied_paths c d e = same_from_tie (command_path c) (command_path d)
+    (both_tied (path_cmp (command_path c) (command_path d)) (part_cmp c d) e).0
 
 pub tied_parts : (c d : Command) → place_cmp c d ≡ Equal → part c ≡ part d
-tied_parts c d e = slice_cmp-IsAntisymmetric nat_cmp-IsAntisymmetric (part c) (part d) (both_tied (path_cmp (command_path c) (command_path d)) (part_cmp c d) e).1
+tied_parts c d e = slice_cmp-IsAntisymmetric nat_cmp-IsAntisymmetric (part c) (part d)
+    (both_tied (path_cmp (command_path c) (command_path d)) (part_cmp c d) e).1
 
 -- at a lower path
 pub place_by_path : (c d : Command) → path_cmp (command_path c) (command_path d) ≡ Less → place_cmp c d ≡ Less
@@ -37,25 +41,29 @@ place_by_path c d l = ap (λ o. ordering_then o (part_cmp c d)) l
 
 -- at the same path
 pub place_by_part : (c d : Command) → command_path c ≡ command_path d → part_cmp c d ≡ Less → place_cmp c d ≡ Less
-place_by_part c d same l = ap (λ o. ordering_then o (part_cmp c d)) (ap (λ (p : Path). path_cmp p (command_path d)) same ∙ tied_itself path_cmp_total (command_path d)) ∙ l
+place_by_part c d same l = ap (λ o. ordering_then o (part_cmp c d))
+    (ap (λ (p : Path). path_cmp p (command_path d)) same ∙ tied_itself path_cmp_total (command_path d)) ∙ l
 
 -- what stands lower has no higher path
 pub path_le : (c d : Command) → place_cmp c d ≡ Less → is_le (path_cmp (command_path c) (command_path d)) ≡ true
 path_le c d l = by_order (path_cmp (command_path c) (command_path d)) refl l
   where
-    by_order : (o : Ordering) → path_cmp (command_path c) (command_path d) ≡ o → ordering_then o (part_cmp c d) ≡ Less → is_le (path_cmp (command_path c) (command_path d)) ≡ true
+    by_order : (o : Ordering) → path_cmp (command_path c) (command_path d) ≡ o → ordering_then o (part_cmp c d) ≡ Less
+        → is_le (path_cmp (command_path c) (command_path d)) ≡ true
     by_order Less e l = ap is_le e
     by_order Equal e l = ap is_le e
     by_order Greater e l = cc
 
 -- no place is below itself
 pub never_below_itself : (c d : Command) → place_cmp c d ≡ Less → c ≡ d → ⊥
-never_below_itself c d l e = let tie : place_cmp c d ≡ Equal = ap (place_cmp c) (sym e) ∙ tied_itself place_total c in let no : false ≡ true = cc in false≢true no
+never_below_itself c d l e = let tie : place_cmp c d ≡ Equal = ap (place_cmp c) (sym e) ∙ tied_itself place_total c
+    in let no : false ≡ true = cc in false≢true no
 
 -- nothing of a path stands before the first command of its entry
 pub none_before_first : (c d : Command) → is_first d ≡ true → command_path c ≡ command_path d → place_cmp c d ≡ Less → ⊥
 none_before_first c d first same l =
-    let tie : path_cmp (command_path c) (command_path d) ≡ Equal = ap (λ (p : Path). path_cmp p (command_path d)) same ∙ tied_itself path_cmp_total (command_path d) in
+    let tie : path_cmp (command_path c) (command_path d) ≡ Equal =
+    ap (λ (p : Path). path_cmp p (command_path d)) same ∙ tied_itself path_cmp_total (command_path d) in
     no_part c d first (sym (ap (λ o. ordering_then o (part_cmp c d)) tie) ∙ l)
   where
     no_number : (n : ℕ) → ordering_then (nat_cmp n 0) Equal ≡ Less → ⊥
@@ -83,7 +91,8 @@ none_before_first c d first same l =
 
     no_part : (c d : Command) → is_first d ≡ true → part_cmp c d ≡ Less → ⊥
     no_part c (Make p) first l = by_part c l
-    no_part c (Write p at bytes) first l = by_part c (sym (ap (λ (n : ℕ). slice_cmp nat_cmp (part c) (0 ∷ n ∷ [])) (eqb-true at 0 first)) ∙ l)
+    no_part c (Write p at bytes) first l =
+        by_part c (sym (ap (λ (n : ℕ). slice_cmp nat_cmp (part c) (0 ∷ n ∷ [])) (eqb-true at 0 first)) ∙ l)
     no_part c (Cut p len) first l = let no : false ≡ true = cc in false≢true no
     no_part c (Rename p q) first l = let no : false ≡ true = cc in false≢true no
     no_part c (Remove p) first l = let no : false ≡ true = cc in false≢true no
@@ -139,9 +148,11 @@ set_after c d set same l = by_test (sets d) refl
     by_test true e = e
     by_test false e =
         let some = part_set c set in
-        let tie : path_cmp (command_path c) (command_path d) ≡ Equal = ap (λ (p : Path). path_cmp p (command_path d)) same ∙ tied_itself path_cmp_total (command_path d) in
+        let tie : path_cmp (command_path c) (command_path d) ≡ Equal =
+        ap (λ (p : Path). path_cmp p (command_path d)) same ∙ tied_itself path_cmp_total (command_path d) in
         let parts : part_cmp c d ≡ Less = sym (ap (λ o. ordering_then o (part_cmp c d)) tie) ∙ l in
-        let above : slice_cmp nat_cmp (1 ∷ some.0) (0 ∷ offset d ∷ []) ≡ Less = ap₂ (slice_cmp nat_cmp) (sym some.1) (sym (part_unset d e)) ∙ parts in
+        let above : slice_cmp nat_cmp (1 ∷ some.0) (0 ∷ offset d ∷ []) ≡ Less =
+        ap₂ (slice_cmp nat_cmp) (sym some.1) (sym (part_unset d e)) ∙ parts in
         let no : Greater ≡ Less = above in
         cc
 
@@ -154,28 +165,39 @@ set_tied c d tied = by_test (sets c) (sets d) refl refl
     by_test false false e f = e ∙ sym f
     by_test true false e f =
         let some = part_set c e in
-        let no : ◌≡◌ {A = List ℕ} (1 ∷ some.0) (0 ∷ offset d ∷ []) = sym some.1 ∙ tied_parts c d tied ∙ part_unset d f in
+        let no : ◌≡◌ {A = List ℕ} (1 ∷ some.0) (0 ∷ offset d ∷ []) =
+        sym some.1 ∙ tied_parts c d tied ∙ part_unset d f in
         cc
     by_test false true e f =
         let some = part_set d f in
-        let no : ◌≡◌ {A = List ℕ} (0 ∷ offset c ∷ []) (1 ∷ some.0) = sym (part_unset c e) ∙ tied_parts c d tied ∙ some.1 in
+        let no : ◌≡◌ {A = List ℕ} (0 ∷ offset c ∷ []) (1 ∷ some.0) =
+        sym (part_unset c e) ∙ tied_parts c d tied ∙ some.1 in
         cc
 
 -- ---- two commands of one variant at one place
 
 pub same_make : (c d : Command) (p q : Path) → c ≡ Make p → d ≡ Make q → command_path c ≡ command_path d → c ≡ d
-same_make c d p q one other paths = one ∙ ap Make (sym (ap command_path one) ∙ paths ∙ ap command_path other) ∙ sym other
+same_make c d p q one other paths = one ∙ ap Make (sym (ap command_path one) ∙ paths ∙ ap command_path other)
+    ∙ sym other
 
-pub same_write : (c d : Command) (p q : Path) (i j : ℕ) (x y : List ℕ) → c ≡ Write p i x → d ≡ Write q j y → command_path c ≡ command_path d → part c ≡ part d → (x ≡ y → c ≡ d) × (c ≡ d → x ≡ y)
+pub same_write : (c d : Command) (p q : Path) (i j : ℕ) (x y : List ℕ) → c ≡ Write p i x → d ≡ Write q j y
+    → command_path c ≡ command_path d → part c ≡ part d → (x ≡ y → c ≡ d) × (c ≡ d → x ≡ y)
 same_write c d p q i j x y one other paths parts =
     let same : p ≡ q = sym (ap command_path one) ∙ paths ∙ ap command_path other in
     let lists : ◌≡◌ {A = List ℕ} (0 ∷ i ∷ []) (0 ∷ j ∷ []) = sym (ap part one) ∙ parts ∙ ap part other in
-    let at : i ≡ j = cc in
-    (λ e. one ∙ (λ k. Write (same k) (at k) (e k)) ∙ sym other, λ e. let both : Write p i x ≡ Write q j y = sym one ∙ e ∙ other in cc)
+    let at : i ≡ j = cc in (
+      λ e. one ∙ (λ k. Write (same k) (at k) (e k)) ∙ sym other,
+      λ e. let both : Write p i x ≡ Write q j y =
+          sym one ∙ e ∙ other in cc,
+    )
 
-pub same_set : (c d : Command) (p q : Path) (a b : List ℕ) (x y : List ℕ) → c ≡ SetAttribute p a x → d ≡ SetAttribute q b y → command_path c ≡ command_path d → part c ≡ part d → (x ≡ y → c ≡ d) × (c ≡ d → x ≡ y)
+pub same_set : (c d : Command) (p q : Path) (a b : List ℕ) (x y : List ℕ) → c ≡ SetAttribute p a x
+    → d ≡ SetAttribute q b y → command_path c ≡ command_path d → part c ≡ part d → (x ≡ y → c ≡ d) × (c ≡ d → x ≡ y)
 same_set c d p q a b x y one other paths parts =
     let same : p ≡ q = sym (ap command_path one) ∙ paths ∙ ap command_path other in
     let lists : ◌≡◌ {A = List ℕ} (1 ∷ a) (1 ∷ b) = sym (ap part one) ∙ parts ∙ ap part other in
-    let name : a ≡ b = cc in
-    (λ e. one ∙ (λ k. SetAttribute (same k) (name k) (e k)) ∙ sym other, λ e. let both : SetAttribute p a x ≡ SetAttribute q b y = sym one ∙ e ∙ other in cc)
+    let name : a ≡ b = cc in (
+      λ e. one ∙ (λ k. SetAttribute (same k) (name k) (e k)) ∙ sym other,
+      λ e. let both : SetAttribute p a x
+          ≡ SetAttribute q b y = sym one ∙ e ∙ other in cc,
+    )

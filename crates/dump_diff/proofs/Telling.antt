@@ -1,5 +1,6 @@
 -- The commands of an entry tell it.
-use Rattle.std.proofs.Common.{◌≡◌, ℕ, ◌+◌, List, [], ◌∷◌, ◌++◌, map, Bool, true, false, ◌||◌, cond, refl, sym, ap, ap₂, ◌∙◌, arith}
+use Rattle.std.proofs.Common.{◌≡◌, ℕ, ◌+◌, List, [], ◌∷◌, ◌++◌, map, Bool, true, false, ◌||◌, cond, refl, sym, ap, ap₂}
+use Rattle.std.proofs.Common.{◌∙◌, arith}
 use Rattle.std.specs.List.{flat_map, enumerate_from, list_any}
 use Rattle.std.proofs.lemmas.List.{append-nil}
 use Rattle.std.proofs.lemmas.List.Concat.{flat_map-append}
@@ -26,7 +27,8 @@ node_in cs = cond (list_any makes cs) Directory (File (flat_map bytes_in cs))
 
 -- ---- attributes
 
-names_told : (path : Path) (attributes : Attributes) → flat_map attributes_in (map (name_command path) attributes) ≡ attributes
+names_told : (path : Path) (attributes : Attributes)
+    → flat_map attributes_in (map (name_command path) attributes) ≡ attributes
 names_told path [] = refl
 names_told path (a ∷ attributes) = ap (λ (more : Attributes). a ∷ more) (names_told path attributes)
 
@@ -40,7 +42,8 @@ node_without_names path Directory = refl
 node_without_names path (File []) = refl
 node_without_names path (File (b ∷ bytes)) = no_names path (enumerate_from 0 (runs dump_piece (b ∷ bytes)))
 
-pub attributes_told : (path : Path) (entry : Entry) → flat_map attributes_in (entry_commands path entry) ≡ entry.attributes
+pub attributes_told : (path : Path) (entry : Entry)
+    → flat_map attributes_in (entry_commands path entry) ≡ entry.attributes
 unfolding attribute_commands
 attributes_told path entry =
     flat_map-append attributes_in (node_commands path entry.node) (attribute_commands path entry.attributes)
@@ -48,7 +51,8 @@ attributes_told path entry =
 
 -- ---- bytes
 
-pieces_told : (path : Path) (n : ℕ) (rs : List (List ℕ)) → flat_map bytes_in (map (piece_command path) (enumerate_from n rs)) ≡ flat_map (λ run. run) rs
+pieces_told : (path : Path) (n : ℕ) (rs : List (List ℕ))
+    → flat_map bytes_in (map (piece_command path) (enumerate_from n rs)) ≡ flat_map (λ run. run) rs
 pieces_told path n [] = refl
 pieces_told path n (r ∷ rs) = ap (λ (more : List ℕ). r ++ more) (pieces_told path (n + 1) rs)
 
@@ -59,13 +63,16 @@ no_bytes path (a ∷ attributes) = no_bytes path attributes
 file_told : (path : Path) (bytes : List ℕ) → flat_map bytes_in (file_commands path bytes) ≡ bytes
 unfolding file_commands
 file_told path [] = refl
-file_told path (b ∷ bytes) = pieces_told path 0 (runs dump_piece (b ∷ bytes)) ∙ flat_map-runs dump_piece (b ∷ bytes) (omega arith)
+file_told path (b ∷ bytes) = pieces_told path 0 (runs dump_piece (b ∷ bytes))
+    ∙ flat_map-runs dump_piece (b ∷ bytes) (omega arith)
 
-none_made_of_pieces : (path : Path) (pieces : List (ℕ × List ℕ)) → list_any makes (map (piece_command path) pieces) ≡ false
+none_made_of_pieces : (path : Path) (pieces : List (ℕ × List ℕ))
+    → list_any makes (map (piece_command path) pieces) ≡ false
 none_made_of_pieces path [] = refl
 none_made_of_pieces path (piece ∷ pieces) = none_made_of_pieces path pieces
 
-none_made_of_names : (path : Path) (attributes : Attributes) → list_any makes (map (name_command path) attributes) ≡ false
+none_made_of_names : (path : Path) (attributes : Attributes)
+    → list_any makes (map (name_command path) attributes) ≡ false
 none_made_of_names path [] = refl
 none_made_of_names path (a ∷ attributes) = none_made_of_names path attributes
 
@@ -74,24 +81,30 @@ unfolding file_commands
 none_made_of_file path [] = refl
 none_made_of_file path (b ∷ bytes) = none_made_of_pieces path (enumerate_from 0 (runs dump_piece (b ∷ bytes)))
 
-any_append : (test : Command → Bool) (xs ys : List Command) → list_any test (xs ++ ys) ≡ (list_any test xs || list_any test ys)
+any_append : (test : Command → Bool) (xs ys : List Command)
+    → list_any test (xs ++ ys) ≡ (list_any test xs || list_any test ys)
 any_append test [] ys = refl
 any_append test (x ∷ xs) ys = by_test (test x) (any_append test xs ys)
   where
-    by_test : (b : Bool) → list_any test (xs ++ ys) ≡ (list_any test xs || list_any test ys) → (b || list_any test (xs ++ ys)) ≡ ((b || list_any test xs) || list_any test ys)
+    by_test : (b : Bool) → list_any test (xs ++ ys) ≡ (list_any test xs || list_any test ys)
+        → (b || list_any test (xs ++ ys)) ≡ ((b || list_any test xs) || list_any test ys)
     by_test true e = refl
     by_test false e = e
 
-pub node_told : (path : Path) (node : Node) (attributes : Attributes) → node_in (node_commands path node ++ attribute_commands path attributes) ≡ node
+pub node_told : (path : Path) (node : Node) (attributes : Attributes)
+    → node_in (node_commands path node ++ attribute_commands path attributes) ≡ node
 unfolding attribute_commands
 node_told path Directory attributes = refl
 node_told path (File bytes) attributes =
     ap₂ (λ (b : Bool) (content : List ℕ). cond b Directory (File content))
-    (any_append makes (file_commands path bytes) (attribute_commands path attributes) ∙ ap₂ (λ (a b : Bool). a || b) (none_made_of_file path bytes) (none_made_of_names path attributes))
-    (flat_map-append bytes_in (file_commands path bytes) (attribute_commands path attributes) ∙ ap₂ (λ (a b : List ℕ). a ++ b) (file_told path bytes) (no_bytes path attributes) ∙ append-nil bytes)
+    (any_append makes (file_commands path bytes) (attribute_commands path attributes)
+    ∙ ap₂ (λ (a b : Bool). a || b) (none_made_of_file path bytes) (none_made_of_names path attributes))
+    (flat_map-append bytes_in (file_commands path bytes) (attribute_commands path attributes)
+    ∙ ap₂ (λ (a b : List ℕ). a ++ b) (file_told path bytes) (no_bytes path attributes) ∙ append-nil bytes)
 
 -- what stands at a path of the same commands is one
-pub node_of_commands : (path : Path) (node other : Node) → node_commands path node ≡ node_commands path other → node ≡ other
+pub node_of_commands : (path : Path) (node other : Node)
+    → node_commands path node ≡ node_commands path other → node ≡ other
 unfolding attribute_commands
 node_of_commands path node other same =
     sym (node_told path node []) ∙ ap (λ (cs : List Command). node_in (cs ++ [])) same ∙ node_told path other []
@@ -99,6 +112,8 @@ node_of_commands path node other same =
 -- two entries of the same commands are one
 pub entries_told : (path : Path) (e f : Entry) → entry_commands path e ≡ entry_commands path f → e ≡ f
 entries_told path e f same =
-    let node : e.node ≡ f.node = sym (node_told path e.node e.attributes) ∙ ap node_in same ∙ node_told path f.node f.attributes in
-    let attributes : e.attributes ≡ f.attributes = sym (attributes_told path e) ∙ ap (flat_map attributes_in) same ∙ attributes_told path f in
+    let node : e.node ≡ f.node = sym (node_told path e.node e.attributes) ∙ ap node_in same
+    ∙ node_told path f.node f.attributes in
+    let attributes : e.attributes ≡ f.attributes = sym (attributes_told path e) ∙ ap (flat_map attributes_in) same
+    ∙ attributes_told path f in
     λ i. record { node = node i; attributes = attributes i }

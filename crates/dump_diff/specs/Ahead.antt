@@ -33,14 +33,19 @@ pub record IsAhead (came whole : Tree → Type 0) (head : Head) (t : Tree) : Typ
 -- the marks are what the dumps of two trees show, and the commands at hand stand behind them
 pub record IsMerged (merge : Merge) (t u : Tree) : Type 0 where
   pub shown : AreShown (dump t) (dump u) (marks_of merge.found.paths.items)
-  pub first_behind : merge.first.is_there ≡ true → IsBehind (dump t) (dump u) (marks_of merge.found.paths.items) (command_of merge.first.command)
-  pub second_behind : merge.second.is_there ≡ true → IsBehind (dump t) (dump u) (marks_of merge.found.paths.items) (command_of merge.second.command)
+  pub first_behind : merge.first.is_there ≡ true
+      → IsBehind (dump t) (dump u) (marks_of merge.found.paths.items) (command_of merge.first.command)
+  pub second_behind : merge.second.is_there ≡ true
+      → IsBehind (dump t) (dump u) (marks_of merge.found.paths.items) (command_of merge.second.command)
   pub sides : SidesShown (dump t) (dump u) (marks_of merge.found.paths.items) (sides_of merge.found.attributes.items)
   pub places_rise : IsStrictlySortedBy place_cmp (places_of merge.found.attributes.items)
-  pub first_after : merge.first.is_there ≡ true → AreBefore (places_of merge.found.attributes.items) (command_of merge.first.command)
-  pub second_after : merge.second.is_there ≡ true → AreBefore (places_of merge.found.attributes.items) (command_of merge.second.command)
+  pub first_after : merge.first.is_there ≡ true
+      → AreBefore (places_of merge.found.attributes.items) (command_of merge.first.command)
+  pub second_after : merge.second.is_there ≡ true
+      → AreBefore (places_of merge.found.attributes.items) (command_of merge.second.command)
 
--- the commands that came of two streams before those at hand are the dumps of two trees, and the marks are what these show
+-- the commands that came of two streams before those at hand are the dumps of two trees, and the marks are what these
+-- show
 pub record IsBetween (came whole came' whole' : Tree → Type 0) (merge : Merge) (t u : Tree) : Type 0 where
   pub first : IsAhead came whole merge.first t
   pub second : IsAhead came' whole' merge.second u
@@ -64,6 +69,11 @@ pub record AreFound (whole whole' : Tree → Type 0) (found : Differences) : Typ
 -- the command whose place is the lower one: that of one stream, or those of both
 abbrev pub IsSideOf : Merge → Option Side → Type 0
 IsSideOf merge None = (merge.first.is_there ≡ false) × (merge.second.is_there ≡ false)
-IsSideOf merge (Some First) = (merge.first.is_there ≡ true) × (merge.second.is_there ≡ true → place_cmp (command_of merge.first.command) (command_of merge.second.command) ≡ Less)
-IsSideOf merge (Some Second) = (merge.second.is_there ≡ true) × (merge.first.is_there ≡ true → place_cmp (command_of merge.second.command) (command_of merge.first.command) ≡ Less)
-IsSideOf merge (Some Both) = (merge.first.is_there ≡ true) × (merge.second.is_there ≡ true) × (place_cmp (command_of merge.first.command) (command_of merge.second.command) ≡ Equal)
+IsSideOf merge (Some First) = (merge.first.is_there ≡ true)
+    × (merge.second.is_there ≡ true → place_cmp (command_of merge.first.command) (command_of merge.second.command)
+    ≡ Less)
+IsSideOf merge (Some Second) = (merge.second.is_there ≡ true)
+    × (merge.first.is_there ≡ true → place_cmp (command_of merge.second.command) (command_of merge.first.command)
+    ≡ Less)
+IsSideOf merge (Some Both) = (merge.first.is_there ≡ true) × (merge.second.is_there ≡ true)
+    × (place_cmp (command_of merge.first.command) (command_of merge.second.command) ≡ Equal)

@@ -44,7 +44,8 @@ abbrev pub Tells : Option Mark → Option Entry → Option Entry → Type 0
 Tells None e f = e ≡ f
 Tells (Some mark) e f = DifferSo mark e f
 
--- The marks are a map from the paths at which two trees differ to how they differ there, as its entries in the order of paths.
+-- The marks are a map from the paths at which two trees differ to how they differ there, as its entries in the order
+-- of paths.
 pub record AreDifferences (t u : Tree) (marks : List (Path × Mark)) : Type 0 where
   pub rising : IsTrue (is_sorted path_cmp marks)
   pub each : (p : Path) → Tells (find path_cmp p marks) (find path_cmp p t) (find path_cmp p u)

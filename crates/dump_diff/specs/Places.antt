@@ -15,8 +15,8 @@ command_path (Write p at bytes) = p
 command_path (SetAttribute p a bytes) = p
 command_path _ = []
 
--- where a command stands in the dump of an entry: first comes what makes a directory or writes, by offset, and then come the
--- attributes, by name
+-- where a command stands in the dump of an entry: first comes what makes a directory or writes, by offset, and then
+-- come the attributes, by name
 abbrev pub part : Command → List ℕ
 part (Write p at bytes) = 0 ∷ at ∷ []
 part (SetAttribute p a bytes) = 1 ∷ a

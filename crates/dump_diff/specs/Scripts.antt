@@ -1,5 +1,6 @@
 -- The script that leads from the first tree to the second.
-use Rattle.std.specs.Prelude.{◌≡◌, ℕ, ◌<◌, List, [], ◌∷◌, ◌++◌, codes, Bool, true, false, ◌||◌, map, length, slice_index_or, Option, Some, None, IsTrue, Result, Ok, MatchResult}
+use Rattle.std.specs.Prelude.{◌≡◌, ℕ, ◌<◌, List, [], ◌∷◌, ◌++◌, codes, Bool, true, false, ◌||◌, map, length}
+use Rattle.std.specs.Prelude.{slice_index_or, Option, Some, None, IsTrue, Result, Ok, MatchResult}
 use Rattle.std.specs.FinMap.{find, is_sorted}
 use Rattle.std.specs.List.{filter, flat_map}
 use Rattle.std.specs.declared.cmp.Ordering.{Ordering}
@@ -64,7 +65,8 @@ is_set None = false
 abbrev pub is_addition : Differences → Command → Bool
 is_addition found (Make p) = is_made (find path_cmp p (marks_of found.paths.items))
 is_addition found (Write p at bytes) = is_written (find path_cmp p (marks_of found.paths.items))
-is_addition found (SetAttribute p a bytes) = is_made (find path_cmp p (marks_of found.paths.items)) || is_set (find attribute_cmp (p, a) (sides_of found.attributes.items))
+is_addition found (SetAttribute p a bytes) = is_made (find path_cmp p (marks_of found.paths.items))
+    || is_set (find attribute_cmp (p, a) (sides_of found.attributes.items))
 is_addition found _ = false
 
 -- the differences rise by path, and their attributes by path and name
@@ -72,32 +74,41 @@ pub record AreRising (found : Differences) : Type 0 where
   pub paths : IsTrue (is_sorted path_cmp (marks_of found.paths.items))
   pub attributes : IsTrue (is_sorted attribute_cmp (sides_of found.attributes.items))
 
--- From one moment to a later one the lines of those of these commands were written that are additions, and nothing else.
-pub record TookAdditions {W : Type 0} (sink_of : W → SinkState) (first now : AdditionTaker W) (commands : List Command) : Type 0 where
+-- From one moment to a later one the lines of those of these commands were written that are additions, and nothing
+-- else.
+pub record TookAdditions {W : Type 0} (sink_of : W → SinkState) (first now : AdditionTaker W)
+    (commands : List Command) : Type 0 where
   pub found_is : now.found ≡ first.found
   pub observable : (sink_of now.sink).is_observable ≡ (sink_of first.sink).is_observable
   pub faults : (sink_of now.sink).faults ≡ (sink_of first.sink).faults
   pub written : IsObservable (sink_of first.sink) → AreRising first.found
-      → (sink_of now.sink).written ≡ (sink_of first.sink).written ++ commands_text (filter (is_addition first.found) commands)
+      → (sink_of now.sink).written ≡ (sink_of first.sink).written
+      ++ commands_text (filter (is_addition first.found) commands)
 
 -- one more command was taken
-abbrev pub TakesAddition : {W E : Type 0} → (W → SinkState) → AdditionTaker W → AdditionTaker W → Command → Result (Unit {0}) E → Type 0
-TakesAddition {W} sink_of old new c result = (first : AdditionTaker W) → IsTaken (TookAdditions sink_of first old) (TookAdditions sink_of first new) c result
+abbrev pub TakesAddition : {W E : Type 0} → (W → SinkState) → AdditionTaker W → AdditionTaker W → Command
+    → Result (Unit {0}) E → Type 0
+TakesAddition {W} sink_of old new c result = (first : AdditionTaker W)
+    → IsTaken (TookAdditions sink_of first old) (TookAdditions sink_of first new) c result
 
 -- a search among items that rise by key finds the value of the item with the key, or that there is none
 abbrev pub IsFound : {K V X : Type 0} → (K → K → Ordering) → (X → K) → (X → V) → List X → K → Result ℕ ℕ → Type 0
 IsFound {K} {V} {X} R key value xs q result =
     IsTrue (is_sorted R (map (λ (x : X). (key x, value x)) xs))
-    → MatchResult result (λ i. (i < length xs) × ((d : X) → find R q (map (λ (x : X). (key x, value x)) xs) ≡ Some (value (slice_index_or xs i d)))) (λ i. find R q (map (λ (x : X). (key x, value x)) xs) ≡ None)
+    → MatchResult result (λ i. (i < length xs)
+    × ((d : X) → find R q (map (λ (x : X). (key x, value x)) xs) ≡ Some (value (slice_index_or xs i d))))
+    (λ i. find R q (map (λ (x : X). (key x, value x)) xs) ≡ None)
 
 abbrev pub IsPathPlace : List Difference → Path → Result ℕ ℕ → Type 0
 IsPathPlace paths q result = IsFound path_cmp (λ (d : Difference). d.path) (λ (d : Difference). d.mark) paths q result
 
 abbrev pub IsAttributePlace : List AttributeDifference → AttributePlace → Result ℕ ℕ → Type 0
-IsAttributePlace attributes q result = IsFound attribute_cmp (λ (a : AttributeDifference). (a.path, a.name)) (λ (a : AttributeDifference). a.side) attributes q result
+IsAttributePlace attributes q result =
+    IsFound attribute_cmp (λ (a : AttributeDifference). (a.path, a.name))
+    (λ (a : AttributeDifference). a.side) attributes q result
 
--- A text is put out in some puts, perhaps in none, of which the first that fails is the last: then a prefix of it was put out,
--- and the sink had one fault.
+-- A text is put out in some puts, perhaps in none, of which the first that fails is the last: then a prefix of it was
+-- put out, and the sink had one fault.
 pub record Puts {T E : Type 0} (old new : SinkState) (text : List ℕ) (result : Result T E) : Type 0 where
   pub observable : new.is_observable ≡ old.is_observable
   pub faults : new.faults ≡ faults_after old.faults result
@@ -142,7 +153,8 @@ unset_commands a = unset_of a.side a.path a.name
 
 -- the commands that take away and cut
 abbrev pub removal_commands : Differences → List Command
-removal_commands found = flat_map (cut_commands (marks_of found.paths.items)) found.paths.items ++ flat_map unset_commands found.attributes.items
+removal_commands found = flat_map (cut_commands (marks_of found.paths.items)) found.paths.items
+    ++ flat_map unset_commands found.attributes.items
 
 -- the command that there is, if there is one
 abbrev pub commands_in : Option declared.Command → List Command

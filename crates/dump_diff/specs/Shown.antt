@@ -1,5 +1,6 @@
 -- What the first commands of two dumps show of the differences.
-use Rattle.std.specs.Prelude.{◌≡◌, List, [], ◌∷◌, ◌++◌, map, Bool, true, false, not, Option, Some, None, IsTrue, ◌⊎◌, Result, OnOk, IfOk, MatchOption}
+use Rattle.std.specs.Prelude.{◌≡◌, List, [], ◌∷◌, ◌++◌, map, Bool, true, false, not, Option, Some, None, IsTrue, ◌⊎◌}
+use Rattle.std.specs.Prelude.{Result, OnOk, IfOk, MatchOption}
 use Rattle.std.specs.Ordering.{eq_by_cmp, is_le}
 use Rattle.std.specs.FinMap.{find, is_sorted}
 use Rattle.std.specs.List.{filter, AllByRecursion, Contains}
@@ -40,7 +41,8 @@ AreApart test cs ds = HasAlone test cs ds ⊎ HasAlone test ds cs
 
 -- one list begins with a directory, and the other with a file
 abbrev pub ShowKinds : List Command → List Command → Type 0
-ShowKinds cs ds = ((begins cs ≡ Some true) × (begins ds ≡ Some false)) ⊎ ((begins cs ≡ Some false) × (begins ds ≡ Some true))
+ShowKinds cs ds = ((begins cs ≡ Some true) × (begins ds ≡ Some false))
+    ⊎ ((begins cs ≡ Some false) × (begins ds ≡ Some true))
 
 -- both begin with a file, and a write stands in one of them alone
 pub record ShowBytes (cs ds : List Command) : Type 0 where
@@ -130,12 +132,15 @@ pub record Notes (side : Side) (c d : Command) (old new : List (Path × Mark)) :
   pub fits : FitsSide side c d mark
   pub marked : IsMarked old new (command_path (noted side c d)) mark
 
-abbrev pub IsNoted : {X E : Type 0} → Side → Command → Command → List (Path × Mark) → List (Path × Mark) → Result X E → Type 0
-IsNoted side c d old new result = IsTrue (is_sorted path_cmp old) → AreUpTo old (command_path (noted side c d)) → OnOk result (Notes side c d old new)
+abbrev pub IsNoted : {X E : Type 0} → Side → Command → Command → List (Path × Mark)
+    → List (Path × Mark) → Result X E → Type 0
+IsNoted side c d old new result = IsTrue (is_sorted path_cmp old) → AreUpTo old (command_path (noted side c d))
+    → OnOk result (Notes side c d old new)
 
 -- whether a path that is not before the others has a mark: it is the last then
 abbrev pub IsLastMark : List (Path × Mark) → Path → Option Mark → Type 0
-IsLastMark marks p result = IsTrue (is_sorted path_cmp marks) → MatchOption result (AreUpTo marks p → find path_cmp p marks ≡ None) (λ m. find path_cmp p marks ≡ Some m)
+IsLastMark marks p result = IsTrue (is_sorted path_cmp marks)
+    → MatchOption result (AreUpTo marks p → find path_cmp p marks ≡ None) (λ m. find path_cmp p marks ≡ Some m)
 
 -- ---- attributes that differ
 

@@ -1,5 +1,6 @@
 -- The attributes that differ, of paths at which two trees have a directory or a file each.
-use Rattle.std.specs.Prelude.{◌≡◌, ℕ, List, [], ◌∷◌, ◌++◌, Option, Some, None, IsSome, IsNone, IsTrue, Result, OnOk, ◌⊎◌}
+use Rattle.std.specs.Prelude.{◌≡◌, ℕ, List, [], ◌∷◌, ◌++◌, Option, Some, None, IsSome, IsNone, IsTrue, Result, OnOk}
+use Rattle.std.specs.Prelude.{◌⊎◌}
 use Rattle.std.specs.FinMap.{find, is_sorted}
 use Rattle.std.specs.List.{flat_map}
 use Rattle.store_model.specs.Paths.{Path, Name, path_cmp, name_cmp}
@@ -24,7 +25,8 @@ TellsSide (Some First) x y = IsSome x × IsNone y
 TellsSide (Some Second) x y = IsNone x × IsSome y
 TellsSide (Some Both) x y = IsSome x × IsSome y × (x ≡ y → ⊥)
 
--- the side is told where both trees have a directory, or both a file; nothing is told where one has no entry, or another kind
+-- the side is told where both trees have a directory, or both a file; nothing is told where one has no entry, or
+-- another kind
 abbrev pub FitsMark : Option Mark → Option Side → Option (List ℕ) → Option (List ℕ) → Type 0
 FitsMark None side x y = TellsSide side x y
 FitsMark (Some Bytes) side x y = TellsSide side x y
@@ -33,10 +35,13 @@ FitsMark (Some Removed) side x y = side ≡ None
 FitsMark (Some Added) side x y = side ≡ None
 FitsMark (Some Kind) side x y = side ≡ None
 
--- The sides are a map from the attributes that differ, of such paths, to the trees that have them, in the order of paths and names.
-pub record AreAttributeDifferences (t u : Tree) (marks : List (Path × Mark)) (sides : List (AttributePlace × Side)) : Type 0 where
+-- The sides are a map from the attributes that differ, of such paths, to the trees that have them, in the order of
+-- paths and names.
+pub record AreAttributeDifferences (t u : Tree) (marks : List (Path × Mark))
+    (sides : List (AttributePlace × Side)) : Type 0 where
   pub rising : IsTrue (is_sorted attribute_cmp sides)
-  pub each : (p : Path) (a : Name) → FitsMark (find path_cmp p marks) (find attribute_cmp (p, a) sides) (attribute_at t p a) (attribute_at u p a)
+  pub each : (p : Path) (a : Name) → FitsMark (find path_cmp p marks) (find attribute_cmp (p, a) sides)
+      (attribute_at t p a) (attribute_at u p a)
 
 -- ---- what commands show of them
 
@@ -52,7 +57,8 @@ set_in a commands = find name_cmp a (flat_map attributes_in commands)
 -- the sides are what the first commands of two dumps show
 abbrev pub SidesShown : List Command → List Command → List (Path × Mark) → List (AttributePlace × Side) → Type 0
 SidesShown first second marks sides =
-    (p : Path) (a : Name) → FitsMark (find path_cmp p marks) (find attribute_cmp (p, a) sides) (set_in a (own p first)) (set_in a (own p second))
+    (p : Path) (a : Name) → FitsMark (find path_cmp p marks) (find attribute_cmp (p, a) sides) (set_in a (own p first))
+    (set_in a (own p second))
 
 -- an attribute is noted behind others, at a path that is marked so
 abbrev pub with_attribute : List AttributeDifference → Mark → Side → Path → Name → List AttributeDifference
@@ -67,18 +73,23 @@ with_noted held mark side (SetAttribute p a bytes) = with_attribute held mark si
 with_noted held mark side _ = held
 
 -- the attribute of a command is noted, at a path that has a mark by now
-pub record NotesAttribute (side : Side) (c : Command) (marks : List (Path × Mark)) (old new : List AttributeDifference) : Type 0 where
+pub record NotesAttribute (side : Side) (c : Command) (marks : List (Path × Mark))
+    (old new : List AttributeDifference) : Type 0 where
   pub known : Mark
   pub known_is : find path_cmp (command_path c) marks ≡ Some known
   pub noted_is : new ≡ with_noted old known side c
 
-abbrev pub IsAttributeNoted : {X E : Type 0} → Side → Command → List (Path × Mark) → List (Path × Mark) → List AttributeDifference → List AttributeDifference → Result X E → Type 0
-IsAttributeNoted side c marks later old new result = IsTrue (is_sorted path_cmp marks) → AreUpTo marks (command_path c) → OnOk result (NotesAttribute side c later old new)
+abbrev pub IsAttributeNoted : {X E : Type 0} → Side → Command → List (Path × Mark) → List (Path × Mark)
+    → List AttributeDifference → List AttributeDifference → Result X E → Type 0
+IsAttributeNoted side c marks later old new result = IsTrue (is_sorted path_cmp marks) → AreUpTo marks (command_path c)
+    → OnOk result (NotesAttribute side c later old new)
 
 -- two commands at one place are the same, and nothing is noted, or they are not, and it is noted
 abbrev pub IsJudged : Command → Command → Differences → Differences → Type 0
 IsJudged c d old new = ((c ≡ d) × (new ≡ old))
-    ⊎ ((c ≡ d → ⊥) × Notes Both c d (marks_of old.paths.items) (marks_of new.paths.items) × NotesAttribute Both c (marks_of new.paths.items) old.attributes.items new.attributes.items)
+    ⊎ ((c ≡ d → ⊥) × Notes Both c d (marks_of old.paths.items) (marks_of new.paths.items)
+    × NotesAttribute Both c (marks_of new.paths.items) old.attributes.items new.attributes.items)
 
 abbrev pub Judges : {X E : Type 0} → Command → Command → Differences → Differences → Result X E → Type 0
-Judges c d old new result = IsPlaceOfBoth c d → IsTrue (is_sorted path_cmp (marks_of old.paths.items)) → AreUpTo (marks_of old.paths.items) (command_path c) → OnOk result (IsJudged c d old new)
+Judges c d old new result = IsPlaceOfBoth c d → IsTrue (is_sorted path_cmp (marks_of old.paths.items))
+    → AreUpTo (marks_of old.paths.items) (command_path c) → OnOk result (IsJudged c d old new)

@@ -53,11 +53,17 @@ impl Merge {
     /// Takes a command that the first dump has alone.
     fn take_first<A: DumpStream>(&mut self, first: &mut A) -> Result<(), CompareFault>
         requires there { self.old.first.is_there ≡ true }
-        requires lower { self.old.second.is_there ≡ true → place_cmp (command_of self.old.first.command) (command_of self.old.second.command) ≡ Less }
+        requires lower { self.old.second.is_there ≡ true
+            → place_cmp (command_of self.old.first.command) (command_of self.old.second.command)
+            ≡ Less }
         ensures second { self.new.second ≡ self.old.second }
         ensures ahead { (t : Tree) → IsAhead (A.came first.old) (A.whole first.old) self.old.first t
-            → OnOk result (IsAhead (A.came first.new) (A.whole first.new) self.new.first (next_tree t (command_of self.old.first.command))) }
-        ensures merged { (t u : Tree) → IsAhead (A.came first.old) (A.whole first.old) self.old.first t → IsMerged self.old t u
+            → OnOk result (IsAhead (A.came first.new)
+            (A.whole first.new) self.new.first
+            (next_tree t (command_of self.old.first.command))) }
+        ensures merged { (t u : Tree)
+            → IsAhead (A.came first.old) (A.whole first.old) self.old.first t
+            → IsMerged self.old t u
             → OnOk result (IsMerged self.new (next_tree t (command_of self.old.first.command)) u) }
         ensures keeps { (start : A) → A.keeps start first.old → A.keeps start first.new }
     {
@@ -69,11 +75,18 @@ impl Merge {
     /// Takes a command that the second dump has alone.
     fn take_second<B: DumpStream>(&mut self, second: &mut B) -> Result<(), CompareFault>
         requires there { self.old.second.is_there ≡ true }
-        requires lower { self.old.first.is_there ≡ true → place_cmp (command_of self.old.second.command) (command_of self.old.first.command) ≡ Less }
+        requires lower { self.old.first.is_there ≡ true
+            → place_cmp (command_of self.old.second.command) (command_of self.old.first.command)
+            ≡ Less }
         ensures first { self.new.first ≡ self.old.first }
-        ensures ahead { (u : Tree) → IsAhead (B.came second.old) (B.whole second.old) self.old.second u
-            → OnOk result (IsAhead (B.came second.new) (B.whole second.new) self.new.second (next_tree u (command_of self.old.second.command))) }
-        ensures merged { (t u : Tree) → IsAhead (B.came second.old) (B.whole second.old) self.old.second u → IsMerged self.old t u
+        ensures ahead { (u : Tree)
+            → IsAhead (B.came second.old) (B.whole second.old) self.old.second u
+            → OnOk result (IsAhead (B.came second.new)
+            (B.whole second.new) self.new.second
+            (next_tree u (command_of self.old.second.command))) }
+        ensures merged { (t u : Tree)
+            → IsAhead (B.came second.old) (B.whole second.old) self.old.second u
+            → IsMerged self.old t u
             → OnOk result (IsMerged self.new t (next_tree u (command_of self.old.second.command))) }
         ensures keeps { (start : B) → B.keeps start second.old → B.keeps start second.new }
     {
@@ -86,7 +99,8 @@ impl Merge {
     fn judge(&mut self) -> Result<(), CompareFault>
         ensures first { self.new.first ≡ self.old.first }
         ensures second { self.new.second ≡ self.old.second }
-        ensures judged { Judges (command_of self.old.first.command) (command_of self.old.second.command) self.old.found self.new.found result }
+        ensures judged { Judges (command_of self.old.first.command)
+            (command_of self.old.second.command) self.old.found self.new.found result }
     {
         if same(&self.first.command, &self.second.command) {
             return Ok(());
@@ -104,9 +118,12 @@ impl Merge {
     ) -> Result<(), CompareFault>
         requires first_there { self.old.first.is_there ≡ true }
         requires second_there { self.old.second.is_there ≡ true }
-        requires tied { place_cmp (command_of self.old.first.command) (command_of self.old.second.command) ≡ Equal }
-        ensures between { IsBetweenSome (A.came first.old) (A.whole first.old) (B.came second.old) (B.whole second.old) self.old
-            → OnOk result (IsBetweenSome (A.came first.new) (A.whole first.new) (B.came second.new) (B.whole second.new) self.new) }
+        requires tied { place_cmp (command_of self.old.first.command)
+            (command_of self.old.second.command) ≡ Equal }
+        ensures between { IsBetweenSome (A.came first.old) (A.whole first.old) (B.came second.old)
+            (B.whole second.old) self.old
+            → OnOk result (IsBetweenSome (A.came first.new) (A.whole first.new) (B.came second.new)
+            (B.whole second.new) self.new) }
         ensures keeps_first { (start : A) → A.keeps start first.old → A.keeps start first.new }
         ensures keeps_second { (start : B) → B.keeps start second.old → B.keeps start second.new }
     {
@@ -121,10 +138,16 @@ impl Merge {
         first: &mut A,
         second: &mut B,
     ) -> Result<bool, CompareFault>
-        ensures more { IsBetweenSome (A.came first.old) (A.whole first.old) (B.came second.old) (B.whole second.old) self.old
-            → IfOk result (λ more. OnTrue more (IsBetweenSome (A.came first.new) (A.whole first.new) (B.came second.new) (B.whole second.new) self.new)) }
-        ensures whole { IsBetweenSome (A.came first.old) (A.whole first.old) (B.came second.old) (B.whole second.old) self.old
-            → IfOk result (λ more. OnFalse more (AreFound (A.whole first.new) (B.whole second.new) self.new.found)) }
+        ensures more { IsBetweenSome (A.came first.old) (A.whole first.old) (B.came second.old)
+            (B.whole second.old) self.old
+            → IfOk result
+            (λ more. OnTrue more
+            (IsBetweenSome (A.came first.new) (A.whole first.new) (B.came second.new)
+            (B.whole second.new) self.new)) }
+        ensures whole { IsBetweenSome (A.came first.old) (A.whole first.old) (B.came second.old)
+            (B.whole second.old) self.old
+            → IfOk result (λ more. OnFalse more
+            (AreFound (A.whole first.new) (B.whole second.new) self.new.found)) }
         ensures keeps_first { (start : A) → A.keeps start first.old → A.keeps start first.new }
         ensures keeps_second { (start : B) → B.keeps start second.old → B.keeps start second.new }
     {

@@ -62,7 +62,8 @@ impl Differences {
 
     /// How the trees differ at a path; nothing where they do not.
     pub fn mark_at(&self, path: &Path) -> Option<Mark>
-        ensures { IsTrue (is_sorted path_cmp (marks_of self.now.paths.items)) → result ≡ find path_cmp path.now (marks_of self.now.paths.items) }
+        ensures { IsTrue (is_sorted path_cmp (marks_of self.now.paths.items))
+            → result ≡ find path_cmp path.now (marks_of self.now.paths.items) }
     {
         match place_of(self.paths.as_slice(), path) {
             Ok(at) => Some(self.paths[at].mark),
@@ -72,7 +73,9 @@ impl Differences {
 
     /// Which tree has an attribute that differs; nothing where it does not.
     pub fn side_of(&self, path: &Path, name: &AttrName) -> Option<Side>
-        ensures { IsTrue (is_sorted attribute_cmp (sides_of self.now.attributes.items)) → result ≡ find attribute_cmp (path.now, name.now) (sides_of self.now.attributes.items) }
+        ensures { IsTrue (is_sorted attribute_cmp (sides_of self.now.attributes.items))
+            → result ≡ find attribute_cmp (path.now, name.now)
+            (sides_of self.now.attributes.items) }
     {
         match attribute_place(self.attributes.as_slice(), path, name) {
             Ok(at) => Some(self.attributes[at].side),
@@ -88,8 +91,12 @@ impl Differences {
         first: &Command,
         second: &Command,
     ) -> Result<(), NoMemory>
-        ensures marks { IsNoted side (command_of first.now) (command_of second.now) (marks_of self.old.paths.items) (marks_of self.new.paths.items) result }
-        ensures attributes { IsAttributeNoted side (noted side (command_of first.now) (command_of second.now)) (marks_of self.old.paths.items) (marks_of self.new.paths.items) self.old.attributes.items self.new.attributes.items result }
+        ensures marks { IsNoted side (command_of first.now) (command_of second.now)
+            (marks_of self.old.paths.items) (marks_of self.new.paths.items) result }
+        ensures attributes { IsAttributeNoted side
+            (noted side (command_of first.now) (command_of second.now))
+            (marks_of self.old.paths.items) (marks_of self.new.paths.items)
+            self.old.attributes.items self.new.attributes.items result }
     {
         let command = noted_of(side, first, second);
         let mark = self.mark(path_of(command), mark_of(side, first, second))?;
@@ -101,7 +108,8 @@ impl Differences {
 
     /// Notes how the trees differ at the path that comes next, unless that is known; and tells how they differ.
     fn mark(&mut self, path: Path, mark: Mark) -> Result<Mark, NoMemory>
-        ensures marks { Marks (marks_of self.old.paths.items) (marks_of self.new.paths.items) path mark result }
+        ensures marks { Marks (marks_of self.old.paths.items)
+            (marks_of self.new.paths.items) path mark result }
         ensures attributes { self.new.attributes ≡ self.old.attributes }
     {
         match self.last_mark(&path) {
@@ -134,7 +142,9 @@ impl Differences {
         side: Side,
     ) -> Result<(), NoMemory>
         ensures paths { self.new.paths ≡ self.old.paths }
-        ensures attributes { OnOk result (self.new.attributes.items ≡ with_attribute self.old.attributes.items mark side path.now name.now) }
+        ensures attributes { OnOk result
+            (self.new.attributes.items
+            ≡ with_attribute self.old.attributes.items mark side path.now name.now) }
     {
         if mark == Mark::Bytes || mark == Mark::Attributes {
             self.attributes.push(AttributeDifference {
@@ -170,7 +180,8 @@ fn attribute_place(
 {
     attributes.binary_search_by(
         |attribute: &AttributeDifference| -> Ordering
-            ensures { result ≡ attribute_cmp (attribute.now.path, attribute.now.name) (path.entry.now, name.entry.now) }
+            ensures { result ≡ attribute_cmp (attribute.now.path, attribute.now.name)
+                (path.entry.now, name.entry.now) }
         {
             attribute
                 .path
@@ -205,7 +216,8 @@ fn mark_of(side: Side, first: &Command, second: &Command) -> Mark
 /// The same for a command that one dump has alone: with the first one of an entry the other tree has no entry there.
 fn mark_of_one(command: &Command, alone: Mark) -> Mark
     ensures first { is_first (command_of command.now) ≡ true → result ≡ alone }
-    ensures later { is_listed (command_of command.now) ≡ true → is_first (command_of command.now) ≡ false → result ≡ change_of (command_of command.now) }
+    ensures later { is_listed (command_of command.now) ≡ true
+        → is_first (command_of command.now) ≡ false → result ≡ change_of (command_of command.now) }
 {
     match command {
         Command::Set(_, _, _) => Mark::Attributes,

@@ -27,7 +27,8 @@ impl Head {
 
     /// Takes the next command of the stream.
     pub fn fetch<S: DumpStream>(&mut self, stream: &mut S) -> Result<(), StreamFault>
-        ensures ahead { (t : Tree) → IsTree t → S.came stream.old t → OnOk result (IsAhead (S.came stream.new) (S.whole stream.new) self.new t) }
+        ensures ahead { (t : Tree) → IsTree t → S.came stream.old t
+            → OnOk result (IsAhead (S.came stream.new) (S.whole stream.new) self.new t) }
         ensures keeps { (start : S) → S.keeps start stream.old → S.keeps start stream.new }
     {
         self.is_there = stream.next(&mut self.command)?;

@@ -17,7 +17,8 @@ use script_lines::{MAX_TEXT, Sink, SinkFault, Text};
 /// the second has, and `M PATH` where both have and the entries differ.
 /// `SinkFault`: a put failed, and no other was made after it. A prefix of the lines may have been written.
 pub fn write_differences<W: Sink>(found: &Differences, sink: &mut W) -> Result<(), SinkFault>
-    ensures { Puts (W.state sink.old) (W.state sink.new) (flat_map difference_line found.now.paths.items) result }
+    ensures { Puts (W.state sink.old) (W.state sink.new)
+        (flat_map difference_line found.now.paths.items) result }
 {
     for difference in found.paths() {
         write_difference(difference, sink)?;

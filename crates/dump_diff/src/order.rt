@@ -62,7 +62,8 @@ fn same_bytes(one: &Bytes, other: &Bytes) -> bool
 
 /// Whether two commands at one place of dumps are the same.
 pub fn same(one: &Command, other: &Command) -> bool
-    ensures { IsPlaceOfBoth (command_of one.now) (command_of other.now) → IsTrue result ↔ (command_of one.now ≡ command_of other.now) }
+    ensures { IsPlaceOfBoth (command_of one.now) (command_of other.now) → IsTrue result
+        ↔ (command_of one.now ≡ command_of other.now) }
 {
     match (one, other) {
         (Command::Make(_), Command::Make(_)) => true,

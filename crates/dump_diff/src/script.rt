@@ -24,7 +24,9 @@ use script_lines::{Command, Sink, SinkFault, write_command};
 /// bytes differ; and then `unset` for each attribute that is gone or has other bytes.
 /// `SinkFault`: a put failed, and no other was made after it. A prefix of the lines may have been written.
 pub fn write_removals<W: Sink>(found: &Differences, sink: &mut W) -> Result<(), SinkFault>
-    ensures { AreRising found.now → Puts (W.state sink.old) (W.state sink.new) (commands_text (model.removal_commands found.now)) result }
+    ensures { AreRising found.now
+        → Puts (W.state sink.old) (W.state sink.new)
+        (commands_text (model.removal_commands found.now)) result }
 {
     write_cuts(found, sink)?;
     write_unsets(found.attributes(), sink)
@@ -32,7 +34,10 @@ pub fn write_removals<W: Sink>(found: &Differences, sink: &mut W) -> Result<(), 
 
 /// Writes the lines that prune and cut.
 fn write_cuts<W: Sink>(found: &Differences, sink: &mut W) -> Result<(), SinkFault>
-    ensures { AreRising found.now → Puts (W.state sink.old) (W.state sink.new) (commands_text (flat_map (model.cut_commands (marks_of found.now.paths.items)) found.now.paths.items)) result }
+    ensures { AreRising found.now
+        → Puts (W.state sink.old) (W.state sink.new)
+        (commands_text (flat_map (model.cut_commands (marks_of found.now.paths.items))
+        found.now.paths.items)) result }
 {
     for difference in found.paths() {
         write_if(&cut_of(found, difference), sink)?;
@@ -42,7 +47,8 @@ fn write_cuts<W: Sink>(found: &Differences, sink: &mut W) -> Result<(), SinkFaul
 
 /// Writes the lines that take attributes away.
 fn write_unsets<W: Sink>(attributes: &[AttributeDifference], sink: &mut W) -> Result<(), SinkFault>
-    ensures { Puts (W.state sink.old) (W.state sink.new) (commands_text (flat_map model.unset_commands attributes.now)) result }
+    ensures { Puts (W.state sink.old) (W.state sink.new)
+        (commands_text (flat_map model.unset_commands attributes.now)) result }
 {
     for attribute in attributes {
         write_if(&unset_of(attribute), sink)?;
@@ -52,7 +58,8 @@ fn write_unsets<W: Sink>(attributes: &[AttributeDifference], sink: &mut W) -> Re
 
 /// Writes the line of a command, if there is one.
 fn write_if<W: Sink>(command: &Option<Command>, sink: &mut W) -> Result<(), SinkFault>
-    ensures { Puts (W.state sink.old) (W.state sink.new) (commands_text (model.commands_in command.now)) result }
+    ensures { Puts (W.state sink.old) (W.state sink.new)
+        (commands_text (model.commands_in command.now)) result }
 {
     match command {
         Some(command) => write_command(sink, command),
@@ -62,7 +69,8 @@ fn write_if<W: Sink>(command: &Option<Command>, sink: &mut W) -> Result<(), Sink
 
 /// The command that prunes or cuts what stands at a path, if it is to be pruned or cut.
 fn cut_of(found: &Differences, difference: &Difference) -> Option<Command>
-    ensures { AreRising found.now → model.commands_in result ≡ model.cut_commands (marks_of found.now.paths.items) difference.now }
+    ensures { AreRising found.now → model.commands_in result
+        ≡ model.cut_commands (marks_of found.now.paths.items) difference.now }
 {
     match difference.mark {
         Mark::Removed | Mark::Kind => prune_of(found, &difference.path),
@@ -73,7 +81,10 @@ fn cut_of(found: &Differences, difference: &Difference) -> Option<Command>
 
 /// The command that prunes a path, unless its parent is pruned.
 fn prune_of(found: &Differences, path: &Path) -> Option<Command>
-    ensures { AreRising found.now → model.commands_in result ≡ model.cut_of (model.is_pruned (find path_cmp (parent path.now) (marks_of found.now.paths.items))) marks.Removed path.now }
+    ensures { AreRising found.now → model.commands_in result
+        ≡ model.cut_of
+        (model.is_pruned (find path_cmp (parent path.now) (marks_of found.now.paths.items)))
+        marks.Removed path.now }
 {
     let above = path.parent().unwrap_or(*path);
     if is_pruned(found.mark_at(&above)) {
@@ -131,9 +142,14 @@ impl<W: Sink> Taker for AdditionTaker<W> {
     /// `Failed`: the put of its line failed, and a prefix of it may have been written.
     fn take(&mut self, command: &Command) -> Result<(), TakerFault>
         ensures taken { TakesAddition W.state self.old self.new (command_of command.now) result }
-        ensures passed { AreRising self.old.found → model.is_addition self.old.found (command_of command.now) ≡ false → (self.new ≡ self.old) × (result ≡ Ok tt) }
-        ensures put { AreRising self.old.found → model.is_addition self.old.found (command_of command.now) ≡ true
-            → (self.new.found ≡ self.old.found) × IsPut (W.state self.old.sink) (W.state self.new.sink) (line (command_text (command_of command.now))) result }
+        ensures passed { AreRising self.old.found
+            → model.is_addition self.old.found (command_of command.now) ≡ false
+            → (self.new ≡ self.old) × (result ≡ Ok tt) }
+        ensures put { AreRising self.old.found
+            → model.is_addition self.old.found (command_of command.now) ≡ true
+            → (self.new.found ≡ self.old.found)
+            × IsPut (W.state self.old.sink) (W.state self.new.sink)
+            (line (command_text (command_of command.now))) result }
     {
         if !is_addition(&self.found, command) {
             return Ok(());

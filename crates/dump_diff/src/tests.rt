@@ -1,5 +1,5 @@
-//! Pairs of listings written by hand, with their differences and the script from one to the other; and streams and a sink
-//! that fail.
+//! Pairs of listings written by hand, with their differences and the script from one to the other; and streams and a
+//! sink that fail.
 
 use crate::{AdditionTaker, CompareFault, Differences, compare, write_differences, write_removals};
 use dump_streams::{DrainFault, ListingStream, StreamFault, TakerFault, drain};

@@ -1,5 +1,6 @@
 -- What is known of a stream of a listing between two of its lines, and what each line leaves.
-use Rattle.std.proofs.Common.{◌≡◌, ℕ, ◌+◌, ◌-◌, ◌^◌, ◌≤◌, true, false, List, [], ◌∷◌, ◌++◌, map, length, Result, Ok, refl, sym, ap, subst, ◌∙◌, arith}
+use Rattle.std.proofs.Common.{◌≡◌, ℕ, ◌+◌, ◌-◌, ◌^◌, ◌≤◌, true, false, List, [], ◌∷◌, ◌++◌, map, length, Result, Ok}
+use Rattle.std.proofs.Common.{refl, sym, ap, subst, ◌∙◌, arith}
 use Rattle.std.proofs.Math.Nat.{min-eq_left}
 use Rattle.std.proofs.lemmas.List.{append-nil, append_assoc, map-append, length-append}
 use Rattle.store_base.specs.Counts.{raised}
@@ -44,7 +45,8 @@ record BeginsWith (cs ds : List Command) (next : Result Command Refusal) : Type 
   pub next_is : next ≡ Ok command
   pub split : ds ≡ cs ++ command ∷ rest
 
-begins_with : (cs ds : List Command) (next : Result Command Refusal) (behind : List (Result Command Refusal)) → map Ok cs ++ next ∷ behind ≡ map Ok ds → BeginsWith cs ds next
+begins_with : (cs ds : List Command) (next : Result Command Refusal) (behind : List (Result Command Refusal))
+    → map Ok cs ++ next ∷ behind ≡ map Ok ds → BeginsWith cs ds next
 begins_with [] [] next behind e = absurd (cc)
 begins_with [] (d ∷ ds) next behind e = record { command = d; rest = ds; next_is = cc; split = refl }
 begins_with (c ∷ cs) [] next behind e = absurd (cc)
@@ -52,10 +54,17 @@ begins_with (c ∷ cs) (d ∷ ds) next behind e =
     let tail : map Ok cs ++ next ∷ behind ≡ map Ok ds = cc in
     let head : d ≡ c = cc in
     let there = begins_with cs ds next behind tail in
-    record { command = there.command; rest = there.rest; next_is = there.next_is; split = ap (λ x. x ∷ ds) head ∙ ap (λ xs. c ∷ xs) there.split }
+    record {
+      command = there.command;
+      rest = there.rest;
+      next_is = there.next_is;
+      split = ap (λ x. x ∷ ds) head ∙ ap (λ xs. c ∷ xs) there.split;
+    }
 
 -- the commands of the lines so far and one more
-texts_more : (t : Tree) (c : Command) (texts : List (List ℕ)) (text : List ℕ) → map reading texts ≡ map Ok (dump t) → reading text ≡ Ok c → dump (next_tree t c) ≡ dump t ++ c ∷ [] → map reading (texts ++ text ∷ []) ≡ map Ok (dump (next_tree t c))
+texts_more : (t : Tree) (c : Command) (texts : List (List ℕ)) (text : List ℕ) → map reading texts ≡ map Ok (dump t)
+    → reading text ≡ Ok c → dump (next_tree t c) ≡ dump t ++ c ∷ []
+    → map reading (texts ++ text ∷ []) ≡ map Ok (dump (next_tree t c))
 texts_more t c texts text before is more =
     map-append reading texts (text ∷ [])
     ∙ ap (λ xs. xs ++ reading text ∷ []) before
@@ -64,12 +73,15 @@ texts_more t c texts text before is more =
     ∙ ap (map Ok) (sym more)
 
 -- no listing begins with lines of which the last is bad
-none_by : (t : Tree) (texts : List (List ℕ)) (text : List ℕ) (script : List ℕ) (rest : List (List ℕ)) → map reading texts ≡ map Ok (dump t) → lines script ≡ (texts ++ text ∷ []) ++ rest
-    → ((c : Command) → reading text ≡ Ok c → BreaksOff t c any_parameters) → (u : Tree) → IsTree u → map reading (lines script) ≡ map Ok (dump u) → ⊥
+none_by : (t : Tree) (texts : List (List ℕ)) (text : List ℕ) (script : List ℕ) (rest : List (List ℕ))
+    → map reading texts ≡ map Ok (dump t) → lines script ≡ (texts ++ text ∷ []) ++ rest
+    → ((c : Command) → reading text ≡ Ok c → BreaksOff t c any_parameters) → (u : Tree) → IsTree u
+    → map reading (lines script) ≡ map Ok (dump u) → ⊥
 unfolding any_parameters
 none_by t texts text script rest before split bad u is e =
     let there = begins_with (dump t) (dump u) (reading text) (map reading rest)
-    (ap (λ xs. xs ++ reading text ∷ map reading rest) (sym before) ∙ sym (map-append reading texts (text ∷ rest)) ∙ ap (map reading) (sym (append_assoc texts (text ∷ []) rest) ∙ sym split) ∙ e) in
+    (ap (λ xs. xs ++ reading text ∷ map reading rest) (sym before) ∙ sym (map-append reading texts (text ∷ rest))
+    ∙ ap (map reading) (sym (append_assoc texts (text ∷ []) rest) ∙ sym split) ∙ e) in
     bad there.command there.next_is u there.rest (under_two u any_parameters refl is) there.split
 
 -- before the first line
@@ -80,7 +92,8 @@ dump_none = refl
 -- ---- before the first line
 
 module _ {R : Type 0} (source_of : R → SourceState) where
-  pub came_none : (stream : ListingStream R) → stream.lines ≡ fresh_lines stream.first.value script_limit → stream.count ≡ 0 → stream.reader.version ≡ Two
+  pub came_none : (stream : ListingStream R) → stream.lines ≡ fresh_lines stream.first.value script_limit
+      → stream.count ≡ 0 → stream.reader.version ≡ Two
       → ((p : Parameters) → p.version ≡ Two → HasRead stream.reader empty_tree p) → CameOf source_of stream empty_tree
   unfolding dump
   came_none stream new none version read = record {
@@ -95,7 +108,9 @@ module _ {R : Type 0} (source_of : R → SourceState) where
     faults = ap (λ (l : LineState R). (source_of l.source).faults) new;
     commands = λ told. record {
       texts = [];
-      answers = subst (λ (l : LineState R). Answers source_of (fresh_lines stream.first.value stream.lines.limit) l []) (ap (fresh_lines stream.first.value) (ap (λ (l : LineState R). l.limit) new) ∙ sym new) (Answers-refl source_of (fresh_lines stream.first.value stream.lines.limit));
+      answers = subst (λ (l : LineState R). Answers source_of (fresh_lines stream.first.value stream.lines.limit) l [])
+          (ap (fresh_lines stream.first.value) (ap (λ (l : LineState R). l.limit) new) ∙ sym new)
+          (Answers-refl source_of (fresh_lines stream.first.value stream.lines.limit));
       texts_are = refl;
     };
   }
@@ -107,25 +122,33 @@ module _ {R : Type 0} (source_of : R → SourceState) where
     told o = before.observable ∙ o
 
     -- the lines of the script are those that came and those that are to come
-    lines_split : (o : IsObservable (source_of old.first.value)) → lines (left source_of (fresh_lines old.first.value old.lines.limit)) ≡ (before.commands o).texts ++ lines (to_come source_of old.lines)
+    lines_split : (o : IsObservable (source_of old.first.value))
+        → lines (left source_of (fresh_lines old.first.value old.lines.limit)) ≡ (before.commands o).texts
+        ++ lines (to_come source_of old.lines)
     lines_split o = (before.commands o).answers.lines
 
     -- a line that no dump goes on with
-    none_at : (text : List ℕ) → (IsObservable (source_of old.lines.source) → Answers source_of old.lines next (text ∷ [])) → ((c : Command) → reading text ≡ Ok c → BreaksOff t c any_parameters) → IsNoListing (source_of old.first.value)
+    none_at : (text : List ℕ) → (IsObservable (source_of old.lines.source)
+        → Answers source_of old.lines next (text ∷ []))
+        → ((c : Command) → reading text ≡ Ok c → BreaksOff t c any_parameters) → IsNoListing (source_of old.first.value)
     none_at text answered bad o u is e =
         let came = before.commands o in
         none_by t came.texts text (source_of old.first.value).left (lines (to_come source_of next)) came.texts_are
-        (lines_split o ∙ ap (λ xs. came.texts ++ xs) (answered (told o)).lines ∙ sym (append_assoc came.texts (text ∷ []) (lines (to_come source_of next)))) bad u is e
+        (lines_split o ∙ ap (λ xs. came.texts ++ xs) (answered (told o)).lines
+        ∙ sym (append_assoc came.texts (text ∷ []) (lines (to_come source_of next)))) bad u is e
 
     -- the end of the source
-    pub at_end : KeepsSource {T = Line} (source_of old.lines.source) (source_of next.source) (Ok answers.End) → (IsObservable (source_of old.lines.source) → NextLine source_of old.lines next (Ok answers.End)) → IsListed source_of (record old { lines = next }) t
+    pub at_end : KeepsSource {T = Line} (source_of old.lines.source) (source_of next.source) (Ok answers.End)
+        → (IsObservable (source_of old.lines.source) → NextLine source_of old.lines next (Ok answers.End))
+        → IsListed source_of (record old { lines = next }) t
     unfolding any_parameters
     at_end source line = record {
       is_tree = (before.read any_parameters refl).under.is_tree;
       listing = λ o.
           let came = before.commands o in
           let last = line (told o) in
-          ap (map reading) (lines_split o ∙ ap (λ xs. came.texts ++ xs) (last.0.lines ∙ ap lines last.1 ∙ lines-none) ∙ append-nil came.texts) ∙ came.texts_are;
+          ap (map reading) (lines_split o ∙ ap (λ xs. came.texts ++ xs) (last.0.lines ∙ ap lines last.1 ∙ lines-none)
+          ∙ append-nil came.texts) ∙ came.texts_are;
       faults = source.faults ∙ before.faults;
       count_is = before.count_is;
     }
@@ -133,22 +156,34 @@ module _ {R : Type 0} (source_of : R → SourceState) where
     module _ (count : ℕ) (raised_is : count ≡ raised old.count) where
       -- one more is counted
       count_more : (old.count + 1 ≤ script_limit) → count ≡ length (dump t) + 1
-      count_more few = let limit : script_limit ≤ 2 ^ 64 - 1 = omega arith in raised_is ∙ min-eq_left (omega (arith, few, limit)) ∙ ap (λ n. n + 1) before.count_is
+      count_more few = let limit : script_limit ≤ 2 ^ 64 - 1 = omega arith
+          in raised_is ∙ min-eq_left (omega (arith, few, limit)) ∙ ap (λ n. n + 1) before.count_is
 
       -- a line that is too long
-      pub at_long : EndsCall old.lines next (Ok answers.Long) → (IsObservable (source_of old.lines.source) → NextLine source_of old.lines next (Ok answers.Long)) → (count ≡ length (dump t) + 1) × IsNoListing (source_of old.first.value)
+      pub at_long : EndsCall old.lines next (Ok answers.Long)
+          → (IsObservable (source_of old.lines.source) → NextLine source_of old.lines next (Ok answers.Long))
+          → (count ≡ length (dump t) + 1) × IsNoListing (source_of old.first.value)
       at_long ends line = (
         count_more (omega (arith, before.few, ends.falls)),
-        λ o. let long = line (told o) in none_at long.0 (λ told. long.2) (λ c is. absurd (let e = reading_long long.0 long.1 in cc)) o,
+        λ o. let long = line (told o)
+            in none_at long.0 (λ told. long.2) (λ c is. absurd (let e = reading_long long.0 long.1 in cc)) o,
       )
 
       -- a text
-      module _ (ends : EndsCall old.lines next (Ok answers.Text)) (line : IsObservable (source_of old.lines.source) → NextLine source_of old.lines next (Ok answers.Text)) (reader : ListingReader) (c : Command) where
-        pub at_bad : TakesText old.reader reader next.text c false → (count ≡ length (dump t) + 1) × IsNoListing (source_of old.first.value)
+      module _ (ends : EndsCall old.lines next (Ok answers.Text))
+          (line : IsObservable (source_of old.lines.source) → NextLine source_of old.lines next (Ok answers.Text))
+          (reader : ListingReader) (c : Command) where
+        pub at_bad : TakesText old.reader reader next.text c false
+            → (count ≡ length (dump t) + 1) × IsNoListing (source_of old.first.value)
         unfolding any_parameters
-        at_bad takes = (count_more (omega (arith, before.few, ends.falls)), none_at next.text line (takes.refused t any_parameters (before.read any_parameters refl)))
+        at_bad takes = (
+          count_more (omega (arith, before.few, ends.falls)),
+          none_at next.text line
+              (takes.refused t any_parameters (before.read any_parameters refl)),
+        )
 
-        module _ (source : KeepsSource {T = Line} (source_of old.lines.source) (source_of next.source) (Ok answers.Text)) (takes : TakesText old.reader reader next.text c true) where
+        module _ (source : KeepsSource {T = Line} (source_of old.lines.source) (source_of next.source)
+            (Ok answers.Text)) (takes : TakesText old.reader reader next.text c true) where
           goes : GoesOn t c any_parameters
           unfolding any_parameters
           goes = takes.goes_on t any_parameters (before.read any_parameters refl)
@@ -170,8 +205,11 @@ module _ {R : Type 0} (source_of : R → SourceState) where
                     let came = before.commands o in
                     record {
                       texts = came.texts ++ next.text ∷ [];
-                      answers = subst (λ (limit : ℕ). Answers source_of (fresh_lines old.first.value limit) next (came.texts ++ next.text ∷ [])) (sym ends.limit)
-                          (Answers-trans source_of (fresh_lines old.first.value old.lines.limit) old.lines next came.texts (next.text ∷ []) came.answers (line (told o)));
+                      answers =
+                          subst (λ (limit : ℕ). Answers source_of (fresh_lines old.first.value limit) next
+                          (came.texts ++ next.text ∷ [])) (sym ends.limit)
+                          (Answers-trans source_of (fresh_lines old.first.value old.lines.limit) old.lines next
+                          came.texts (next.text ∷ []) came.answers (line (told o)));
                       texts_are = texts_more t c came.texts next.text came.texts_are takes.command goes.dump_is;
                     };
               }

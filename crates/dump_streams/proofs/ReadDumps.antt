@@ -32,25 +32,33 @@ one_dump : (t u : Tree) (script : List ℕ) → IsListing t script → IsListing
 one_dump t u script is other = same_read (dump t) (dump u) (sym is ∙ other)
 
 module _ {R T : Type 0} (source_of : R → SourceState) (took : T → T → List Command → Type 0) where
-  pub listing_taken : (old new : ListingStream R) (first taker : T) (result : Result (Unit {0}) DrainFault) → new.first ≡ old.first
-      → Drains (CameOf source_of) (IsListed source_of) (EndsBy source_of) took old new first taker result → TakesListing source_of took old first taker result
+  pub listing_taken : (old new : ListingStream R) (first taker : T) (result : Result (Unit {0}) DrainFault)
+      → new.first ≡ old.first
+      → Drains (CameOf source_of) (IsListed source_of) (EndsBy source_of) took old new first taker result
+      → TakesListing source_of took old first taker result
   listing_taken old new first taker (Ok done) same drains t came none has =
       let all = drains came none in
       let here : HasListing (source_of new.first.value) t = subst (λ (s : R). HasListing (source_of s) t) (cc) has in
-      subst (λ (commands : List Command). took first taker commands) (one_dump all.tree t (source_of new.first.value).left ((all.whole_is).listing here.observable) here.listing) all.took_is
+      subst (λ (commands : List Command). took first taker commands)
+      (one_dump all.tree t (source_of new.first.value).left ((all.whole_is).listing here.observable) here.listing)
+      all.took_is
   listing_taken old new first taker (Err (drains.Taker fault)) same drains t came none has = tt
   listing_taken old new first taker (Err (drains.Stream streams.Unreadable)) same drains t came none has = tt
   listing_taken old new first taker (Err (drains.Stream streams.TooLong)) same drains t came none has = tt
-  listing_taken old new first taker (Err (drains.Stream streams.NoMemory)) same drains t came none has = by_why (drains came none).why
+  listing_taken old new first taker (Err (drains.Stream streams.NoMemory)) same drains t came none has =
+      by_why (drains came none).why
     where
-      by_why : EndsBy source_of new (drains came none).tree streams.NoMemory ⊎ IsTooLong (drains came none).tree streams.NoMemory → ⊥
+      by_why : EndsBy source_of new (drains came none).tree streams.NoMemory
+          ⊎ IsTooLong (drains came none).tree streams.NoMemory → ⊥
       by_why (inl ends) = ends
       by_why (inr long) = let is = long.fault_is in absurd (cc)
-  listing_taken old new first taker (Err (drains.Stream streams.NoDump)) same drains t came none has = by_why (drains came none).why
+  listing_taken old new first taker (Err (drains.Stream streams.NoDump)) same drains t came none has =
+      by_why (drains came none).why
     where
       here : HasListing (source_of new.first.value) t
       here = subst (λ (s : R). HasListing (source_of s) t) (cc) has
 
-      by_why : EndsBy source_of new (drains came none).tree streams.NoDump ⊎ IsTooLong (drains came none).tree streams.NoDump → ⊥
+      by_why : EndsBy source_of new (drains came none).tree streams.NoDump
+          ⊎ IsTooLong (drains came none).tree streams.NoDump → ⊥
       by_why (inl ends) = ends.1 here.observable t here.is_tree here.listing
       by_why (inr long) = let is = long.fault_is in absurd (cc)

@@ -1,5 +1,6 @@
 -- The bytes that a source over a stream has given, between two takes.
-use Rattle.std.proofs.Common.{◌≡◌, ℕ, ◌<◌, min, Bool, true, false, List, [], ◌∷◌, ◌++◌, length, refl, sym, ap, ◌∙◌, arith}
+use Rattle.std.proofs.Common.{◌≡◌, ℕ, ◌<◌, min, Bool, true, false, List, [], ◌∷◌, ◌++◌, length, refl, sym, ap, ◌∙◌}
+use Rattle.std.proofs.Common.{arith}
 use Rattle.std.proofs.lemmas.Bool.{false≢true}
 use Rattle.std.proofs.lemmas.List.{append-nil, nil_from_length}
 use Rattle.store_model.specs.Trees.{Tree, empty_tree}
@@ -15,7 +16,8 @@ use Rattle.dump_streams.proofs.TakenLines.{text_none, text_more}
 
 module _ {S : Type 0} (came whole : S → Tree → Type 0) where
   -- before the first take
-  pub gave_none : (source : ListingSource S) → came source.stream empty_tree → source.line.rest ≡ [] → source.is_ended ≡ false → Gave came whole source []
+  pub gave_none : (source : ListingSource S) → came source.stream empty_tree → source.line.rest ≡ []
+      → source.is_ended ≡ false → Gave came whole source []
   gave_none source none rest going = record {
     tree = empty_tree;
     text = ap commands_text dump_none ∙ text_none ∙ sym rest;
@@ -29,12 +31,16 @@ module _ {S : Type 0} (came whole : S → Tree → Type 0) where
   some_line (b ∷ text) e = cc
 
   -- behind a line that was given comes that of another command
-  pub ready_more : (old new : ListingSource S) (bytes : List ℕ) → old.is_ended ≡ false → old.line.rest ≡ [] → new.is_ended ≡ false → (gave : Gave came whole old bytes)
-      → came new.stream (next_tree gave.tree (command_of new.command)) → Extends gave.tree (command_of new.command) → new.line.rest ≡ line (command_text (command_of new.command)) → IsReady came whole new bytes
+  pub ready_more : (old new : ListingSource S) (bytes : List ℕ) → old.is_ended ≡ false → old.line.rest ≡ []
+      → new.is_ended ≡ false → (gave : Gave came whole old bytes)
+      → came new.stream (next_tree gave.tree (command_of new.command)) → Extends gave.tree (command_of new.command)
+      → new.line.rest ≡ line (command_text (command_of new.command)) → IsReady came whole new bytes
   ready_more old new bytes going none goes gave more extends rest = record {
     gave = record {
       tree = next_tree gave.tree (command_of new.command);
-      text = ap commands_text extends.dump_is ∙ text_more _ (command_of new.command) ∙ ap (λ xs. xs ++ line (command_text (command_of new.command))) (gave.text ∙ ap (λ xs. bytes ++ xs) none ∙ append-nil bytes) ∙ ap (λ xs. bytes ++ xs) (sym rest);
+      text = ap commands_text extends.dump_is ∙ text_more _ (command_of new.command)
+          ∙ ap (λ xs. xs ++ line (command_text (command_of new.command)))
+          (gave.text ∙ ap (λ xs. bytes ++ xs) none ∙ append-nil bytes) ∙ ap (λ xs. bytes ++ xs) (sym rest);
       going = λ e. more;
       ended = λ e. absurd (false≢true (sym goes ∙ e));
     };
@@ -42,7 +48,8 @@ module _ {S : Type 0} (came whole : S → Tree → Type 0) where
   }
 
   -- no byte is given only at the end of the stream
-  pub end_given : (source : ListingSource S) (bytes : List ℕ) (room count : ℕ) → IsReady came whole source bytes → 0 < room → count ≡ min room (length source.line.rest) → count ≡ 0 → source.is_ended ≡ true
+  pub end_given : (source : ListingSource S) (bytes : List ℕ) (room count : ℕ) → IsReady came whole source bytes
+      → 0 < room → count ≡ min room (length source.line.rest) → count ≡ 0 → source.is_ended ≡ true
   end_given source bytes room count ready some is none = by_end source.is_ended refl
     where
       by_end : (b : Bool) → source.is_ended ≡ b → source.is_ended ≡ true

@@ -14,17 +14,25 @@ unfolding commands_text
 text_none = refl
 
 -- the lines of commands and of one more
-pub text_more : (commands : List Command) (c : Command) → commands_text (commands ++ c ∷ []) ≡ commands_text commands ++ line (command_text c)
+pub text_more : (commands : List Command) (c : Command)
+    → commands_text (commands ++ c ∷ []) ≡ commands_text commands ++ line (command_text c)
 unfolding commands_text
-text_more commands c = flat_map-append (λ d. line (command_text d)) commands (c ∷ []) ∙ ap (λ xs. commands_text commands ++ xs) (append-nil (line (command_text c)))
+text_more commands c = flat_map-append (λ d. line (command_text d)) commands (c ∷ [])
+    ∙ ap (λ xs. commands_text commands ++ xs) (append-nil (line (command_text c)))
 
 module _ {W : Type 0} (sink_of : W → SinkState) where
   pub took_none : (taker : LineTaker W) → TookLines sink_of taker taker []
   unfolding commands_text
-  took_none taker = record { observable = refl; faults = refl; written = λ told. sym (append-nil (sink_of taker.sink).written) }
+  took_none taker = record {
+    observable = refl;
+    faults = refl;
+    written = λ told. sym (append-nil (sink_of taker.sink).written);
+  }
 
-  pub took_more : {E : Type 0} (first old new : LineTaker W) (commands : List Command) (c : Command) → TookLines sink_of first old commands
-      → IsPut {T = Unit {0}} {E = E} (sink_of old.sink) (sink_of new.sink) (line (command_text c)) (Ok tt) → TookLines sink_of first new (commands ++ c ∷ [])
+  pub took_more : {E : Type 0} (first old new : LineTaker W) (commands : List Command) (c : Command)
+      → TookLines sink_of first old commands
+      → IsPut {T = Unit {0}} {E = E} (sink_of old.sink) (sink_of new.sink) (line (command_text c)) (Ok tt)
+      → TookLines sink_of first new (commands ++ c ∷ [])
   took_more first old new commands c took put = record {
     observable = put.observable ∙ took.observable;
     faults = put.faults ∙ took.faults;

@@ -1,5 +1,6 @@
 -- What the text of a line asks for, offered to a reader of listings.
-use Rattle.std.proofs.Common.{◌≡◌, ℕ, ◌<◌, ◌≤◌, is_err, Bool, true, false, List, length, Result, Ok, Err, refl, sym, ap, subst, ◌∙◌, if◌then◌else◌}
+use Rattle.std.proofs.Common.{◌≡◌, ℕ, ◌<◌, ◌≤◌, is_err, Bool, true, false, List, length, Result, Ok, Err, refl, sym, ap}
+use Rattle.std.proofs.Common.{subst, ◌∙◌, if◌then◌else◌}
 use Rattle.std.proofs.lemmas.Bool.{lt-ltb, le-ltb}
 use Rattle.store_model.specs.declared.refusal.Refusal.{Refusal}
 use Rattle.store_model.specs.declared.refusal.Refusal.TheVariants as refusals
@@ -24,7 +25,9 @@ reading_long text h = ap (λ b. if b then Err refusals.Long else parse text) (lt
 
 module _ (old new : ListingReader) (placed : declared.Command) where
   -- it is no command
-  pub text_refused : (result : Result (Unit {0}) Refusal) (text : List ℕ) → length text ≤ line_limit → is_err result ≡ true → reading_of (in_place placed result) ≡ parse text → TakesText old old text (command_of placed) false
+  pub text_refused : (result : Result (Unit {0}) Refusal) (text : List ℕ) → length text ≤ line_limit
+      → is_err result ≡ true → reading_of (in_place placed result) ≡ parse text
+      → TakesText old old text (command_of placed) false
   text_refused (Ok read) text fits refused is = absurd (cc)
   text_refused (Err refusal) text fits refused is = record {
     command = tt;
@@ -35,7 +38,8 @@ module _ (old new : ListingReader) (placed : declared.Command) where
   }
 
   -- it is one, which was offered to the reader
-  pub text_offered : (result : Result (Unit {0}) Refusal) (text : List ℕ) (taken : Bool) → length text ≤ line_limit → is_err result ≡ false → reading_of (in_place placed result) ≡ parse text
+  pub text_offered : (result : Result (Unit {0}) Refusal) (text : List ℕ) (taken : Bool) → length text ≤ line_limit
+      → is_err result ≡ false → reading_of (in_place placed result) ≡ parse text
       → AddsCommand old new (command_of placed) taken → TakesText old new text (command_of placed) taken
   text_offered (Ok read) text true fits refused is adds = record {
     command = reading_short text fits ∙ sym is;

@@ -16,14 +16,16 @@ pub record IsTooLong (t : Tree) (fault : StreamFault) : Type 0 where
   pub fault_is : fault ≡ streams.TooLong
   pub many : 2 ^ 64 - 1 ≤ length (dump t)
 
-module _ {S T : Type 0} (came whole : S → Tree → Type 0) (fails : S → Tree → StreamFault → Type 0) (took : T → T → List Command → Type 0) where
+module _ {S T : Type 0} (came whole : S → Tree → Type 0) (fails : S → Tree → StreamFault → Type 0)
+    (took : T → T → List Command → Type 0) where
   -- the stream told that its dump is whole, and just its commands were taken
   pub record TakesWhole (stream : S) (first taker : T) : Type 0 where
     pub tree : Tree
     pub whole_is : whole stream tree
     pub took_is : took first taker (dump tree)
 
-  -- the stream told a fault behind the dump of a tree, or gave too many commands, and just the commands that it gave were taken
+  -- the stream told a fault behind the dump of a tree, or gave too many commands, and just the commands that it gave
+  -- were taken
   pub record TakesFront (stream : S) (first taker : T) (fault : StreamFault) : Type 0 where
     pub tree : Tree
     pub why : fails stream tree fault ⊎ IsTooLong tree fault
@@ -44,13 +46,15 @@ module _ {S T : Type 0} (came whole : S → Tree → Type 0) (fails : S → Tree
 
   -- A stream from which nothing came is led into a taker that took nothing yet.
   abbrev pub Drains : S → S → T → T → Result (Unit {0}) DrainFault → Type 0
-  Drains old new first taker result = came old empty_tree → took first first [] → MatchResult result (λ done. TakesWhole new first taker) (StopsBy new first taker)
+  Drains old new first taker result = came old empty_tree → took first first []
+      → MatchResult result (λ done. TakesWhole new first taker) (StopsBy new first taker)
 
 -- The sink tells that just the lines of the dump of the tree were written.
 abbrev pub HasWritten : {W : Type 0} → (W → SinkState) → W → W → Tree → Type 0
 HasWritten sink_of old new t = IsObservable (sink_of old) → (sink_of new).written ≡ (sink_of old).written ++ dump_text t
 
-module _ {S W : Type 0} (came whole : S → Tree → Type 0) (fails : S → Tree → StreamFault → Type 0) (sink_of : W → SinkState) where
+module _ {S W : Type 0} (came whole : S → Tree → Type 0) (fails : S → Tree → StreamFault → Type 0)
+    (sink_of : W → SinkState) where
   -- the stream told that its dump is whole, and its lines were written
   pub record WritesWhole (stream : S) (old new : W) : Type 0 where
     pub tree : Tree
@@ -58,7 +62,8 @@ module _ {S W : Type 0} (came whole : S → Tree → Type 0) (fails : S → Tree
     pub written : HasWritten sink_of old new tree
     pub faults : (sink_of new).faults ≡ (sink_of old).faults
 
-  -- the stream told a fault behind the dump of a tree, or gave too many commands, and the lines of those that it gave were written
+  -- the stream told a fault behind the dump of a tree, or gave too many commands, and the lines of those that it gave
+  -- were written
   pub record WritesFront (stream : S) (old new : W) (fault : StreamFault) : Type 0 where
     pub tree : Tree
     pub why : fails stream tree fault ⊎ IsTooLong tree fault
@@ -80,4 +85,5 @@ module _ {S W : Type 0} (came whole : S → Tree → Type 0) (fails : S → Tree
 
   -- the listing of the stream is written
   abbrev pub WritesDump : S → W → W → Result (Unit {0}) DrainFault → Type 0
-  WritesDump stream old new result = MatchResult result (λ done. WritesWhole stream old new) (WritesUntil stream old new)
+  WritesDump stream old new result = MatchResult result (λ done. WritesWhole stream old new)
+      (WritesUntil stream old new)

@@ -7,8 +7,8 @@ use Rattle.script_lines.specs.SinkState.{SinkState, IsObservable, AppendsPrefix}
 abbrev pub gather_room : ℕ
 gather_room = 65536
 
--- The sink that it puts into, the bytes that it holds, whether a fault came, how many calls failed, and the sink before the bytes
--- held.
+-- The sink that it puts into, the bytes that it holds, whether a fault came, how many calls failed, and the sink
+-- before the bytes held.
 pub record Gathered (W : Type 0) : Type 0 where
   pub sink : W
   pub held : List ℕ
@@ -16,19 +16,26 @@ pub record Gathered (W : Type 0) : Type 0 where
   pub faults : ℕ
   pub before : W
 
--- Its meaning: it tells its bytes where the sink does, and the bytes written are those that the sink was to get, the ones held
--- behind the others.
+-- Its meaning: it tells its bytes where the sink does, and the bytes written are those that the sink was to get, the
+-- ones held behind the others.
 abbrev pub gathered_state : {W : Type 0} → (W → SinkState) → Gathered W → SinkState
-gathered_state sink_of g = record { is_observable = (sink_of g.before).is_observable; written = (sink_of g.before).written ++ g.held; faults = g.faults }
+gathered_state sink_of g = record {
+  is_observable = (sink_of g.before).is_observable;
+  written = (sink_of g.before).written ++ g.held;
+  faults = g.faults;
+}
 
 -- Before a fault none of the bytes held came to the sink, and after it maybe the first of them.
-pub record StandsAt {W : Type 0} (sink_of : W → SinkState) (sink : W) (held : List ℕ) (is_broken : Bool) (before : W) : Type 0 where
+pub record StandsAt {W : Type 0} (sink_of : W → SinkState) (sink : W) (held : List ℕ) (is_broken : Bool)
+    (before : W) : Type 0 where
   pub whole : is_broken ≡ false → sink ≡ before
   pub observable : (sink_of sink).is_observable ≡ (sink_of before).is_observable
   pub cut_off : IsObservable (sink_of before) → AppendsPrefix (sink_of before).written (sink_of sink).written held
 
--- What a call does to the sink: after a fault it puts nothing and fails, and else it fails exactly where a put into the sink does.
-pub record CallsSink {W T E : Type 0} (sink_of : W → SinkState) (old new : Gathered W) (result : Result T E) : Type 0 where
+-- What a call does to the sink: after a fault it puts nothing and fails, and else it fails exactly where a put into
+-- the sink does.
+pub record CallsSink {W T E : Type 0} (sink_of : W → SinkState) (old new : Gathered W)
+    (result : Result T E) : Type 0 where
   pub after : IsTrue old.is_broken → (new.sink ≡ old.sink) × IsErr result
   pub faults : old.is_broken ≡ false → (sink_of new.sink).faults ≡ faults_after (sink_of old.sink).faults result
   pub broken : IsTrue new.is_broken ↔ IsErr result

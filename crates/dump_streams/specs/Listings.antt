@@ -19,7 +19,15 @@ use Rattle.dump_streams.specs.declared.listing.ListingStream.{ListingStream}
 
 -- a reader of lines of the source from which no byte was taken
 abbrev pub fresh_lines : {R : Type 0} → R → ℕ → LineState R
-fresh_lines source limit = record { source = source; held = []; taken = 0; limit = limit; is_ended = false; is_live = true; text = [] }
+fresh_lines source limit = record {
+  source = source;
+  held = [];
+  taken = 0;
+  limit = limit;
+  is_ended = false;
+  is_live = true;
+  text = [];
+}
 
 -- the lines that came ask for these commands of a dump
 pub record AreCommands {R : Type 0} (source_of : R → SourceState) (first now : LineState R) (t : Tree) : Type 0 where
@@ -39,7 +47,8 @@ pub record CameOf {R : Type 0} (source_of : R → SourceState) (stream : Listing
   pub few : stream.count + unread stream.lines ≤ script_limit
   pub observable : (source_of stream.lines.source).is_observable ≡ (source_of stream.first.value).is_observable
   pub faults : (source_of stream.lines.source).faults ≡ (source_of stream.first.value).faults
-  pub commands : IsObservable (source_of stream.first.value) → AreCommands source_of (fresh_lines stream.first.value stream.lines.limit) stream.lines t
+  pub commands : IsObservable (source_of stream.first.value)
+      → AreCommands source_of (fresh_lines stream.first.value stream.lines.limit) stream.lines t
 
 -- what the source had is a listing of the tree, if it tells its bytes
 pub record IsListed {R : Type 0} (source_of : R → SourceState) (stream : ListingStream R) (t : Tree) : Type 0 where
@@ -55,18 +64,22 @@ IsNoListing source = IsObservable source → (t : Tree) → IsTree t → IsListi
 
 -- Why the stream of a listing ends after the commands of the dump of a tree. Memory never runs out.
 abbrev pub EndsBy : {R : Type 0} → (R → SourceState) → ListingStream R → Tree → StreamFault → Type 0
-EndsBy source_of stream t faults.NoDump = (stream.count ≡ length (dump t) + 1) × IsNoListing (source_of stream.first.value)
-EndsBy source_of stream t faults.Unreadable = (source_of stream.lines.source).faults ≡ raised (source_of stream.first.value).faults
-EndsBy source_of stream t faults.TooLong = IsObservable (source_of stream.first.value) → script_limit < length (source_of stream.first.value).left
+EndsBy source_of stream t faults.NoDump = (stream.count ≡ length (dump t) + 1)
+    × IsNoListing (source_of stream.first.value)
+EndsBy source_of stream t faults.Unreadable =
+    (source_of stream.lines.source).faults ≡ raised (source_of stream.first.value).faults
+EndsBy source_of stream t faults.TooLong = IsObservable (source_of stream.first.value)
+    → script_limit < length (source_of stream.first.value).left
 EndsBy source_of stream t faults.NoMemory = ⊥
 
 -- ---- on the way
 
--- The text of a line comes behind the dump of a tree. It is taken where it is a command with which some tree's dump begins, and
--- just there.
+-- The text of a line comes behind the dump of a tree. It is taken where it is a command with which some tree's dump
+-- begins, and just there.
 pub record TakesText (old new : ListingReader) (text : List ℕ) (c : Command) (taken : Bool) : Type 0 where
   pub command : OnTrue taken (reading text ≡ Ok c)
   pub read : (t : Tree) (p : Parameters) → HasRead old t p → OnTrue taken (HasRead new (next_tree t c) p)
   pub goes_on : (t : Tree) (p : Parameters) → HasRead old t p → OnTrue taken (GoesOn t c p)
-  pub refused : (t : Tree) (p : Parameters) → HasRead old t p → OnFalse taken ((d : Command) → reading text ≡ Ok d → BreaksOff t d p)
+  pub refused : (t : Tree) (p : Parameters) → HasRead old t p
+      → OnFalse taken ((d : Command) → reading text ≡ Ok d → BreaksOff t d p)
   pub version : new.version ≡ old.version

@@ -24,6 +24,8 @@ IsFromOutside (drains.Stream _) = ⊤
 IsFromOutside (drains.Taker fault) = ⊤
 
 -- Where the source has a listing of a tree, just the commands of its dump are taken.
-abbrev pub TakesListing : {R T : Type 0} → (R → SourceState) → (T → T → List Command → Type 0) → ListingStream R → T → T → Result (Unit {0}) DrainFault → Type 0
+abbrev pub TakesListing : {R T : Type 0} → (R → SourceState) → (T → T → List Command → Type 0) → ListingStream R → T → T
+    → Result (Unit {0}) DrainFault → Type 0
 TakesListing source_of took stream first taker result =
-    (t : Tree) → CameOf source_of stream empty_tree → took first first [] → HasListing (source_of stream.first.value) t → MatchResult result (λ done. took first taker (dump t)) IsFromOutside
+    (t : Tree) → CameOf source_of stream empty_tree → took first first [] → HasListing (source_of stream.first.value) t
+    → MatchResult result (λ done. took first taker (dump t)) IsFromOutside

@@ -10,8 +10,8 @@ abbrev pub source_state : {S : Type 0} → ListingSource S → SourceState
 source_state source = record { is_observable = false; left = []; faults = source.faults }
 
 module _ {S : Type 0} (came whole : S → Tree → Type 0) where
-  -- The bytes that were given, and those that are left of the last line, are the dump of the tree that came. At the end of the
-  -- stream that is the whole dump, and nothing is left.
+  -- The bytes that were given, and those that are left of the last line, are the dump of the tree that came. At the
+  -- end of the stream that is the whole dump, and nothing is left.
   pub record Gave (source : ListingSource S) (bytes : List ℕ) : Type 0 where
     pub tree : Tree
     pub text : dump_text tree ≡ bytes ++ source.line.rest

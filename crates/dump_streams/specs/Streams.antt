@@ -13,7 +13,8 @@ pub record Extends (t : Tree) (c : Command) : Type 0 where
   pub dump_is : dump (next_tree t c) ≡ dump t ++ c ∷ []
 
 -- one more command came, or the dump is whole, or it ends before
-pub record IsNext (old new done : Tree → Type 0) (failed_by : Tree → StreamFault → Type 0) (c : Command) (result : Result Bool StreamFault) : Type 0 where
+pub record IsNext (old new done : Tree → Type 0) (failed_by : Tree → StreamFault → Type 0) (c : Command)
+    (result : Result Bool StreamFault) : Type 0 where
   pub came : (t : Tree) → old t → IfOk result (λ is_there. OnTrue is_there (new (next_tree t c)))
   pub extends : (t : Tree) → old t → IfOk result (λ is_there. OnTrue is_there (Extends t c))
   pub whole : (t : Tree) → old t → IfOk result (λ is_there. OnFalse is_there (done t))

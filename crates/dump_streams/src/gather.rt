@@ -36,16 +36,30 @@ impl<W: Sink> Model for GatheredSink<W> {
 
     ghost Value = { Gathered W };
 
-    ghost view = { λ g. record { sink = g.sink; held = g.held.items; is_broken = g.is_broken; faults = g.faults; before = g.before.value } };
+    ghost view = { λ g. record {
+      sink = g.sink;
+      held = g.held.items;
+      is_broken = g.is_broken;
+      faults =
+          g.faults;
+      before = g.before.value;
+    } };
 
-    ghost invariant = { λ g. (vec_len g.held ≤ gather_room) × (gather_room ≤ vec_capacity g.held) × StandsAt W.state g.sink g.held.items g.is_broken g.before.value };
+    ghost invariant = { λ g. (vec_len g.held ≤ gather_room) × (gather_room ≤ vec_capacity g.held)
+        × StandsAt W.state g.sink g.held.items g.is_broken g.before.value };
 }
 
 impl<W: Sink> GatheredSink<W> {
     /// A sink that gathers bytes for this one.
     /// `NoMemory`: the sink is given back.
     pub fn new(alloc: Global, sink: W) -> Result<Self, (NoMemory, W)>
-        ensures ok { IfOk result (λ gathered. gathered ≡ record { sink = sink; held = []; is_broken = false; faults = 0; before = sink }) }
+        ensures ok { IfOk result (λ gathered. gathered ≡ record {
+          sink = sink;
+          held = [];
+          is_broken = false;
+          faults = 0;
+          before = sink;
+        }) }
         ensures err { IfErr result (λ refused. refused.1 ≡ sink) }
     {
         let Ok(held) = Vec::with_capacity(alloc, ROOM) else {
@@ -65,7 +79,8 @@ impl<W: Sink> GatheredSink<W> {
     /// came are written there.
     /// `SinkFault`: the put failed, or a call before. A prefix of the bytes held may have been written.
     pub fn flush(&mut self) -> Result<(), SinkFault>
-        ensures put { IsPut (gathered_state W.state self.old) (gathered_state W.state self.new) [] result }
+        ensures put { IsPut (gathered_state W.state self.old)
+            (gathered_state W.state self.new) [] result }
         ensures calls { CallsSink W.state self.old self.new result }
         ensures flushed { OnOk result (IsFlushed W.state self.new) }
     {
@@ -95,7 +110,8 @@ impl<W: Sink> GatheredSink<W> {
 
     /// Makes room for so many bytes, or leaves nothing held where there is none for them.
     fn make_room(&mut self, count: usize) -> Result<(), SinkFault>
-        ensures put { IsPut (gathered_state W.state self.old) (gathered_state W.state self.new) [] result }
+        ensures put { IsPut (gathered_state W.state self.old)
+            (gathered_state W.state self.new) [] result }
         ensures calls { CallsSink W.state self.old self.new result }
         ensures room { OnOk result (count ≤ ROOM → length self.new.held + count ≤ ROOM) }
         ensures none { OnOk result (ROOM < count → self.new.held ≡ []) }
@@ -110,7 +126,8 @@ impl<W: Sink> GatheredSink<W> {
     fn put_through(&mut self, bytes: &[u8]) -> Result<(), SinkFault>
         requires going { self.old.is_broken ≡ false }
         requires none { self.old.held ≡ [] }
-        ensures put { IsPut (gathered_state W.state self.old) (gathered_state W.state self.new) bytes.now result }
+        ensures put { IsPut (gathered_state W.state self.old)
+            (gathered_state W.state self.new) bytes.now result }
         ensures calls { CallsSink W.state self.old self.new result }
     {
         let put = self.sink.put(bytes);
@@ -125,7 +142,8 @@ impl<W: Sink> GatheredSink<W> {
     /// The sink. It lacks the bytes that are still held, and after a fault others of them.
     pub fn into_sink(self) -> W
         ensures sink { result ≡ self.sink }
-        ensures front { IsObservable (W.state result) → IsFrontOf (W.state result).written (gathered_state W.state self).written }
+        ensures front { IsObservable (W.state result)
+            → IsFrontOf (W.state result).written (gathered_state W.state self).written }
     {
         let GatheredSink {
             sink,
@@ -144,7 +162,8 @@ impl<W: Sink> Sink for GatheredSink<W> {
     /// Holds the piece, behind those that are held or were put.
     /// `SinkFault`: a put into the sink failed, now or before.
     fn put(&mut self, bytes: &[u8]) -> Result<(), SinkFault>
-        ensures put { IsPut (gathered_state W.state self.old) (gathered_state W.state self.new) bytes.now result }
+        ensures put { IsPut (gathered_state W.state self.old)
+            (gathered_state W.state self.new) bytes.now result }
         ensures calls { CallsSink W.state self.old self.new result }
     {
         self.make_room(bytes.len())?;

@@ -1,7 +1,7 @@
 //! Dumps, command after command: where they come from, and what takes them.
 //!
-//! A stream gives the commands of a dump one after another, and no more than one is kept. What does something with each of
-//! them is a taker. `drain` leads a stream into a taker, to the stream's end.
+//! A stream gives the commands of a dump one after another, and no more than one is kept. What does something with
+//! each of them is a taker. `drain` leads a stream into a taker, to the stream's end.
 #![tactic(auto)]
 
 mod draining;

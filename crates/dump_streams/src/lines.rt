@@ -39,7 +39,9 @@ impl<W: Sink> Taker for LineTaker<W> {
     /// Writes the line of the command.
     /// `Failed`: the sink failed. A prefix of the line may have been written.
     fn take(&mut self, command: &Line) -> Result<(), TakerFault>
-        ensures taken { (first : LineTaker W) → IsTaken (TookLines W.state first self.old) (TookLines W.state first self.new) (command_of command.now) result }
+        ensures taken { (first : LineTaker W)
+            → IsTaken (TookLines W.state first self.old) (TookLines W.state first self.new)
+            (command_of command.now) result }
         ensures put { PutsLine W.state self.old self.new (command_of command.now) result }
     {
         match write_command(&mut self.sink, command) {

@@ -67,11 +67,12 @@ impl<R: Source> ListingStream<R> {
         lines.into_source()
     }
 
-    /// The next command, as `next` of the stream.
-    /// `NoDump`: the line is no command, or no dump goes on with it. What the source has is no listing, and `line` tells
-    /// the line. `Unreadable`: a take failed now or before. `TooLong`: the source has more bytes than a script may have.
+    /// The next command, as `next` of the stream. `NoDump`: the line is no command, or no dump goes on with it. What
+    /// the source has is no listing, and `line` tells the line. `Unreadable`: a take failed now or before. `TooLong`:
+    /// the source has more bytes than a script may have.
     fn next_command(&mut self, into: &mut Command) -> Result<bool, StreamFault>
-        ensures next { IsNext (CameOf R.state self.old) (CameOf R.state self.new) (IsListed R.state self.new) (EndsBy R.state self.new) (command_of into.new) result }
+        ensures next { IsNext (CameOf R.state self.old) (CameOf R.state self.new)
+            (IsListed R.state self.new) (EndsBy R.state self.new) (command_of into.new) result }
         ensures same { self.new.first ≡ self.old.first }
     {
         if !self.lines.is_live() {
@@ -94,8 +95,8 @@ impl<R: Source> ListingStream<R> {
     }
 }
 
-/// Takes the command that a text spells, behind those that were taken: whether some tree's dump begins with them all. It
-/// is put in the place of another one.
+/// Takes the command that a text spells, behind those that were taken: whether some tree's dump begins with them all.
+/// It is put in the place of another one.
 fn take_text(text: &[u8], reader: &mut ListingReader, command: &mut Command) -> bool
     requires { length text.now ≤ MAX_LINE }
     ensures { TakesText reader.old reader.new text.now (command_of command.new) result }
@@ -116,9 +117,9 @@ impl<R: Source> DumpStream for ListingStream<R> {
 
     ghost fails = { EndsBy R.state };
 
-    /// A listing is never refused.
-    /// `NoDump`: the line is no command, or no dump goes on with it. What the source has is no listing, and `line` tells
-    /// the line. `Unreadable`: a take failed now or before. `TooLong`: the source has more bytes than a script may have.
+    /// A listing is never refused. `NoDump`: the line is no command, or no dump goes on with it. What the source has
+    /// is no listing, and `line` tells the line. `Unreadable`: a take failed now or before. `TooLong`: the source has
+    /// more bytes than a script may have.
     fn next(&mut self, into: &mut Command) -> Result<bool, StreamFault> {
         self.next_command(into)
     }

@@ -18,7 +18,8 @@ pub fn drain_listing<R: Source, T: Taker>(
     taker: &mut T,
 ) -> Result<(), DrainFault>
     ensures listing { TakesListing R.state T.took stream.old taker.old taker.new result }
-    ensures drains { Drains (CameOf R.state) (IsListed R.state) (EndsBy R.state) T.took stream.old stream.new taker.old taker.new result }
+    ensures drains { Drains (CameOf R.state) (IsListed R.state)
+        (EndsBy R.state) T.took stream.old stream.new taker.old taker.new result }
     ensures same { stream.new.first ≡ stream.old.first }
 {
     drain(stream, taker)

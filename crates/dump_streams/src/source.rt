@@ -1,6 +1,7 @@
 //! A source that has the lines of a stream.
 
-ghost use Rattle.std.specs.Prelude.{◌≡◌, ◌++◌, ◌<◌, ℕ, List, [], true, false, None, Ok, IfOk, IfErr, OnOk, MatchResult, IsTrue, is_some, length, take};
+ghost use Rattle.std.specs.Prelude.{◌≡◌, ◌++◌, ◌<◌, ℕ, List, [], true, false, None, Ok, IfOk, IfErr, OnOk, MatchResult};
+ghost use Rattle.std.specs.Prelude.{IsTrue, is_some, length, take};
 ghost use Rattle.std.specs.Bool.{OnTrue};
 ghost use Rattle.store_model.specs.Trees.{empty_tree};
 ghost use Rattle.script_lines.specs.SourceState.{IsTake};
@@ -13,8 +14,8 @@ use script_lines::{Command, SinkFault, Source, SourceFault, write_command};
 use std::alloc::Global;
 use store_base::NoMemory;
 
-/// The lines of the commands of a stream, one after another, as a source. It does not tell its bytes. Its count of faults
-/// starts at 0.
+/// The lines of the commands of a stream, one after another, as a source. It does not tell its bytes. Its count of
+/// faults starts at 0.
 ///
 /// Once the stream failed each take fails, and `fault` tells why.
 #[derive(Drop)]
@@ -38,7 +39,8 @@ impl<S: DumpStream> ListingSource<S> {
         ensures going { IfOk result (λ source. source.is_ended ≡ false) }
         ensures fault { IfOk result (λ source. source.fault ≡ None) }
         ensures faults { IfOk result (λ source. source.faults ≡ 0) }
-        ensures gave { S.came stream empty_tree → IfOk result (λ source. Gave S.came S.whole source []) }
+        ensures gave { S.came stream empty_tree
+            → IfOk result (λ source. Gave S.came S.whole source []) }
         ensures err { IfErr result (λ refused. refused.1 ≡ stream) }
     {
         let Ok(line) = LineRoom::new(alloc) else {
@@ -81,7 +83,8 @@ impl<S: DumpStream> ListingSource<S> {
     fn next_line(&mut self) -> Result<(), StreamFault>
         requires going { self.old.is_ended ≡ false }
         requires none { self.old.line.rest ≡ [] }
-        ensures ready { (bytes : List ℕ) → Gave S.came S.whole self.old bytes → OnOk result (IsReady S.came S.whole self.new bytes) }
+        ensures ready { (bytes : List ℕ) → Gave S.came S.whole self.old bytes
+            → OnOk result (IsReady S.came S.whole self.new bytes) }
         ensures fault { self.new.fault ≡ self.old.fault }
         ensures faults { self.new.faults ≡ self.old.faults }
     {
@@ -100,7 +103,8 @@ impl<S: DumpStream> ListingSource<S> {
     /// before.
     fn is_ready(&mut self) -> bool
         ensures going { IsTrue result → self.new.fault ≡ None }
-        ensures ready { (bytes : List ℕ) → Gave S.came S.whole self.old bytes → OnTrue result (IsReady S.came S.whole self.new bytes) }
+        ensures ready { (bytes : List ℕ) → Gave S.came S.whole self.old bytes
+            → OnTrue result (IsReady S.came S.whole self.new bytes) }
         ensures fault { result ≡ false → IsTrue (is_some self.new.fault) }
         ensures faults { self.new.faults ≡ self.old.faults }
     {
@@ -127,9 +131,12 @@ impl<S: DumpStream> Source for ListingSource<S> {
     /// `SourceFault`: the stream failed now or before, and `fault` tells why.
     fn take(&mut self, into: &mut [u8]) -> Result<usize, SourceFault>
         ensures contract { IsTake (source_state self.old) (source_state self.new) into.new result }
-        ensures given { (bytes : List ℕ) → Gave S.came S.whole self.old bytes → IfOk result (λ count. Gave S.came S.whole self.new (bytes ++ take count into.new)) }
-        ensures end { (bytes : List ℕ) → Gave S.came S.whole self.old bytes → 0 < length into.new → result ≡ Ok 0 → self.new.is_ended ≡ true }
-        ensures fault { MatchResult result (λ count. self.new.fault ≡ None) (λ fault. IsTrue (is_some self.new.fault)) }
+        ensures given { (bytes : List ℕ) → Gave S.came S.whole self.old bytes
+            → IfOk result (λ count. Gave S.came S.whole self.new (bytes ++ take count into.new)) }
+        ensures end { (bytes : List ℕ) → Gave S.came S.whole self.old bytes → 0 < length into.new
+            → result ≡ Ok 0 → self.new.is_ended ≡ true }
+        ensures fault { MatchResult result (λ count. self.new.fault ≡ None)
+            (λ fault. IsTrue (is_some self.new.fault)) }
     {
         // A count is told to be a u64 where it is read.
         let _faults = self.faults;

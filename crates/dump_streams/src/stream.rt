@@ -27,6 +27,7 @@ pub trait DumpStream {
     ///
     /// After an error nothing is said of what the stream gives.
     fn next(&mut self, into: &mut Command) -> Result<bool, StreamFault>
-        ensures next { IsNext (came self.old) (came self.new) (whole self.new) (fails self.new) (command_of into.new) result }
+        ensures next { IsNext (came self.old) (came self.new) (whole self.new) (fails self.new)
+            (command_of into.new) result }
         ensures keeps { (start : Self) → keeps start self.old → keeps start self.new };
 }

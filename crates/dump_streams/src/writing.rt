@@ -13,7 +13,8 @@ use script_lines::Sink;
 /// `Stream`: the stream ended before its dump did, and the lines of what came of it were written. `Taker`: the sink
 /// failed. The lines before the one at which it did were written, and of that line a part may be.
 pub fn write_dump<S: DumpStream, W: Sink>(stream: &mut S, sink: W) -> (W, Result<(), DrainFault>)
-    ensures written { S.came stream.old empty_tree → WritesDump S.came S.whole S.fails W.state stream.new sink result.0 result.1 }
+    ensures written { S.came stream.old empty_tree
+        → WritesDump S.came S.whole S.fails W.state stream.new sink result.0 result.1 }
     ensures keeps { (start : S) → S.keeps start stream.old → S.keeps start stream.new }
 {
     let mut taker = LineTaker::new(sink);

@@ -1,12 +1,16 @@
 -- The days of the calendar, one after another.
-use Rattle.std.proofs.Common.{◌≡◌, ℕ, zero, suc, ◌+◌, ◌<◌, ◌≤◌, Bool, true, false, cond, nat_lt, inl, inr, ◌/◌, ◌%◌, ◌++◌, codes, refl, sym, ap, subst, ◌∙◌, arith, ℤ, pos, ◌+ℤ◌}
+use Rattle.std.proofs.Common.{◌≡◌, ℕ, zero, suc, ◌+◌, ◌<◌, ◌≤◌, Bool, true, false, cond, nat_lt, inl, inr, ◌/◌, ◌%◌}
+use Rattle.std.proofs.Common.{◌++◌, codes, refl, sym, ap, subst, ◌∙◌, arith, ℤ, pos, ◌+ℤ◌}
 use Rattle.std.specs.Int.{IsInRange}
 use Rattle.std.proofs.lemmas.Bool.{cases_lt, ltb-true, ltb-false, le-leb, lt-leb}
 use Rattle.jiff_core.specs.declared.civil.date.Date.{Date}
 use Rattle.jiff_core.specs.Calendar.{days_in_month, day_count}
 use Rattle.jiff_core.specs.Date.{epoch_day}
 use Rattle.jiff_core.proofs.SignedLemmas.{signed_arith}
-use Rattle.jiff_core.proofs.CalendarLemmas.{day_count-epoch, days_from_civil-day_count, days_in_month_bounds, day_count-day, day_count-next_month, day_count-next_year, day_count-day_of_year, day_count-last_of_year, day_count-later_year, day_count-end, day_count_bounds}
+use Rattle.jiff_core.proofs.CalendarLemmas.{day_count-epoch, days_from_civil-day_count, days_in_month_bounds}
+use Rattle.jiff_core.proofs.CalendarLemmas.{day_count-day, day_count-next_month, day_count-next_year}
+use Rattle.jiff_core.proofs.CalendarLemmas.{day_count-day_of_year, day_count-last_of_year, day_count-later_year}
+use Rattle.jiff_core.proofs.CalendarLemmas.{day_count-end, day_count_bounds}
 use Rattle.jiff_core.proofs.DateLemmas.{epoch_day_range, epoch_day_injective}
 use Rattle.dump_views.specs.Texts.{CalendarDay, day_after, day_since, day_of, date_text, clock_text, time_text, no_time}
 
@@ -17,10 +21,17 @@ record IsDayAt (d : CalendarDay) (n : ℕ) : Type 0 where
   count : day_count (pos d.year) d.month d.day ≡ n + 4_371_953
 
 -- the first day of the next year
-year_after : (y m d n : ℕ) → m ≡ 12 → d ≡ 31 → day_count (pos y) m d ≡ n + 4_371_953 → day_count (pos (y + 1)) 1 1 ≡ n + 1 + 4_371_953
+year_after : (y m d n : ℕ) → m ≡ 12 → d ≡ 31 → day_count (pos y) m d ≡ n + 4_371_953
+    → day_count (pos (y + 1)) 1 1 ≡ n + 1 + 4_371_953
 year_after y m d n last late count =
     let there : pos (y + 1) ≡ pos y +ℤ pos 1 = omega (arith, signed_arith) in
-    omega (arith, rw last at rw late at count, day_count-next_year (pos y) (pos (y + 1)) (omega (arith, signed_arith)) there, day_count-last_of_year (pos y))
+    omega (
+      arith,
+      rw last at rw late at count,
+      day_count-next_year (pos y) (pos (y + 1))
+          (omega (arith, signed_arith)) there,
+      day_count-last_of_year (pos y),
+    )
 
 last_of_month : (y m d : ℕ) → m ≡ 12 → d ≤ days_in_month (pos y) m → days_in_month (pos y) m ≤ d → d ≡ 31
 last_of_month y m d last low high = let long : days_in_month (pos y) m ≡ 31 = rw last refl in omega (arith, long)
@@ -32,7 +43,9 @@ is_day_after d n at = by_tests (nat_lt d.day (days_in_month (pos d.year) d.month
     y = pos d.year
 
     by_tests : (a b : Bool) → nat_lt d.day (days_in_month (pos d.year) d.month) ≡ a → nat_lt d.month 12 ≡ b
-        → IsDayAt (cond a (record { year = d.year; month = d.month; day = d.day + 1 }) (cond b (record { year = d.year; month = d.month + 1; day = 1 }) (record { year = d.year + 1; month = 1; day = 1 }))) (n + 1)
+        → IsDayAt (cond a (record { year = d.year; month = d.month; day = d.day + 1 })
+        (cond b (record { year = d.year; month = d.month + 1; day = 1 })
+        (record { year = d.year + 1; month = 1; day = 1 }))) (n + 1)
     by_tests true b less early =
         let room : d.day < days_in_month (pos d.year) d.month = ltb-true _ _ less in
         record {
@@ -46,7 +59,13 @@ is_day_after d n at = by_tests (nat_lt d.day (days_in_month (pos d.year) d.month
         record {
           month = (omega arith, omega arith);
           day = (omega arith, omega (arith, days_in_month_bounds (pos d.year) (d.month + 1)));
-          count = omega (arith, at.day, at.count, day_count-day (pos d.year) d.month d.day 1 at.day.0 (omega arith), day_count-next_month (pos d.year) d.month at.month.0);
+          count = omega (
+            arith,
+            at.day,
+            at.count,
+            day_count-day (pos d.year) d.month d.day 1 at.day.0 (omega arith),
+            day_count-next_month (pos d.year) d.month at.month.0,
+          );
         }
     by_tests false false less early =
         let full : 12 ≤ d.month = ltb-false _ _ early in
@@ -60,13 +79,23 @@ is_day_after d n at = by_tests (nat_lt d.day (days_in_month (pos d.year) d.month
 
 is_day_since : (n : ℕ) → IsDayAt (day_since n) n
 unfolding day_since
-is_day_since zero = record { month = (omega arith, omega arith); day = (omega arith, omega (arith, days_in_month_bounds (pos 1970) 1)); count = day_count-epoch }
-is_day_since (suc n) = let next : n + 1 ≡ suc n = omega arith in subst (IsDayAt (day_after (day_since n))) next (is_day_after (day_since n) n (is_day_since n))
+is_day_since zero = record {
+  month = (omega arith, omega arith);
+  day = (omega arith, omega (arith, days_in_month_bounds (pos 1970) 1));
+  count = day_count-epoch;
+}
+is_day_since (suc n) = let next : n + 1 ≡ suc n = omega arith
+    in subst (IsDayAt (day_after (day_since n))) next (is_day_after (day_since n) n (is_day_since n))
 
 -- the year 9999 ends with day 2,932,896
 day_of_year_9999 : (d : CalendarDay) (n : ℕ) → IsDayAt d n → d.year ≤ 9999 → n ≤ 2_932_896
 day_of_year_9999 d n at early =
-    omega (arith, at.count, day_count_bounds (pos d.year) d.month d.day ((omega (arith, signed_arith), omega (arith, signed_arith)), at.month, at.day))
+    omega (
+      arith,
+      at.count,
+      day_count_bounds (pos d.year)
+          d.month d.day ((omega (arith, signed_arith), omega (arith, signed_arith)), at.month, at.day),
+    )
 
 day_of_later_year : (d : CalendarDay) (n : ℕ) → IsDayAt d n → 9999 < d.year → 2_932_896 < n
 day_of_later_year d n at late =
@@ -107,18 +136,24 @@ date_is date n is =
       month_in = at.month;
       day_in = at.day;
     } in
-    let same = epoch_day_injective date other (omega (arith, signed_arith, is, at.count, days_from_civil-day_count (pos d.year) d.month d.day)) in
+    let same = epoch_day_injective date other
+    (omega (arith, signed_arith, is, at.count, days_from_civil-day_count (pos d.year) d.month d.day)) in
     (same_day date d same.0 same.1 same.2, early)
   where
-    same_day : (date : Date) (d : CalendarDay) → date.year ≡ pos d.year → date.month ≡ d.month → date.day ≡ d.day → day_of date ≡ d
+    same_day : (date : Date) (d : CalendarDay) → date.year ≡ pos d.year → date.month ≡ d.month
+        → date.day ≡ d.day → day_of date ≡ d
     same_day date d year month day = rw (year, month, day) refl
 
 -- the text of a date and a time of day
-pub time_of : (date : Date) (s : ℕ) → epoch_day date ≡ pos (s / 86400) → date_text (day_of date) ++ codes " " ++ clock_text (s % 86400) ≡ time_text s
+pub time_of : (date : Date) (s : ℕ) → epoch_day date ≡ pos (s / 86400)
+    → date_text (day_of date) ++ codes " " ++ clock_text (s % 86400) ≡ time_text s
 time_of date s is =
     let same = date_is date (s / 86400) is in
     ap (λ (d : CalendarDay). date_text d ++ codes " " ++ clock_text (s % 86400)) same.0
-    ∙ ap (λ (b : Bool). cond b (date_text (day_since (s / 86400)) ++ codes " " ++ clock_text (s % 86400)) no_time) (sym (le-leb _ _ same.1))
+    ∙ ap (λ (b : Bool). cond b (date_text (day_since (s / 86400)) ++ codes " " ++ clock_text (s % 86400)) no_time)
+    (sym (le-leb _ _ same.1))
 
 pub late_time : (s : ℕ) → 2_932_896 < s / 86400 → no_time ≡ time_text s
-late_time s late = ap (λ (b : Bool). cond b (date_text (day_since (s / 86400)) ++ codes " " ++ clock_text (s % 86400)) no_time) (sym (lt-leb _ _ (late_year (s / 86400) late)))
+late_time s late =
+    ap (λ (b : Bool). cond b (date_text (day_since (s / 86400)) ++ codes " " ++ clock_text (s % 86400)) no_time)
+    (sym (lt-leb _ _ (late_year (s / 86400) late)))

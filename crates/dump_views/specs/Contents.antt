@@ -37,18 +37,23 @@ standing_of None = standings.Nothing
 standing_of (Some Directory) = standings.Directory
 standing_of (Some (File bytes)) = standings.File
 
--- From one moment to a later one the bytes that these commands write at the path were put into the sink, and nothing else.
-pub record TookContents {W : Type 0} (sink_of : W → SinkState) (first now : ContentTaker W) (commands : List Command) : Type 0 where
+-- From one moment to a later one the bytes that these commands write at the path were put into the sink, and nothing
+-- else.
+pub record TookContents {W : Type 0} (sink_of : W → SinkState) (first now : ContentTaker W)
+    (commands : List Command) : Type 0 where
   pub path : now.path ≡ first.path
   pub standing : now.standing ≡ standing_after first.path first.standing commands
   pub observable : (sink_of now.sink).is_observable ≡ (sink_of first.sink).is_observable
   pub faults : (sink_of now.sink).faults ≡ (sink_of first.sink).faults
-  pub written : IsObservable (sink_of first.sink) → (sink_of now.sink).written ≡ (sink_of first.sink).written ++ written_at first.path commands
+  pub written : IsObservable (sink_of first.sink)
+      → (sink_of now.sink).written ≡ (sink_of first.sink).written ++ written_at first.path commands
 
 -- A command was taken, or the sink failed: then a prefix of the command's bytes was put.
-pub record TakesOne {W T E : Type 0} (sink_of : W → SinkState) (old new : ContentTaker W) (c : Command) (result : Result T E) : Type 0 where
+pub record TakesOne {W T E : Type 0} (sink_of : W → SinkState) (old new : ContentTaker W) (c : Command)
+    (result : Result T E) : Type 0 where
   pub path : new.path ≡ old.path
   pub standing : new.standing ≡ standing_by old.path old.standing c
   pub observable : (sink_of new.sink).is_observable ≡ (sink_of old.sink).is_observable
   pub faults : (sink_of new.sink).faults ≡ faults_after (sink_of old.sink).faults result
-  pub observed : IsObservable (sink_of old.sink) → PutsBytes (sink_of old.sink) (sink_of new.sink) (bytes_at old.path c) result
+  pub observed : IsObservable (sink_of old.sink)
+      → PutsBytes (sink_of old.sink) (sink_of new.sink) (bytes_at old.path c) result

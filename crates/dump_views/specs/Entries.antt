@@ -1,5 +1,6 @@
 -- What a listing keeps of the commands of a dump.
-use Rattle.std.specs.Prelude.{◌≡◌, ℕ, ◌+◌, ◌^◌, ◌≤◌, Bool, true, false, ◌&&◌, nat_le, List, [], ◌++◌, length, fold, Option, Some, None, option_map, option_to_list, if◌then◌else◌, codes}
+use Rattle.std.specs.Prelude.{◌≡◌, ℕ, ◌+◌, ◌^◌, ◌≤◌, Bool, true, false, ◌&&◌, nat_le, List, [], ◌++◌, length, fold}
+use Rattle.std.specs.Prelude.{Option, Some, None, option_map, option_to_list, if◌then◌else◌, codes}
 use Rattle.std.specs.FinMap.{find}
 use Rattle.store_model.specs.Lists.{same_bytes}
 use Rattle.store_model.specs.Paths.{Path, Name, name_cmp, same_path}
@@ -17,13 +18,15 @@ use Rattle.dump_views.specs.declared.lister.TreeLister.{TreeLister}
 
 -- the number of 64 bits that decimal digits spell, with no leading zero but `0` itself
 unfoldable pub seconds_in : List ℕ → Option ℕ
-seconds_in text = if is_numeral text && nat_le (digits_value text) 18446744073709551615 then Some (digits_value text) else None
+seconds_in text = if is_numeral text && nat_le (digits_value text) 18446744073709551615 then Some
+    (digits_value text) else None
 
 -- what is kept of a path that has no attribute
 abbrev pub bare_entry : Path → Kind → ListedEntry
 bare_entry p kind = record { path = p; kind = kind; is_executable = false; seconds = None }
 
--- what is kept of a path that is given an attribute: whether its `mode` is the byte `x`, and the number that its `mtime` spells
+-- what is kept of a path that is given an attribute: whether its `mode` is the byte `x`, and the number that its
+-- `mtime` spells
 abbrev pub with_attribute : ListedEntry → Name → List ℕ → ListedEntry
 with_attribute e name bytes =
     if same_bytes name (codes "mode") then record e { is_executable = same_bytes bytes (codes "x") }
@@ -62,8 +65,10 @@ with_length len e = record e { kind = kinds.File len }
 -- what is kept once a command was carried out
 abbrev pub keep : Kept → Command → Kept
 keep kept (Make p) = begun kept (bare_entry p kinds.Directory)
-keep kept (Write p at bytes) = if is_last kept.last p then changed kept (with_length (at + length bytes)) else begun kept (bare_entry p (kinds.File (at + length bytes)))
-keep kept (SetAttribute p name bytes) = if is_last kept.last p then changed kept (λ e. with_attribute e name bytes) else kept
+keep kept (Write p at bytes) = if is_last kept.last p then changed kept
+    (with_length (at + length bytes)) else begun kept (bare_entry p (kinds.File (at + length bytes)))
+keep kept (SetAttribute p name bytes) =
+    if is_last kept.last p then changed kept (λ e. with_attribute e name bytes) else kept
 keep kept _ = kept
 
 abbrev pub nothing_kept : Kept

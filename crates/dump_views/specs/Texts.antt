@@ -1,5 +1,7 @@
 -- The text of a listing.
-use Rattle.std.specs.Prelude.{◌≡◌, ℕ, zero, suc, ◌+◌, ◌-◌, ◌/◌, ◌%◌, Bool, true, false, nat_le, nat_lt, List, [], ◌∷◌, ◌++◌, length, filter, replicate, Option, Some, None, is_some, Result, Ok, Err, if◌then◌else◌, codes, pos, unsigned_abs}
+use Rattle.std.specs.Prelude.{◌≡◌, ℕ, zero, suc, ◌+◌, ◌-◌, ◌/◌, ◌%◌, Bool, true, false, nat_le, nat_lt, List, [], ◌∷◌}
+use Rattle.std.specs.Prelude.{◌++◌, length, filter, replicate, Option, Some, None, is_some, Result, Ok, Err}
+use Rattle.std.specs.Prelude.{if◌then◌else◌, codes, pos, unsigned_abs}
 use Rattle.std.specs.Fmt.{decimal}
 use Rattle.std.specs.List.{flat_map, list_any}
 use Rattle.store_model.specs.Paths.{Path, root, last_name, parent, path_text, same_path}
@@ -30,7 +32,11 @@ pub record CalendarDay : Type 0 where
 abbrev pub day_after : CalendarDay → CalendarDay
 day_after d =
     if nat_lt d.day (days_in_month (pos d.year) d.month) then record { year = d.year; month = d.month; day = d.day + 1 }
-    else (if nat_lt d.month 12 then record { year = d.year; month = d.month + 1; day = 1 } else record { year = d.year + 1; month = 1; day = 1 })
+    else (if nat_lt d.month 12 then record {
+      year = d.year;
+      month = d.month + 1;
+      day = 1;
+    } else record { year = d.year + 1; month = 1; day = 1 })
 
 -- the day so many days behind 1 January 1970
 unfoldable pub day_since : ℕ → CalendarDay
@@ -53,9 +59,11 @@ clock_text s = two_digits (s / 3600) ++ codes ":" ++ two_digits (s / 60 % 60) ++
 abbrev pub no_time : List ℕ
 no_time = codes "                   "
 
--- the text of so many seconds since 1970: the day of the calendar and the time of day, by UTC, and spaces behind the year 9999
+-- the text of so many seconds since 1970: the day of the calendar and the time of day, by UTC, and spaces behind the
+-- year 9999
 abbrev pub time_text : ℕ → List ℕ
-time_text s = if nat_le (day_since (s / 86400)).year 9999 then date_text (day_since (s / 86400)) ++ codes " " ++ clock_text (s % 86400) else no_time
+time_text s = if nat_le (day_since (s / 86400)).year 9999 then date_text (day_since (s / 86400)) ++ codes " "
+    ++ clock_text (s % 86400) else no_time
 
 -- the letter of what stands at a path
 abbrev pub letter_of : Kind → Bool → List ℕ
@@ -79,7 +87,8 @@ time_column true (Some s) = codes " " ++ time_text s
 -- the line of an entry
 unfoldable pub entry_line : Bool → ListedEntry → List ℕ
 entry_line has_times e =
-    letter_of e.kind e.is_executable ++ codes " " ++ right_aligned (length_text e.kind) ++ time_column has_times e.seconds ++ codes " " ++ last_name e.path ++ 10 ∷ []
+    letter_of e.kind e.is_executable ++ codes " " ++ right_aligned (length_text e.kind)
+    ++ time_column has_times e.seconds ++ codes " " ++ last_name e.path ++ 10 ∷ []
 
 -- the entries right below a path
 abbrev pub children_at : List ListedEntry → Path → List ListedEntry
@@ -105,8 +114,8 @@ behind_text has_times entries e = if is_folder e.kind then 10 ∷ group_text has
 abbrev pub has_times : List ListedEntry → Bool
 has_times entries = list_any (λ e. is_some e.seconds) entries
 
--- The listing: the lines of the root, and behind them those of each folder, with an empty line before each. The time has a
--- column where one is known of some entry.
+-- The listing: the lines of the root, and behind them those of each folder, with an empty line before each. The time
+-- has a column where one is known of some entry.
 unfoldable pub listing_text : List ListedEntry → List ℕ
 listing_text entries =
     group_text (has_times entries) entries root ++ flat_map (behind_text (has_times entries) entries) entries

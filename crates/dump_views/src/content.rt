@@ -75,7 +75,10 @@ impl<W: Sink> ContentTaker<W> {
 
     /// A folder is made.
     fn make(&mut self, path: &Path)
-        ensures { self.new ≡ record self.old { standing = standing_by self.old.path self.old.standing (Make path.now) } }
+        ensures { self.new ≡ record self.old {
+          standing =
+              standing_by self.old.path self.old.standing (Make path.now);
+        } }
     {
         if is_same_path(&self.path, path) {
             self.standing = Standing::Directory;
@@ -119,7 +122,9 @@ impl<W: Sink> Taker for ContentTaker<W> {
 
     /// `Failed`: the sink failed. The first bytes of the command may have been put.
     fn take(&mut self, command: &Command) -> Result<(), TakerFault>
-        ensures contract { (first : ContentTaker W) → IsTaken (TookContents W.state first self.old) (TookContents W.state first self.new) (command_of command.now) result }
+        ensures contract { (first : ContentTaker W)
+            → IsTaken (TookContents W.state first self.old) (TookContents W.state first self.new)
+            (command_of command.now) result }
         ensures taken { TakesOne W.state self.old self.new (command_of command.now) result }
         ensures fault { IfErr result (λ fault. fault ≡ faults.Failed) }
     {

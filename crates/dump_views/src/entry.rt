@@ -80,7 +80,9 @@ fn are_digits(text: &[u8]) -> bool
 /// The number that digits spell, where it has 64 bits.
 fn digits_value(digits: &[u8]) -> Option<u64>
     requires { list_all model.is_digit digits.now ≡ true }
-    ensures { result ≡ (if nat_le (model.digits_value digits.now) 18446744073709551615 then Some (model.digits_value digits.now) else None) }
+    ensures { result
+        ≡ (if nat_le (model.digits_value digits.now) 18446744073709551615 then Some
+        (model.digits_value digits.now) else None) }
 {
     let mut value = 0u64;
     for digit in digits {

@@ -5,7 +5,8 @@ ghost use Rattle.std.specs.List.{flat_map};
 ghost use Rattle.std.specs.Ordering.{is_lt};
 ghost use Rattle.store_model.specs.Paths as model;
 ghost use Rattle.script_lines.specs.SinkState.{IsPut};
-ghost use Rattle.dump_views.specs.Texts.{PutsListing, behind_text, children_at, entry_line, group_text, has_times, listing_text};
+ghost use Rattle.dump_views.specs.Texts.{PutsListing, behind_text, children_at, entry_line, group_text, has_times};
+ghost use Rattle.dump_views.specs.Texts.{listing_text};
 ghost use Rattle.dump_views.specs.Groups.{AreGrouped, IsByFolder};
 
 use crate::columns::{write_entry, write_heading};
@@ -30,8 +31,8 @@ pub enum ListFault {
     Sink,
 }
 
-/// Writes the listing of these entries, which stand in the order of paths: the lines of the root, and behind them those of
-/// each folder.
+/// Writes the listing of these entries, which stand in the order of paths: the lines of the root, and behind them
+/// those of each folder.
 pub fn write_listing<W: Sink>(
     alloc: Global,
     entries: &[ListedEntry],
@@ -101,7 +102,8 @@ fn write_behind<W: Sink>(
 ) -> Result<(), SinkFault>
     requires order { IsByFolder grouped.now }
     requires count { (W.state sink.old).faults < 2 ^ 64 }
-    ensures { IsPut (W.state sink.old) (W.state sink.new) (behind_text has_times grouped.now entry.now) result }
+    ensures { IsPut (W.state sink.old) (W.state sink.new)
+        (behind_text has_times grouped.now entry.now) result }
 {
     match entry.kind {
         Kind::Directory => {
@@ -121,7 +123,8 @@ fn write_group<W: Sink>(
     has_times: bool,
 ) -> Result<(), SinkFault>
     requires { IsByFolder grouped.now }
-    ensures { IsPut (W.state sink.old) (W.state sink.new) (group_text has_times grouped.now folder.now) result }
+    ensures { IsPut (W.state sink.old) (W.state sink.new)
+        (group_text has_times grouped.now folder.now) result }
 {
     write_heading(sink, folder)?;
     write_entries(sink, children_of(grouped, folder), has_times)
@@ -134,7 +137,8 @@ fn write_entries<W: Sink>(
     has_times: bool,
 ) -> Result<(), SinkFault>
     requires { (W.state sink.old).faults < 2 ^ 64 }
-    ensures { IsPut (W.state sink.old) (W.state sink.new) (flat_map (entry_line has_times) entries.now) result }
+    ensures { IsPut (W.state sink.old) (W.state sink.new)
+        (flat_map (entry_line has_times) entries.now) result }
 {
     for entry in entries {
         write_entry(sink, entry, has_times)?;

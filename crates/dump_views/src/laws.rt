@@ -11,11 +11,14 @@ ghost use Rattle.dump_views.specs.Entries.{entries_of, keep, listed_entry, nothi
 /// nothing where no file stands; and they tell what stands there.
 pub fn a_dump_writes_each_file()
     ensures written { (t : Tree) (p : Path) → IsTree t → written_at p (dump t) ≡ contents t p }
-    ensures standing { (t : Tree) (p : Path) → IsTree t → standing_after p (standing_of (node_at empty_tree p)) (dump t) ≡ standing_of (node_at t p) }
+    ensures standing { (t : Tree) (p : Path) → IsTree t
+        → standing_after p (standing_of (node_at empty_tree p)) (dump t)
+        ≡ standing_of (node_at t p) }
 {}
 
-/// Of the commands of the dump of a tree a listing keeps an entry for each path, in the order of paths: what stands there,
-/// how long it is, and what its attributes tell.
+/// Of the commands of the dump of a tree a listing keeps an entry for each path, in the order of paths: what stands
+/// there, how long it is, and what its attributes tell.
 pub fn a_dump_tells_each_entry()
-    ensures { (t : Tree) → IsTree t → entries_of (fold keep nothing_kept (dump t)) ≡ map (λ e. listed_entry e.0 e.1) t }
+    ensures { (t : Tree) → IsTree t → entries_of (fold keep nothing_kept (dump t))
+        ≡ map (λ e. listed_entry e.0 e.1) t }
 {}

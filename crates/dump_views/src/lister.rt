@@ -7,7 +7,8 @@ ghost use Rattle.dump_streams.specs.declared.taker.TakerFault.TheVariants as fau
 ghost use Rattle.script_lines.specs.Parsing.{command_of};
 ghost use Rattle.dump_views.specs.Texts.{PutsListing, listing_text};
 ghost use Rattle.dump_views.specs.declared.lister.TreeLister.{TreeLister};
-ghost use Rattle.dump_views.specs.Entries.{IsRefused, LastAt, TookEntries, begun, entries_of, keep, kept_of, nothing_kept};
+ghost use Rattle.dump_views.specs.Entries.{IsRefused, LastAt, TookEntries, begun, entries_of, keep, kept_of};
+ghost use Rattle.dump_views.specs.Entries.{nothing_kept};
 
 use crate::entry::ListedEntry;
 use crate::groups::{ListFault, write_listing};
@@ -54,7 +55,8 @@ impl TreeLister {
 
     /// Writes the listing of what was kept, in the order of the commands, as `write_listing`.
     pub fn write_list<W: Sink>(self, alloc: Global, sink: &mut W) -> Result<(), ListFault>
-        ensures { PutsListing (W.state sink.old) (W.state sink.new) (listing_text (entries_of (kept_of self))) result }
+        ensures { PutsListing (W.state sink.old) (W.state sink.new)
+            (listing_text (entries_of (kept_of self))) result }
     {
         match self.into_entries() {
             Ok(entries) => write_listing(alloc, &entries, sink),
@@ -91,7 +93,8 @@ impl TreeLister {
 
     /// A file has so many bytes.
     fn write(&mut self, path: &Path, at: u32, bytes: &[u8]) -> Result<(), TakerFault>
-        ensures kept { OnOk result (kept_of self.new ≡ keep (kept_of self.old) (Write path.now at bytes.now)) }
+        ensures kept { OnOk result
+            (kept_of self.new ≡ keep (kept_of self.old) (Write path.now at bytes.now)) }
         ensures unchanged { OnErr result (kept_of self.new ≡ kept_of self.old) }
         ensures fault { IfErr result (IsRefused (Write path.now at bytes.now)) }
     {
@@ -113,7 +116,8 @@ impl TreeLister {
 
     /// A path is given an attribute.
     fn set(&mut self, path: &Path, name: &AttrName, bytes: &[u8])
-        ensures { kept_of self.new ≡ keep (kept_of self.old) (SetAttribute path.now name.now bytes.now) }
+        ensures { kept_of self.new ≡ keep (kept_of self.old)
+            (SetAttribute path.now name.now bytes.now) }
     {
         if let Some(last) = self.last_at(path) {
             self.last = Some(last.with_attribute(name, bytes));
@@ -124,10 +128,12 @@ impl TreeLister {
 impl Taker for TreeLister {
     ghost took = { TookEntries };
 
-    /// `NoMemory`: there was no room for one entry more. `Failed`: a file has 4,294,967,296 bytes or more, which no dump
-    /// has. After an error the same is kept as before.
+    /// `NoMemory`: there was no room for one entry more. `Failed`: a file has 4,294,967,296 bytes or more, which no
+    /// dump has. After an error the same is kept as before.
     fn take(&mut self, command: &Command) -> Result<(), TakerFault>
-        ensures contract { (first : TreeLister) → IsTaken (TookEntries first self.old) (TookEntries first self.new) (command_of command.now) result }
+        ensures contract { (first : TreeLister)
+            → IsTaken (TookEntries first self.old) (TookEntries first self.new)
+            (command_of command.now) result }
         ensures unchanged { OnErr result (kept_of self.new ≡ kept_of self.old) }
         ensures fault { IfErr result (IsRefused (command_of command.now)) }
     {

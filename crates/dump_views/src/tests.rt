@@ -7,7 +7,8 @@ use script_lines::{MemSink, parse_command};
 use std::alloc::Global;
 use std::process::Abort;
 
-/// A folder `a`, changed at 22:13:20 on 14 November 2023, and below it a file that may be executed, changed when 1970 began.
+/// A folder `a`, changed at 22:13:20 on 14 November 2023, and below it a file that may be executed, changed when 1970
+/// began.
 const DUMP: [&[u8]; 11] = [
     b"make /a",
     b"set /a mtime 31373030303030303030",

@@ -12,7 +12,8 @@ const DAY: u64 = 86_400;
 /// The room of a time.
 const NO_TIME: &[u8; 19] = b"                   ";
 
-/// Adds the column of a time, if there is one, 20 bytes at most: spaces where no time is known, or one behind the year 9999.
+/// Adds the column of a time, if there is one, 20 bytes at most: spaces where no time is known, or one behind the
+/// year 9999.
 pub(crate) fn push_time(text: &mut Text, has_times: bool, seconds: Option<u64>)
     requires { length text.old + 20 ≤ MAX_TEXT }
     ensures value { text.new ≡ text.old ++ time_column has_times seconds }

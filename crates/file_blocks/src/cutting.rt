@@ -31,7 +31,8 @@ pub fn cut<P: OrderedPairs>(
     version: Version,
 ) -> Result<Answer<()>, Fault>
     requires room { HasRoom (P.state pairs.old) }
-    ensures call { CarriesOutUnder version (λ _. Acknowledged) (Cut path.now len) (P.state pairs.old) (P.state pairs.new) result }
+    ensures call { CarriesOutUnder version (λ _. Acknowledged) (Cut path.now len)
+        (P.state pairs.old) (P.state pairs.new) result }
     ensures hidden { IsObservable (P.state pairs.new) → IsObservable (P.state pairs.old) }
     ensures follows { P.follows pairs.old pairs.new }
 {
@@ -80,7 +81,8 @@ fn inline_front<P: OrderedPairs>(
     len: u32,
 ) -> Result<Value, Fault>
     requires short { len ≤ inline_limit }
-    ensures call { ReadsFront path.now first.now len (P.state pairs.old) (P.state pairs.new) result }
+    ensures call { ReadsFront path.now first.now len (P.state pairs.old)
+        (P.state pairs.new) result }
     ensures hidden { IsObservable (P.state pairs.new) → IsObservable (P.state pairs.old) }
     ensures follows { P.follows pairs.old pairs.new }
 {
@@ -96,7 +98,8 @@ fn drop_file<P: OrderedPairs>(
     size: u32,
 ) -> Result<(), Fault>
     requires room { HasRoom (P.state pairs.old) }
-    ensures call { DropsBlocks path.now first.now size (P.state pairs.old) (P.state pairs.new) result }
+    ensures call { DropsBlocks path.now first.now size (P.state pairs.old)
+        (P.state pairs.new) result }
     ensures hidden { IsObservable (P.state pairs.new) → IsObservable (P.state pairs.old) }
     ensures follows { P.follows pairs.old pairs.new }
 {
@@ -111,7 +114,8 @@ fn cut_bytes<P: OrderedPairs>(pairs: &mut P, path: &Path, size: u32, len: u32) -
     requires shorter { len ≤ size }
     requires room { HasRoom (P.state pairs.old) }
     ensures call { CutsBytes path.now size len (P.state pairs.old) (P.state pairs.new) result }
-    ensures fewer { IsObservable (P.state pairs.old) → OnOk result (length (P.state pairs.new).pairs ≤ length (P.state pairs.old).pairs + 1) }
+    ensures fewer { IsObservable (P.state pairs.old)
+        → OnOk result (length (P.state pairs.new).pairs ≤ length (P.state pairs.old).pairs + 1) }
     ensures hidden { IsObservable (P.state pairs.new) → IsObservable (P.state pairs.old) }
     ensures follows { P.follows pairs.old pairs.new }
 {
@@ -132,8 +136,10 @@ fn drop_blocks<P: OrderedPairs>(
     kept: u32,
 ) -> Result<(), Fault>
     requires { kept ≤ blocks }
-    ensures call { CutsBytes path.now (FILE_BLOCK * blocks) (FILE_BLOCK * kept) (P.state pairs.old) (P.state pairs.new) result }
-    ensures fewer { IsObservable (P.state pairs.old) → OnOk result (length (P.state pairs.new).pairs ≤ length (P.state pairs.old).pairs) }
+    ensures call { CutsBytes path.now (FILE_BLOCK * blocks) (FILE_BLOCK * kept) (P.state pairs.old)
+        (P.state pairs.new) result }
+    ensures fewer { IsObservable (P.state pairs.old)
+        → OnOk result (length (P.state pairs.new).pairs ≤ length (P.state pairs.old).pairs) }
     ensures hidden { IsObservable (P.state pairs.new) → IsObservable (P.state pairs.old) }
     ensures follows { P.follows pairs.old pairs.new }
 {
@@ -148,8 +154,10 @@ fn drop_blocks<P: OrderedPairs>(
 /// Cuts the last block to what it holds of the first bytes, so many.
 fn cut_block<P: OrderedPairs>(pairs: &mut P, path: &Path, len: u32) -> Result<(), Fault>
     requires room { HasRoom (P.state pairs.old) }
-    ensures call { CutsBytes path.now (FILE_BLOCK * ((len + (FILE_BLOCK - 1)) / FILE_BLOCK)) len (P.state pairs.old) (P.state pairs.new) result }
-    ensures fewer { IsObservable (P.state pairs.old) → OnOk result (length (P.state pairs.new).pairs ≤ length (P.state pairs.old).pairs + 1) }
+    ensures call { CutsBytes path.now (FILE_BLOCK * ((len + (FILE_BLOCK - 1)) / FILE_BLOCK)) len
+        (P.state pairs.old) (P.state pairs.new) result }
+    ensures fewer { IsObservable (P.state pairs.old)
+        → OnOk result (length (P.state pairs.new).pairs ≤ length (P.state pairs.old).pairs + 1) }
     ensures hidden { IsObservable (P.state pairs.new) → IsObservable (P.state pairs.old) }
     ensures follows { P.follows pairs.old pairs.new }
 {

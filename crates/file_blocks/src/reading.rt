@@ -30,7 +30,8 @@ pub fn read_at<P: OrderedPairs>(
     at: u32,
     len: u32,
 ) -> Result<Answer<Bytes>, Fault>
-    ensures call { CarriesOut Content (Read path.now at len) (P.state pairs.old) (P.state pairs.new) result }
+    ensures call { CarriesOut Content (Read path.now at len) (P.state pairs.old)
+        (P.state pairs.new) result }
     ensures keeps { KeepsPairs (P.state pairs.old) (P.state pairs.new) }
     ensures hidden { IsObservable (P.state pairs.new) → IsObservable (P.state pairs.old) }
     ensures follows { P.follows pairs.old pairs.new }
@@ -71,7 +72,8 @@ pub(crate) fn read_file<P: OrderedPairs>(
 ) -> Result<Bytes, Fault>
     requires few { count ≤ Bytes.MAX_LEN }
     requires in_range { at + count < 2 ^ 32 }
-    ensures call { ReadsFile path.now first.now at count (P.state pairs.old) (P.state pairs.new) result }
+    ensures call { ReadsFile path.now first.now at count (P.state pairs.old)
+        (P.state pairs.new) result }
     ensures few { IfOk result (λ bytes. length bytes ≤ count) }
     ensures hidden { IsObservable (P.state pairs.new) → IsObservable (P.state pairs.old) }
     ensures follows { P.follows pairs.old pairs.new }

@@ -37,7 +37,8 @@ pub fn write_at<P: OrderedPairs>(
 ) -> Result<Answer<()>, Fault>
     requires parent { HasParent (P.state pairs.old) path.now }
     requires room { HasRoom (P.state pairs.old) }
-    ensures call { CarriesOutUnder version (λ _. Acknowledged) (Write path.now at bytes.now) (P.state pairs.old) (P.state pairs.new) result }
+    ensures call { CarriesOutUnder version (λ _. Acknowledged) (Write path.now at bytes.now)
+        (P.state pairs.old) (P.state pairs.new) result }
     ensures hidden { IsObservable (P.state pairs.new) → IsObservable (P.state pairs.old) }
     ensures follows { P.follows pairs.old pairs.new }
 {
@@ -87,7 +88,8 @@ fn written_len(kind: Option<Kind>, at: u32, count: usize) -> Answer<u32>
 /// The one pair's value of a file that begins with this pair, with the piece at a place of its bytes.
 fn inline_written(first: &Option<Value>, at: usize, piece: &[u8]) -> Value
     requires { at + length piece.now ≤ model.inline_limit }
-    ensures { (bytes : List ℕ) → IsFirst true bytes first.now → at ≤ length bytes → result ≡ model.inline_value (overwrite bytes at piece.now) }
+    ensures { (bytes : List ℕ) → IsFirst true bytes first.now → at ≤ length bytes
+        → result ≡ model.inline_value (overwrite bytes at piece.now) }
 {
     match first {
         Some(value) if piece.is_empty() => Value::new(value.as_slice()),
@@ -124,8 +126,10 @@ fn put_bytes<P: OrderedPairs>(
     requires few { length bytes.now ≤ Bytes.MAX_LEN }
     requires fits { at + length bytes.now ≤ file_limit }
     requires ends { at + length bytes.now ≤ len }
-    requires room { IsObservable (P.state pairs.old) → length (P.state pairs.old).pairs + length bytes.now ≤ most_pairs }
-    ensures call { PutsFileBytes path.now len at bytes.now (P.state pairs.old) (P.state pairs.new) result }
+    requires room { IsObservable (P.state pairs.old)
+        → length (P.state pairs.old).pairs + length bytes.now ≤ most_pairs }
+    ensures call { PutsFileBytes path.now len at bytes.now (P.state pairs.old)
+        (P.state pairs.new) result }
     ensures hidden { IsObservable (P.state pairs.new) → IsObservable (P.state pairs.old) }
     ensures follows { P.follows pairs.old pairs.new }
 {
@@ -150,8 +154,10 @@ fn put_piece<P: OrderedPairs>(
 ) -> Result<(), Fault>
     requires some { 1 ≤ length piece.now }
     requires within { at % FILE_BLOCK + length piece.now ≤ FILE_BLOCK }
-    requires room { IsObservable (P.state pairs.old) → length (P.state pairs.old).pairs < most_pairs }
-    ensures call { PutsFileBytes path.now len at piece.now (P.state pairs.old) (P.state pairs.new) result }
+    requires room { IsObservable (P.state pairs.old)
+        → length (P.state pairs.old).pairs < most_pairs }
+    ensures call { PutsFileBytes path.now len at piece.now (P.state pairs.old)
+        (P.state pairs.new) result }
     ensures hidden { IsObservable (P.state pairs.new) → IsObservable (P.state pairs.old) }
     ensures follows { P.follows pairs.old pairs.new }
 {
@@ -168,7 +174,8 @@ fn put_piece<P: OrderedPairs>(
 /// and fill it or reach the file's end.
 fn leaves_none(len: u32, at: u32, count: usize) -> bool
     requires { count ≤ FILE_BLOCK }
-    ensures { IsTrue result ↔ ((at % FILE_BLOCK ≡ 0) × ((count ≡ FILE_BLOCK) ⊎ (len ≤ at + count))) }
+    ensures { IsTrue result
+        ↔ ((at % FILE_BLOCK ≡ 0) × ((count ≡ FILE_BLOCK) ⊎ (len ≤ at + count))) }
 {
     at % FILE_BLOCK == 0 && (count == FILE_BLOCK as usize || len as usize <= at as usize + count)
 }

@@ -13,7 +13,13 @@ pub record Areas (slots i : ℕ) : Type 0 where
 
 pub areas : (slots i : ℕ) → i < slots → Areas slots i
 unfolding mark_blocks shadow_at table_at image_len
-areas slots i below = record { shadow_is = omega arith; table_is = omega arith; mark_end = omega arith; shadow_end = omega arith; table_end = omega arith }
+areas slots i below = record {
+  shadow_is = omega arith;
+  table_is = omega arith;
+  mark_end = omega arith;
+  shadow_end = omega arith;
+  table_end = omega arith;
+}
 
 -- the journal lies between the header and the table
 pub journal_end : (slots : ℕ) → 4096 + journal_len slots ≡ table_at slots 0

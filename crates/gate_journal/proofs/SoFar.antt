@@ -13,9 +13,16 @@ pub record Comes (places : ℕ → Type 0) (Done : List ℕ → Type 0) (writes 
 
 -- what a loop over calls keeps: no call has failed so far, and a disk that tells its bytes has come so far
 abbrev pub ComesSoFar : (ℕ → Type 0) → (List ℕ → Type 0) → ℕ → DiskState → DiskState → Type 0
-ComesSoFar places Done writes old new = record { calls : AreCalls {T = Unit {0}} {E = DiskFault} old new (Ok tt); comes : IsObservable old → Comes places Done writes old new }
+ComesSoFar places Done writes old new = record {
+  calls : AreCalls {T = Unit {0}} {E = DiskFault} old new (Ok tt);
+  comes : IsObservable old → Comes places Done writes old new;
+}
 
--- What a loop over reads keeps: no call has failed so far, and a disk that tells its bytes was read only, and what was read
--- shows this of it.
+-- What a loop over reads keeps: no call has failed so far, and a disk that tells its bytes was read only, and what
+-- was read shows this of it.
 abbrev pub ReadsSoFar : Type 0 → DiskState → DiskState → Type 0
-ReadsSoFar Holds old new = record { calls : AreCalls {T = Unit {0}} {E = DiskFault} old new (Ok tt); reads : IsObservable old → ReadsOnly old new; holds : IsObservable old → Holds }
+ReadsSoFar Holds old new = record {
+  calls : AreCalls {T = Unit {0}} {E = DiskFault} old new (Ok tt);
+  reads : IsObservable old → ReadsOnly old new;
+  holds : IsObservable old → Holds;
+}

@@ -24,7 +24,8 @@ pub record AreChanges (slots : ℕ) (changes : Changes) : Type 0 where
 -- the image with the first n of the slots changed
 abbrev pub with_first : ℕ → Changes → ℕ → List ℕ → List ℕ
 with_first slots changes zero image = image
-with_first slots changes (suc n) image = overwrite (with_first slots changes n image) (table_at slots (changes.slot n)) (changes.bytes n)
+with_first slots changes (suc n) image =
+    overwrite (with_first slots changes n image) (table_at slots (changes.slot n)) (changes.bytes n)
 
 -- the image with the slots changed
 abbrev pub with_slots : ℕ → Changes → List ℕ → List ℕ
@@ -60,7 +61,8 @@ AreErased slots changes n image = (k : ℕ) → k < n → HasEntry slots (change
 -- A commit that leads to the target. Each image that a crash at any moment of it may leave has the old length and
 -- recovers to the old image or to the target; the same holds of the bytes that the disk reads, whatever the answer. Ok
 -- says that it reads the second of these, and durably.
-pub record CommitsTo {T E : Type 0} (slots : ℕ) (target : List ℕ) (old new : DiskState) (result : Result T E) : Type 0 where
+pub record CommitsTo {T E : Type 0} (slots : ℕ) (target : List ℕ) (old new : DiskState)
+    (result : Result T E) : Type 0 where
   pub crash : LeavesOnly old new (RecoversToEither slots old.bytes target)
   pub reads : RecoversToEither slots old.bytes target new.bytes
   pub durable : OnOk result (IsDurable new)

@@ -1,5 +1,6 @@
 -- The writes and syncs of commits, and of opening an image.
-use Rattle.std.specs.Prelude.{ℕ, zero, suc, ◌+◌, ◌-◌, ◌*◌, ◌^◌, ◌==◌, ◌≤◌, min, not, Bool, if◌then◌else◌, List, Result, OnOk}
+use Rattle.std.specs.Prelude.{ℕ, zero, suc, ◌+◌, ◌-◌, ◌*◌, ◌^◌, ◌==◌, ◌≤◌, min, not, Bool, if◌then◌else◌, List, Result}
+use Rattle.std.specs.Prelude.{OnOk}
 use Rattle.std.specs.List.{list_any}
 use Rattle.store_model.specs.Parameters.{gate_at}
 use Rattle.store_model.specs.Images.{bytes_at, journal_len}
@@ -34,8 +35,8 @@ has_journal slots image = list_any (λ byte. not (byte == 0)) (bytes_at image ga
 abbrev pub opening_writes : ℕ → List ℕ → ℕ
 opening_writes slots image = redo_writes slots image + erase_writes slots image
 
--- and its syncs: the one before the check and that before recovery, and where there is a journal those that redo it and the
--- one behind its erasure
+-- and its syncs: the one before the check and that before recovery, and where there is a journal those that redo it
+-- and the one behind its erasure
 abbrev pub opening_syncs : ℕ → List ℕ → ℕ
 opening_syncs slots image = if has_journal slots image then redo_syncs image + 3 else 2
 

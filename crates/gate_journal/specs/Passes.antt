@@ -10,7 +10,8 @@ use Rattle.gate_journal.specs.declared.commit.Kind.TheVariants.{Slots, Upgrade}
 use Rattle.gate_journal.specs.declared.commit.Pass.{Pass}
 use Rattle.gate_journal.specs.declared.commit.Pass.TheVariants.{Journal, Table, Erase}
 use Rattle.gate_journal.specs.Places.{IsApart}
-use Rattle.gate_journal.specs.Changes.{Changes, OutsideEntry, HasEntry, AreJournaled, AreErased, with_first, with_slots, upgraded}
+use Rattle.gate_journal.specs.Changes.{Changes, OutsideEntry, HasEntry, AreJournaled, AreErased, with_first, with_slots}
+use Rattle.gate_journal.specs.Changes.{upgraded}
 
 -- how many writes a pass makes for each changed slot
 abbrev pub slot_writes : Pass → ℕ
@@ -53,7 +54,8 @@ OutsideSlots pass slots changes place = (k : ℕ) → k < changes.count → Outs
 
 -- a place outside what the pass writes
 abbrev pub OutsidePass : Kind → Pass → ℕ → Changes → ℕ → Type 0
-OutsidePass kind pass slots changes place = OutsideSlots pass slots changes place × IsApart (version_place pass slots) (version_writes kind) place
+OutsidePass kind pass slots changes place = OutsideSlots pass slots changes place
+    × IsApart (version_place pass slots) (version_writes kind) place
 
 -- the image behind what the pass writes for the first n of the changed slots
 abbrev pub HasPassedFirst : Pass → ℕ → Changes → ℕ → List ℕ → List ℕ → Type 0
@@ -73,6 +75,8 @@ HasVersionMark Upgrade slots mark image = slice_index image (mark_at slots) ≡ 
 
 -- the image behind the pass
 abbrev pub HasPassed : Kind → Pass → ℕ → Changes → List ℕ → List ℕ → Type 0
-HasPassed kind Journal slots changes old image = AreJournaled slots changes changes.count image × HasVersionMark kind slots 1 image
+HasPassed kind Journal slots changes old image = AreJournaled slots changes changes.count image
+    × HasVersionMark kind slots 1 image
 HasPassed kind Table slots changes old image = image ≡ target kind slots changes old
-HasPassed kind Erase slots changes old image = AreErased slots changes changes.count image × HasVersionMark kind slots 0 image
+HasPassed kind Erase slots changes old image = AreErased slots changes changes.count image
+    × HasVersionMark kind slots 0 image

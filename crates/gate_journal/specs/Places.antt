@@ -45,7 +45,8 @@ pub record Makes {T E : Type 0} (writes syncs : ℕ) (old new : DiskState) (resu
   pub sync_limit : new.syncs ≤ raised_by old.syncs syncs
 
 -- calls that keep these places, and after Ok leave a disk that reads an image with Done
-pub record Reaches {T E : Type 0} (places : ℕ → Type 0) (Done : List ℕ → Type 0) (old new : DiskState) (result : Result T E) : Type 0 where
+pub record Reaches {T E : Type 0} (places : ℕ → Type 0) (Done : List ℕ → Type 0) (old new : DiskState)
+    (result : Result T E) : Type 0 where
   pub keeps : Keeps places old new
   pub done : OnOk result (Done new.bytes)
 

@@ -1,4 +1,5 @@
--- Calls that read only, none of them and one after another. The laws stand here since those of a trait are proved by them.
+-- Calls that read only, none of them and one after another. The laws stand here since those of a trait are proved by
+-- them.
 use Rattle.std.proofs.Common.{◌∙◌, refl}
 use Rattle.disk_model.specs.DiskState.{DiskState, IsSound}
 use Rattle.disk_model.proofs.Crashes.{LeavesOnly-refl, LeavesOnly-trans, LeavesOnly-weaken}
@@ -15,9 +16,14 @@ ReadsOnly-refl disk sound = record {
 
 pub ReadsOnly-trans : (old mid new : DiskState) → ReadsOnly old mid → ReadsOnly mid new → ReadsOnly old new
 ReadsOnly-trans old mid new first then = record {
-  leaves = LeavesOnly-trans old mid new old.crash_images first.leaves (LeavesOnly-weaken mid new mid.crash_images old.crash_images (λ image. (first.crash image).0) then.leaves);
+  leaves = LeavesOnly-trans old mid new old.crash_images first.leaves
+      (LeavesOnly-weaken mid new mid.crash_images old.crash_images (λ image. (first.crash image).0) then.leaves);
   bytes = then.bytes ∙ first.bytes;
-  crash = λ image. (λ here. (first.crash image).0 ((then.crash image).0 here), λ here. (then.crash image).1 ((first.crash image).1 here));
+  crash = λ image. (
+    λ here. (first.crash image).0 ((then.crash image).0 here),
+    λ here.
+        (then.crash image).1 ((first.crash image).1 here),
+  );
   write_count = then.write_count ∙ first.write_count;
   sync_count = then.sync_count ∙ first.sync_count;
 }

@@ -9,7 +9,8 @@ ghost use Rattle.disk_model.specs.DiskCalls.{IsCall, Rose, overwrite};
 ghost use Rattle.gate_journal.specs.Places.{IsApart, Reaches, Makes};
 ghost use Rattle.gate_journal.specs.Phases.{HasEmptyJournal};
 ghost use Rattle.gate_journal.specs.Changes.{AreChanges, CommitsTo};
-ghost use Rattle.gate_journal.specs.Passes.{slot_writes, OutsideWrite, HasWritten, version_writes, version_place, version_value, OutsidePass, HasPassed, target};
+ghost use Rattle.gate_journal.specs.Passes.{slot_writes, OutsideWrite, HasWritten, version_writes, version_place};
+ghost use Rattle.gate_journal.specs.Passes.{version_value, OutsidePass, HasPassed, target};
 
 use crate::changes::SlotChanges;
 use crate::entry::{write_byte, write_entry, write_flag};
@@ -52,9 +53,14 @@ fn write_slot<D: Disk>(
     requires below { slot < slots }
     requires size { (D.state disk.old).size ≡ image_len slots }
     ensures call { IsCall (D.state disk.old) (D.state disk.new) result }
-    ensures reaches { IsObservable (D.state disk.old) → Reaches (OutsideWrite pass slots slot) (HasWritten pass slots slot bytes.now (D.state disk.old).bytes) (D.state disk.old) (D.state disk.new) result }
-    ensures makes { IsObservable (D.state disk.old) → Makes (slot_writes pass) 0 (D.state disk.old) (D.state disk.new) result }
-    ensures wrote { IsObservable (D.state disk.old) → Rose (D.state disk.old).writes (D.state disk.new).writes }
+    ensures reaches { IsObservable (D.state disk.old)
+        → Reaches (OutsideWrite pass slots slot)
+        (HasWritten pass slots slot bytes.now (D.state disk.old).bytes) (D.state disk.old)
+        (D.state disk.new) result }
+    ensures makes { IsObservable (D.state disk.old)
+        → Makes (slot_writes pass) 0 (D.state disk.old) (D.state disk.new) result }
+    ensures wrote { IsObservable (D.state disk.old)
+        → Rose (D.state disk.old).writes (D.state disk.new).writes }
 {
     match pass {
         Pass::Journal => write_entry(disk, slots, slot, bytes, 1),
@@ -68,10 +74,15 @@ fn write_version<D: Disk>(disk: &mut D, slots: u32, pass: Pass) -> Result<(), Di
     requires in_range { slots ≤ slots_limit }
     requires size { (D.state disk.old).size ≡ image_len slots }
     ensures call { IsCall (D.state disk.old) (D.state disk.new) result }
-    ensures reaches { IsObservable (D.state disk.old) → Reaches (IsApart (version_place pass slots) 1) (λ image. image ≡ overwrite (D.state disk.old).bytes (version_place pass slots) (version_value pass ∷ [])) (D.state disk.old) (D.state disk.new) result }
+    ensures reaches { IsObservable (D.state disk.old)
+        → Reaches (IsApart (version_place pass slots) 1)
+        (λ image. image ≡ overwrite (D.state disk.old).bytes (version_place pass slots)
+        (version_value pass ∷ [])) (D.state disk.old) (D.state disk.new) result }
     ensures durable { IsObservable (D.state disk.old) → OnOk result (IsDurable (D.state disk.new)) }
-    ensures makes { IsObservable (D.state disk.old) → Makes 1 1 (D.state disk.old) (D.state disk.new) result }
-    ensures wrote { IsObservable (D.state disk.old) → Rose (D.state disk.old).writes (D.state disk.new).writes }
+    ensures makes { IsObservable (D.state disk.old)
+        → Makes 1 1 (D.state disk.old) (D.state disk.new) result }
+    ensures wrote { IsObservable (D.state disk.old)
+        → Rose (D.state disk.old).writes (D.state disk.new).writes }
 {
     match pass {
         Pass::Journal => write_byte(disk, mark_at(slots), 1),
@@ -93,10 +104,17 @@ fn write_slots<D: Disk, S: SlotChanges>(
     requires size { (D.state disk.old).size ≡ image_len slots }
     requires changes { AreChanges slots (S.changes changes.now) }
     ensures call { IsCall (D.state disk.old) (D.state disk.new) result }
-    ensures reaches { IsObservable (D.state disk.old) → Reaches (OutsidePass kind pass slots (S.changes changes.now)) (HasPassed kind pass slots (S.changes changes.now) (D.state disk.old).bytes) (D.state disk.old) (D.state disk.new) result }
+    ensures reaches { IsObservable (D.state disk.old)
+        → Reaches (OutsidePass kind pass slots (S.changes changes.now))
+        (HasPassed kind pass slots (S.changes changes.now) (D.state disk.old).bytes)
+        (D.state disk.old) (D.state disk.new) result }
     ensures durable { IsObservable (D.state disk.old) → OnOk result (IsDurable (D.state disk.new)) }
-    ensures makes { IsObservable (D.state disk.old) → Makes (slot_writes pass * (S.changes changes.now).count + version_writes kind) 1 (D.state disk.old) (D.state disk.new) result }
-    ensures wrote { IsObservable (D.state disk.old) → 0 < (S.changes changes.now).count + version_writes kind → Rose (D.state disk.old).writes (D.state disk.new).writes }
+    ensures makes { IsObservable (D.state disk.old)
+        → Makes (slot_writes pass * (S.changes changes.now).count + version_writes kind) 1
+        (D.state disk.old) (D.state disk.new) result }
+    ensures wrote { IsObservable (D.state disk.old)
+        → 0 < (S.changes changes.now).count + version_writes kind
+        → Rose (D.state disk.old).writes (D.state disk.new).writes }
 {
     for k in 0..changes.count() {
         let (slot, bytes) = changes.change(k);
@@ -122,11 +140,17 @@ pub fn commit_changes<D: Disk, S: SlotChanges>(
     requires changes { AreChanges slots (S.changes changes.now) }
     requires some { 0 < (S.changes changes.now).count + version_writes kind }
     requires durable { IsObservable (D.state disk.old) → IsDurable (D.state disk.old) }
-    requires empty { IsObservable (D.state disk.old) → HasEmptyJournal slots (D.state disk.old).bytes }
+    requires empty { IsObservable (D.state disk.old)
+        → HasEmptyJournal slots (D.state disk.old).bytes }
     ensures call { IsCall (D.state disk.old) (D.state disk.new) result }
-    ensures commits { IsObservable (D.state disk.old) → CommitsTo slots (target kind slots (S.changes changes.now) (D.state disk.old).bytes) (D.state disk.old) (D.state disk.new) result }
-    ensures makes { IsObservable (D.state disk.old) → Makes (5 * (S.changes changes.now).count + (2 + 3 * version_writes kind)) 5 (D.state disk.old) (D.state disk.new) result }
-    ensures wrote { IsObservable (D.state disk.old) → Rose (D.state disk.old).writes (D.state disk.new).writes }
+    ensures commits { IsObservable (D.state disk.old)
+        → CommitsTo slots (target kind slots (S.changes changes.now) (D.state disk.old).bytes)
+        (D.state disk.old) (D.state disk.new) result }
+    ensures makes { IsObservable (D.state disk.old)
+        → Makes (5 * (S.changes changes.now).count + (2 + 3 * version_writes kind)) 5
+        (D.state disk.old) (D.state disk.new) result }
+    ensures wrote { IsObservable (D.state disk.old)
+        → Rose (D.state disk.old).writes (D.state disk.new).writes }
 {
     // Durable before the flag is set: behind a flag that is set, what the journal holds counts.
     write_slots(disk, slots, changes, Pass::Journal, kind)?;

@@ -12,8 +12,10 @@ use store_model::BLOCK;
 /// SHA-256 (FIPS 180-4) of all bytes, which are read once, in order, block by block.
 pub fn digest_disk<D: Disk>(disk: &mut D) -> Result<[u8; 32], DiskFault>
     ensures calls { AreCalls (D.state disk.old) (D.state disk.new) result }
-    ensures reads { IsObservable (D.state disk.old) → ReadsOnly (D.state disk.old) (D.state disk.new) }
-    ensures digest { IsObservable (D.state disk.old) → IfOk result (λ digest. digest ≡ sha256 (D.state disk.old).bytes) }
+    ensures reads { IsObservable (D.state disk.old)
+        → ReadsOnly (D.state disk.old) (D.state disk.new) }
+    ensures digest { IsObservable (D.state disk.old)
+        → IfOk result (λ digest. digest ≡ sha256 (D.state disk.old).bytes) }
 {
     let len = disk.len();
     let mut hasher = Sha256::new();

@@ -23,9 +23,13 @@ pub fn write_entry<D: Disk>(
     requires below { slot < slots }
     requires size { (D.state disk.old).size ≡ image_len slots }
     ensures call { IsCall (D.state disk.old) (D.state disk.new) result }
-    ensures reaches { IsObservable (D.state disk.old) → Reaches (OutsideEntry slots slot) (HasEntry slots slot mark shadow.now) (D.state disk.old) (D.state disk.new) result }
-    ensures makes { IsObservable (D.state disk.old) → Makes 2 0 (D.state disk.old) (D.state disk.new) result }
-    ensures wrote { IsObservable (D.state disk.old) → Rose (D.state disk.old).writes (D.state disk.new).writes }
+    ensures reaches { IsObservable (D.state disk.old)
+        → Reaches (OutsideEntry slots slot) (HasEntry slots slot mark shadow.now) (D.state disk.old)
+        (D.state disk.new) result }
+    ensures makes { IsObservable (D.state disk.old)
+        → Makes 2 0 (D.state disk.old) (D.state disk.new) result }
+    ensures wrote { IsObservable (D.state disk.old)
+        → Rose (D.state disk.old).writes (D.state disk.new).writes }
 {
     disk.write_at(shadow_at(slots, slot), shadow)?;
     disk.write_at(mark_at(slot), &[mark])
@@ -35,10 +39,15 @@ pub fn write_entry<D: Disk>(
 pub fn write_byte<D: Disk>(disk: &mut D, at: u64, byte: u8) -> Result<(), DiskFault>
     requires { at + 1 ≤ (D.state disk.old).size }
     ensures call { IsCall (D.state disk.old) (D.state disk.new) result }
-    ensures reaches { IsObservable (D.state disk.old) → Reaches (IsApart at 1) (λ image. image ≡ overwrite (D.state disk.old).bytes at (byte ∷ [])) (D.state disk.old) (D.state disk.new) result }
+    ensures reaches { IsObservable (D.state disk.old)
+        → Reaches (IsApart at 1) (λ image. image
+        ≡ overwrite (D.state disk.old).bytes at (byte ∷ [])) (D.state disk.old)
+        (D.state disk.new) result }
     ensures durable { IsObservable (D.state disk.old) → OnOk result (IsDurable (D.state disk.new)) }
-    ensures makes { IsObservable (D.state disk.old) → Makes 1 1 (D.state disk.old) (D.state disk.new) result }
-    ensures wrote { IsObservable (D.state disk.old) → Rose (D.state disk.old).writes (D.state disk.new).writes }
+    ensures makes { IsObservable (D.state disk.old)
+        → Makes 1 1 (D.state disk.old) (D.state disk.new) result }
+    ensures wrote { IsObservable (D.state disk.old)
+        → Rose (D.state disk.old).writes (D.state disk.new).writes }
 {
     disk.write_at(at, &[byte])?;
     disk.sync()
@@ -48,9 +57,13 @@ pub fn write_byte<D: Disk>(disk: &mut D, at: u64, byte: u8) -> Result<(), DiskFa
 pub fn write_flag<D: Disk>(disk: &mut D, flag: u8) -> Result<(), DiskFault>
     requires { gate_at + 1 ≤ (D.state disk.old).size }
     ensures call { IsCall (D.state disk.old) (D.state disk.new) result }
-    ensures reaches { IsObservable (D.state disk.old) → Reaches (IsApart gate_at 1) (λ image. image ≡ overwrite (D.state disk.old).bytes gate_at (flag ∷ [])) (D.state disk.old) (D.state disk.new) result }
+    ensures reaches { IsObservable (D.state disk.old)
+        → Reaches (IsApart gate_at 1)
+        (λ image. image ≡ overwrite (D.state disk.old).bytes gate_at (flag ∷ [])) (D.state disk.old)
+        (D.state disk.new) result }
     ensures durable { IsObservable (D.state disk.old) → OnOk result (IsDurable (D.state disk.new)) }
-    ensures makes { IsObservable (D.state disk.old) → Makes 1 1 (D.state disk.old) (D.state disk.new) result }
+    ensures makes { IsObservable (D.state disk.old)
+        → Makes 1 1 (D.state disk.old) (D.state disk.new) result }
 {
     write_byte(disk, gate_at(), flag)
 }

@@ -1,7 +1,7 @@
 //! The parameters that a disk's image has, by its header as it is read.
 //!
-//! Where the commit flag and the version's mark are set, the journal makes the image one of version 2. Then the header is
-//! read as one of it, whichever version it names.
+//! Where the commit flag and the version's mark are set, the journal makes the image one of version 2. Then the
+//! header is read as one of it, whichever version it names.
 ghost use Rattle.std.specs.Prelude.{◌≡◌, ◌+◌, ◌≤◌, take, drop, ◌&&◌, Some, IfSome, IfOk};
 ghost use Rattle.std.specs.Int.{w32, from_be_bytes};
 ghost use Rattle.store_model.specs.Parameters as model;
@@ -35,8 +35,11 @@ fn is_version_marked<D: Disk>(disk: &mut D, slots: u32) -> Result<bool, DiskFaul
     requires in_range { slots ≤ slots_limit }
     requires size { (D.state disk.old).size ≡ model.image_len slots }
     ensures calls { AreCalls (D.state disk.old) (D.state disk.new) result }
-    ensures reads { IsObservable (D.state disk.old) → ReadsOnly (D.state disk.old) (D.state disk.new) }
-    ensures value { IsObservable (D.state disk.old) → IfOk result (λ marked. marked ≡ (is_flag_set (D.state disk.old).bytes && is_marked (D.state disk.old).bytes slots)) }
+    ensures reads { IsObservable (D.state disk.old)
+        → ReadsOnly (D.state disk.old) (D.state disk.new) }
+    ensures value { IsObservable (D.state disk.old)
+        → IfOk result (λ marked. marked
+        ≡ (is_flag_set (D.state disk.old).bytes && is_marked (D.state disk.old).bytes slots)) }
 {
     if !is_flag_set(disk)? {
         return Ok(false);
@@ -47,7 +50,8 @@ fn is_version_marked<D: Disk>(disk: &mut D, slots: u32) -> Result<bool, DiskFaul
 /// The parameters that the block is the header of, where `marked` says that it is read as one of version 2.
 fn params_as_read(block: &Slot, marked: bool) -> Option<Params>
     ensures found { IfSome result (λ p. IsParameters p × (header p ≡ as_read marked block.now)) }
-    ensures only { (p : model.Parameters) → IsParameters p → header p ≡ as_read marked block.now → result ≡ Some p }
+    ensures only { (p : model.Parameters) → IsParameters p
+        → header p ≡ as_read marked block.now → result ≡ Some p }
 {
     if !marked {
         return read_header(block);

@@ -47,17 +47,23 @@ impl Journal {
         requires size { (D.state disk.old).size ≡ image_len params.now.slots }
         requires changes { AreChanges params.now.slots (S.changes changes.now) }
         requires durable { IsObservable (D.state disk.old) → IsDurable (D.state disk.old) }
-        requires empty { IsObservable (D.state disk.old) → HasEmptyJournal params.now.slots (D.state disk.old).bytes }
+        requires empty { IsObservable (D.state disk.old)
+            → HasEmptyJournal params.now.slots (D.state disk.old).bytes }
         ensures calls { AreCalls (D.state disk.old) (D.state disk.new) result }
-        ensures commits { IsObservable (D.state disk.old) → Commits params.now.slots (S.changes changes.now) (D.state disk.old) (D.state disk.new) result }
+        ensures commits { IsObservable (D.state disk.old)
+            → Commits params.now.slots (S.changes changes.now) (D.state disk.old)
+            (D.state disk.new) result }
 
         // with no change nothing is called, and otherwise so many writes and syncs are made
         ensures none { (S.changes changes.now).count ≡ 0 → disk.new ≡ disk.old }
         ensures none_fails { (S.changes changes.now).count ≡ 0 → IsOk result }
-        ensures makes { IsObservable (D.state disk.old) → 0 < (S.changes changes.now).count → Makes (5 * (S.changes changes.now).count + 2) 5 (D.state disk.old) (D.state disk.new) result }
+        ensures makes { IsObservable (D.state disk.old) → 0 < (S.changes changes.now).count
+            → Makes (5 * (S.changes changes.now).count + 2) 5 (D.state disk.old)
+            (D.state disk.new) result }
 
         // a fault comes at a write or behind one
-        ensures wrote { IsObservable (D.state disk.old) → OnErr result (Rose (D.state disk.old).writes (D.state disk.new).writes) }
+        ensures wrote { IsObservable (D.state disk.old)
+            → OnErr result (Rose (D.state disk.old).writes (D.state disk.new).writes) }
     {
         if changes.count() == 0 {
             return Ok(());
@@ -67,10 +73,10 @@ impl Journal {
 
     /// Changes these slots of the table together, and makes the image one of version 2 with them.
     ///
-    /// It asks for parameters of version 1, and goes by their slots. Each image that a crash at any moment of the call may
-    /// leave has the disk's length. It recovers to the old image, or to the one with the slots changed and of version 2.
-    /// So does what the disk reads after `DiskFault`; recover it before it is used again. After Ok the disk is durable and
-    /// reads the second of these. For no change the version is written all the same.
+    /// It asks for parameters of version 1, and goes by their slots. Each image that a crash at any moment of the
+    /// call may leave has the disk's length. It recovers to the old image, or to the one with the slots changed and
+    /// of version 2. So does what the disk reads after `DiskFault`; recover it before it is used again. After Ok the
+    /// disk is durable and reads the second of these. For no change the version is written all the same.
     pub fn commit_upgrade<D: Disk, S: SlotChanges>(
         disk: &mut D,
         params: &Params,
@@ -80,13 +86,19 @@ impl Journal {
         requires size { (D.state disk.old).size ≡ image_len params.now.slots }
         requires changes { AreChanges params.now.slots (S.changes changes.now) }
         requires durable { IsObservable (D.state disk.old) → IsDurable (D.state disk.old) }
-        requires empty { IsObservable (D.state disk.old) → HasEmptyJournal params.now.slots (D.state disk.old).bytes }
+        requires empty { IsObservable (D.state disk.old)
+            → HasEmptyJournal params.now.slots (D.state disk.old).bytes }
         ensures calls { AreCalls (D.state disk.old) (D.state disk.new) result }
-        ensures commits { IsObservable (D.state disk.old) → CommitsUpgrade params.now.slots (S.changes changes.now) (D.state disk.old) (D.state disk.new) result }
-        ensures makes { IsObservable (D.state disk.old) → Makes (upgrade_writes (S.changes changes.now).count) upgrade_syncs (D.state disk.old) (D.state disk.new) result }
+        ensures commits { IsObservable (D.state disk.old)
+            → CommitsUpgrade params.now.slots (S.changes changes.now) (D.state disk.old)
+            (D.state disk.new) result }
+        ensures makes { IsObservable (D.state disk.old)
+            → Makes (upgrade_writes (S.changes changes.now).count) upgrade_syncs (D.state disk.old)
+            (D.state disk.new) result }
 
         // a fault comes at a write or behind one
-        ensures wrote { IsObservable (D.state disk.old) → OnErr result (Rose (D.state disk.old).writes (D.state disk.new).writes) }
+        ensures wrote { IsObservable (D.state disk.old)
+            → OnErr result (Rose (D.state disk.old).writes (D.state disk.new).writes) }
     {
         commit_changes(disk, params.slots(), changes, Kind::Upgrade)
     }
@@ -98,18 +110,28 @@ impl Journal {
     /// recovers to the same; what the disk reads recovers to the same, after `DiskFault` too, and then it is recovered
     /// again before it is used. After Ok the disk is durable and reads what it recovers to.
     ///
-    /// With an empty journal it makes one sync and no write. Otherwise it writes once, where the flag is set, each marked
-    /// slot, the version where that is marked, and the flag; and in any case each block of the journal that is not zero.
+    /// With an empty journal it makes one sync and no write. Otherwise it writes once, where the flag is set, each
+    /// marked slot, the version where that is marked, and the flag; and in any case each block of the journal that is
+    /// not zero.
     pub fn recover<D: Disk>(disk: &mut D, params: &Params) -> Result<(), DiskFault>
         requires { (D.state disk.old).size ≡ image_len params.now.slots }
         ensures calls { AreCalls (D.state disk.old) (D.state disk.new) result }
-        ensures recovers { IsObservable (D.state disk.old) → Recovers params.now.slots (D.state disk.old) (D.state disk.new) result }
+        ensures recovers { IsObservable (D.state disk.old)
+            → Recovers params.now.slots (D.state disk.old) (D.state disk.new) result }
 
         // with an empty journal one sync is made and no write, and otherwise no more than what is to be changed takes
-        ensures quiet { IsObservable (D.state disk.old) → HasEmptyJournal params.now.slots (D.state disk.old).bytes → (D.state disk.new).writes ≡ (D.state disk.old).writes }
-        ensures quiet_syncs { IsObservable (D.state disk.old) → HasEmptyJournal params.now.slots (D.state disk.old).bytes → (D.state disk.new).syncs ≡ raised (D.state disk.old).syncs }
-        ensures makes { IsObservable (D.state disk.old) → (HasEmptyJournal params.now.slots (D.state disk.old).bytes → ⊥)
-            → Makes (redo_writes params.now.slots (D.state disk.old).bytes + erase_writes params.now.slots (D.state disk.old).bytes) (redo_syncs (D.state disk.old).bytes + 2) (D.state disk.old) (D.state disk.new) result }
+        ensures quiet { IsObservable (D.state disk.old)
+            → HasEmptyJournal params.now.slots (D.state disk.old).bytes
+            → (D.state disk.new).writes ≡ (D.state disk.old).writes }
+        ensures quiet_syncs { IsObservable (D.state disk.old)
+            → HasEmptyJournal params.now.slots (D.state disk.old).bytes
+            → (D.state disk.new).syncs ≡ raised (D.state disk.old).syncs }
+        ensures makes { IsObservable (D.state disk.old)
+            → (HasEmptyJournal params.now.slots (D.state disk.old).bytes → ⊥)
+            → Makes (redo_writes params.now.slots (D.state disk.old).bytes
+            + erase_writes params.now.slots (D.state disk.old).bytes)
+            (redo_syncs (D.state disk.old).bytes + 2) (D.state disk.old)
+            (D.state disk.new) result }
     {
         // What was pending has to stand before it is judged: a crash could still take it back.
         disk.sync()?;
@@ -130,32 +152,52 @@ impl Journal {
     pub fn format<D: Disk>(disk: &mut D, params: &Params) -> Result<(), JournalFault>
         ensures size { (D.state disk.new).size ≡ (D.state disk.old).size }
         ensures observable { (D.state disk.new).is_observable ≡ (D.state disk.old).is_observable }
-        ensures faults { (D.state disk.new).faults ≡ faults_after_format (D.state disk.old).faults result }
+        ensures faults { (D.state disk.new).faults
+            ≡ faults_after_format (D.state disk.old).faults result }
         ensures rise { (D.state disk.old).faults ≤ (D.state disk.new).faults }
         ensures writes { (D.state disk.old).writes ≤ (D.state disk.new).writes }
         ensures syncs { (D.state disk.old).syncs ≤ (D.state disk.new).syncs }
 
-        ensures wrong_length { (result ≡ Err JournalFault.WrongLength) ↔ ((D.state disk.old).size ≢ image_len params.now.slots) }
+        ensures wrong_length { (result ≡ Err JournalFault.WrongLength)
+            ↔ ((D.state disk.old).size ≢ image_len params.now.slots) }
         ensures wrong_length_keeps { result ≡ Err JournalFault.WrongLength → disk.new ≡ disk.old }
 
-        ensures already_image { IsObservable (D.state disk.old) → result ≡ Err JournalFault.AlreadyImage → slice_index (D.state disk.old).bytes 0 ≡ first_byte }
+        ensures already_image { IsObservable (D.state disk.old)
+            → result ≡ Err JournalFault.AlreadyImage
+            → slice_index (D.state disk.old).bytes 0 ≡ first_byte }
         // an image is only read, also where that fails
-        ensures image_is_kept { IsObservable (D.state disk.old) → (D.state disk.old).size ≡ image_len params.now.slots → slice_index (D.state disk.old).bytes 0 ≡ first_byte
+        ensures image_is_kept { IsObservable (D.state disk.old)
+            → (D.state disk.old).size ≡ image_len params.now.slots
+            → slice_index (D.state disk.old).bytes 0 ≡ first_byte
             → ReadsOnly (D.state disk.old) (D.state disk.new) }
-        ensures already_image_keeps { IsObservable (D.state disk.old) → result ≡ Err JournalFault.AlreadyImage → ReadsOnly (D.state disk.old) (D.state disk.new) }
-        ensures image_is_found { IsObservable (D.state disk.old) → (D.state disk.old).size ≡ image_len params.now.slots → slice_index (D.state disk.old).bytes 0 ≡ first_byte
+        ensures already_image_keeps { IsObservable (D.state disk.old)
+            → result ≡ Err JournalFault.AlreadyImage
+            → ReadsOnly (D.state disk.old) (D.state disk.new) }
+        ensures image_is_found { IsObservable (D.state disk.old)
+            → (D.state disk.old).size ≡ image_len params.now.slots
+            → slice_index (D.state disk.old).bytes 0 ≡ first_byte
             → (result ≡ Err JournalFault.AlreadyImage) ⊎ (result ≡ Err JournalFault.Disk) }
 
-        ensures disk_failed { result ≡ Err JournalFault.Disk → Rose (D.state disk.old).faults (D.state disk.new).faults }
-        ensures makes { IsObservable (D.state disk.old) → (D.state disk.old).size ≡ image_len params.now.slots → slice_index (D.state disk.old).bytes 0 ≢ first_byte
-            → Makes (image_len params.now.slots / block_len + 1) 2 (D.state disk.old) (D.state disk.new) result }
-        ensures formats { IsObservable (D.state disk.old) → Formats params.now (D.state disk.new) result }
+        ensures disk_failed { result ≡ Err JournalFault.Disk
+            → Rose (D.state disk.old).faults (D.state disk.new).faults }
+        ensures makes { IsObservable (D.state disk.old)
+            → (D.state disk.old).size ≡ image_len params.now.slots
+            → slice_index (D.state disk.old).bytes 0 ≢ first_byte
+            → Makes (image_len params.now.slots / block_len + 1) 2 (D.state disk.old)
+            (D.state disk.new) result }
+        ensures formats { IsObservable (D.state disk.old)
+            → Formats params.now (D.state disk.new) result }
 
         // what the disk reads, after a fault too, and where nothing was pending what a crash may leave
-        ensures reads { IsObservable (D.state disk.old) → (D.state disk.old).size ≡ image_len params.now.slots → slice_index (D.state disk.old).bytes 0 ≢ first_byte
+        ensures reads { IsObservable (D.state disk.old)
+            → (D.state disk.old).size ≡ image_len params.now.slots
+            → slice_index (D.state disk.old).bytes 0 ≢ first_byte
             → IsEmptyOrNone params.now (D.state disk.new).bytes }
-        ensures crash { IsObservable (D.state disk.old) → (D.state disk.old).size ≡ image_len params.now.slots → slice_index (D.state disk.old).bytes 0 ≢ first_byte
-            → IsDurable (D.state disk.old) → LeavesOnly (D.state disk.old) (D.state disk.new) (IsEmptyOrNone params.now) }
+        ensures crash { IsObservable (D.state disk.old)
+            → (D.state disk.old).size ≡ image_len params.now.slots
+            → slice_index (D.state disk.old).bytes 0 ≢ first_byte
+            → IsDurable (D.state disk.old)
+            → LeavesOnly (D.state disk.old) (D.state disk.new) (IsEmptyOrNone params.now) }
     {
         if disk.len() != len_of(params.slots()) {
             return Err(JournalFault::WrongLength);
@@ -166,9 +208,9 @@ impl Journal {
         Ok(write_image(disk, params)?)
     }
 
-    /// The parameters that the image has that recovery would leave. `None` comes exactly where the disk is no image: its
-    /// header, as it is read, names no parameters, or not those of its length. Nothing is written. After `DiskFault` the
-    /// disk is as it was.
+    /// The parameters that the image has that recovery would leave. `None` comes exactly where the disk is no image:
+    /// its header, as it is read, names no parameters, or not those of its length. Nothing is written. After
+    /// `DiskFault` the disk is as it was.
     pub fn view_header<D: Disk>(disk: &mut D) -> Result<Option<Params>, DiskFault>
         ensures views { ViewsHeader (D.state disk.old) (D.state disk.new) result }
     {
@@ -186,8 +228,10 @@ impl Journal {
         requires below { at < params.now.slots }
         requires size { (D.state disk.old).size ≡ image_len params.now.slots }
         ensures calls { AreCalls (D.state disk.old) (D.state disk.new) result }
-        ensures reads { IsObservable (D.state disk.old) → ReadsOnly (D.state disk.old) (D.state disk.new) }
-        ensures slot { IsObservable (D.state disk.old) → OnOk result (into.new ≡ recovered_slot params.now.slots (D.state disk.old).bytes at) }
+        ensures reads { IsObservable (D.state disk.old)
+            → ReadsOnly (D.state disk.old) (D.state disk.new) }
+        ensures slot { IsObservable (D.state disk.old)
+            → OnOk result (into.new ≡ recovered_slot params.now.slots (D.state disk.old).bytes at) }
     {
         read_recovered(disk, &mut JournalCache::new(), params.slots(), at, into)
     }
@@ -199,12 +243,15 @@ impl Journal {
     /// byte is zero and durable, whatever was pending before. On a disk of no byte nothing is called.
     pub fn wipe<D: Disk>(disk: &mut D) -> Result<(), DiskFault>
         ensures calls { AreCalls (D.state disk.old) (D.state disk.new) result }
-        ensures wipes { IsObservable (D.state disk.old) → Wipes (D.state disk.old) (D.state disk.new) result }
+        ensures wipes { IsObservable (D.state disk.old)
+            → Wipes (D.state disk.old) (D.state disk.new) result }
 
         // with no byte nothing is called, and otherwise so many writes and syncs are made
         ensures none { (D.state disk.old).size ≡ 0 → disk.new ≡ disk.old }
         ensures none_fails { (D.state disk.old).size ≡ 0 → IsOk result }
-        ensures makes { IsObservable (D.state disk.old) → 0 < (D.state disk.old).size → Makes (1 + block_count (D.state disk.old).size) 2 (D.state disk.old) (D.state disk.new) result }
+        ensures makes { IsObservable (D.state disk.old) → 0 < (D.state disk.old).size
+            → Makes (1 + block_count (D.state disk.old).size) 2 (D.state disk.old)
+            (D.state disk.new) result }
     {
         if disk.len() == 0 {
             return Ok(());
@@ -216,8 +263,10 @@ impl Journal {
     /// After `DiskFault` the disk is as it was.
     pub fn digest<D: Disk>(disk: &mut D) -> Result<[u8; 32], DiskFault>
         ensures calls { AreCalls (D.state disk.old) (D.state disk.new) result }
-        ensures reads { IsObservable (D.state disk.old) → ReadsOnly (D.state disk.old) (D.state disk.new) }
-        ensures digest { IsObservable (D.state disk.old) → IfOk result (λ digest. digest ≡ sha256 (D.state disk.old).bytes) }
+        ensures reads { IsObservable (D.state disk.old)
+            → ReadsOnly (D.state disk.old) (D.state disk.new) }
+        ensures digest { IsObservable (D.state disk.old)
+            → IfOk result (λ digest. digest ≡ sha256 (D.state disk.old).bytes) }
     {
         digest_disk(disk)
     }

@@ -39,7 +39,8 @@ impl JournalCache {
         requires size { 4097 ≤ (D.state disk.old).size }
         requires cache { IsJournalCacheOf (D.state disk.old) self.old }
         ensures journal { ReadsJournal (D.state disk.old) (D.state disk.new) self.new result }
-        ensures value { IsObservable (D.state disk.old) → IfOk result (λ set. set ≡ is_flag_set (D.state disk.old).bytes) }
+        ensures value { IsObservable (D.state disk.old)
+            → IfOk result (λ set. set ≡ is_flag_set (D.state disk.old).bytes) }
     {
         if let Some(set) = self.flag {
             return Ok(set);
@@ -69,7 +70,8 @@ impl JournalCache {
     fn is_marked<D: Disk>(&mut self, disk: &mut D, slots: u32, slot: u32) -> Result<bool, DiskFault>
         requires { HasSlot slots slot (D.state disk.old) self.old }
         ensures journal { ReadsJournal (D.state disk.old) (D.state disk.new) self.new result }
-        ensures value { IsObservable (D.state disk.old) → IfOk result (λ marked. marked ≡ is_marked (D.state disk.old).bytes slot) }
+        ensures value { IsObservable (D.state disk.old)
+            → IfOk result (λ marked. marked ≡ is_marked (D.state disk.old).bytes slot) }
     {
         let behind = slot % BLOCK as u32;
         self.load_marks(disk, slots, slot - behind)?;
@@ -85,7 +87,9 @@ impl JournalCache {
     ) -> Result<bool, DiskFault>
         requires { HasSlot slots slot (D.state disk.old) self.old }
         ensures journal { ReadsJournal (D.state disk.old) (D.state disk.new) self.new result }
-        ensures value { IsObservable (D.state disk.old) → IfOk result (λ redone. redone ≡ (is_flag_set (D.state disk.old).bytes && is_marked (D.state disk.old).bytes slot)) }
+        ensures value { IsObservable (D.state disk.old)
+            → IfOk result (λ redone. redone
+            ≡ (is_flag_set (D.state disk.old).bytes && is_marked (D.state disk.old).bytes slot)) }
     {
         if !self.is_flag_set(disk)? {
             return Ok(false);

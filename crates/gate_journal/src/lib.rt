@@ -1,5 +1,5 @@
-//! The redo journal of an image: table slots, and the version of the format, that change together, through crashes at any
-//! moment.
+//! The redo journal of an image: table slots, and the version of the format, that change together, through crashes at
+//! any moment.
 //!
 //! A commit writes the new bytes of each changed slot into its shadow block and marks the slot, makes that durable,
 //! sets the commit flag, makes that durable, writes the slots into the table, makes that durable, clears the flag,

@@ -1,12 +1,16 @@
-//! What recovery is made of: header and table with the journal redone, where the commit flag is set, and an empty journal.
-ghost use Rattle.std.specs.Prelude.{◌≡◌, ◌↔◌, ℕ, ◌+◌, ◌-◌, ◌*◌, ◌<◌, ◌≤◌, min, length, slice_index, not, ◌==◌, IsTrue, IfOk, OnOk};
-ghost use Rattle.store_model.specs.Parameters.{image_len, shadow_at, table_at, slots_limit, block_len, gate_at, marks_at};
+//! What recovery is made of: header and table with the journal redone, where the commit flag is set, and an empty
+//! journal.
+ghost use Rattle.std.specs.Prelude.{◌≡◌, ◌↔◌, ℕ, ◌+◌, ◌-◌, ◌*◌, ◌<◌, ◌≤◌, min, length, slice_index, not, ◌==◌, IsTrue};
+ghost use Rattle.std.specs.Prelude.{IfOk, OnOk};
+ghost use Rattle.store_model.specs.Parameters.{image_len, shadow_at, table_at, slots_limit, block_len, gate_at};
+ghost use Rattle.store_model.specs.Parameters.{marks_at};
 ghost use Rattle.store_model.specs.Images.{bytes_at, is_flag_set, is_marked, recovered, journal_len};
 ghost use Rattle.disk_model.specs.DiskState.{DiskState, IsObservable, IsDurable};
 ghost use Rattle.disk_model.specs.DiskCalls.{IsCall};
 ghost use Rattle.gate_journal.specs.Places.{IsApart, AreCalls, Reaches, Makes, ReadsOnly, IsZeroAt};
 ghost use Rattle.gate_journal.specs.Phases.{table_slot, HasEmptyJournal};
-ghost use Rattle.gate_journal.specs.Recovery.{OutsideMarked, AreRedone, OutsideVersion, HasRedoneVersion, OutsideRedone, IsRedone, marked_count, clear_writes, erase_writes};
+ghost use Rattle.gate_journal.specs.Recovery.{OutsideMarked, AreRedone, OutsideVersion, HasRedoneVersion};
+ghost use Rattle.gate_journal.specs.Recovery.{OutsideRedone, IsRedone, marked_count, clear_writes, erase_writes};
 
 use disk_model::Disk;
 use store_base::{DiskFault, gate_at, mark_at, shadow_at, table_at, version_at, version_byte};
@@ -25,8 +29,10 @@ fn is_zero(bytes: &[u8]) -> bool
 fn is_block_zero<D: Disk>(disk: &mut D, at: u64) -> Result<bool, DiskFault>
     requires { at + block_len ≤ (D.state disk.old).size }
     ensures call { IsCall (D.state disk.old) (D.state disk.new) result }
-    ensures reads { IsObservable (D.state disk.old) → ReadsOnly (D.state disk.old) (D.state disk.new) }
-    ensures value { IsObservable (D.state disk.old) → IfOk result (λ zero. IsTrue zero ↔ IsZeroAt at block_len (D.state disk.old).bytes) }
+    ensures reads { IsObservable (D.state disk.old)
+        → ReadsOnly (D.state disk.old) (D.state disk.new) }
+    ensures value { IsObservable (D.state disk.old)
+        → IfOk result (λ zero. IsTrue zero ↔ IsZeroAt at block_len (D.state disk.old).bytes) }
 {
     let mut block = [0; BLOCK];
     disk.read_at(at, &mut block)?;
@@ -37,8 +43,10 @@ fn is_block_zero<D: Disk>(disk: &mut D, at: u64) -> Result<bool, DiskFault>
 pub fn is_byte_set<D: Disk>(disk: &mut D, at: u64) -> Result<bool, DiskFault>
     requires { at + 1 ≤ (D.state disk.old).size }
     ensures call { IsCall (D.state disk.old) (D.state disk.new) result }
-    ensures reads { IsObservable (D.state disk.old) → ReadsOnly (D.state disk.old) (D.state disk.new) }
-    ensures value { IsObservable (D.state disk.old) → IfOk result (λ set. set ≡ not (slice_index (D.state disk.old).bytes at == 0)) }
+    ensures reads { IsObservable (D.state disk.old)
+        → ReadsOnly (D.state disk.old) (D.state disk.new) }
+    ensures value { IsObservable (D.state disk.old)
+        → IfOk result (λ set. set ≡ not (slice_index (D.state disk.old).bytes at == 0)) }
 {
     let mut byte = [0; 1];
     disk.read_at(at, &mut byte)?;
@@ -50,8 +58,12 @@ fn clear_range<D: Disk>(disk: &mut D, at: u64, buffer: &mut [u8]) -> Result<(), 
     requires few { length buffer.old ≤ block_len }
     requires within { at + length buffer.old ≤ (D.state disk.old).size }
     ensures call { IsCall (D.state disk.old) (D.state disk.new) result }
-    ensures reaches { IsObservable (D.state disk.old) → Reaches (IsApart at (length buffer.old)) (IsZeroAt at (length buffer.old)) (D.state disk.old) (D.state disk.new) result }
-    ensures makes { IsObservable (D.state disk.old) → Makes (clear_writes at (length buffer.old) (D.state disk.old).bytes) 0 (D.state disk.old) (D.state disk.new) result }
+    ensures reaches { IsObservable (D.state disk.old)
+        → Reaches (IsApart at (length buffer.old)) (IsZeroAt at (length buffer.old))
+        (D.state disk.old) (D.state disk.new) result }
+    ensures makes { IsObservable (D.state disk.old)
+        → Makes (clear_writes at (length buffer.old) (D.state disk.old).bytes) 0 (D.state disk.old)
+        (D.state disk.new) result }
 {
     disk.read_at(at, buffer)?;
     if is_zero(buffer) {
@@ -65,8 +77,12 @@ fn clear_range<D: Disk>(disk: &mut D, at: u64, buffer: &mut [u8]) -> Result<(), 
 fn clear_block<D: Disk>(disk: &mut D, at: u64) -> Result<(), DiskFault>
     requires { at + block_len ≤ (D.state disk.old).size }
     ensures call { IsCall (D.state disk.old) (D.state disk.new) result }
-    ensures reaches { IsObservable (D.state disk.old) → Reaches (IsApart at block_len) (IsZeroAt at block_len) (D.state disk.old) (D.state disk.new) result }
-    ensures makes { IsObservable (D.state disk.old) → Makes (clear_writes at block_len (D.state disk.old).bytes) 0 (D.state disk.old) (D.state disk.new) result }
+    ensures reaches { IsObservable (D.state disk.old)
+        → Reaches (IsApart at block_len) (IsZeroAt at block_len) (D.state disk.old)
+        (D.state disk.new) result }
+    ensures makes { IsObservable (D.state disk.old)
+        → Makes (clear_writes at block_len (D.state disk.old).bytes) 0 (D.state disk.old)
+        (D.state disk.new) result }
 {
     let mut block = [0; BLOCK];
     clear_range(disk, at, &mut block)
@@ -76,8 +92,12 @@ fn clear_block<D: Disk>(disk: &mut D, at: u64) -> Result<(), DiskFault>
 fn clear_flag_block<D: Disk>(disk: &mut D) -> Result<(), DiskFault>
     requires { marks_at ≤ (D.state disk.old).size }
     ensures call { IsCall (D.state disk.old) (D.state disk.new) result }
-    ensures reaches { IsObservable (D.state disk.old) → Reaches (IsApart (gate_at + 1) (block_len - 1)) (IsZeroAt (gate_at + 1) (block_len - 1)) (D.state disk.old) (D.state disk.new) result }
-    ensures makes { IsObservable (D.state disk.old) → Makes (clear_writes (gate_at + 1) (block_len - 1) (D.state disk.old).bytes) 0 (D.state disk.old) (D.state disk.new) result }
+    ensures reaches { IsObservable (D.state disk.old)
+        → Reaches (IsApart (gate_at + 1) (block_len - 1)) (IsZeroAt (gate_at + 1) (block_len - 1))
+        (D.state disk.old) (D.state disk.new) result }
+    ensures makes { IsObservable (D.state disk.old)
+        → Makes (clear_writes (gate_at + 1) (block_len - 1) (D.state disk.old).bytes) 0
+        (D.state disk.old) (D.state disk.new) result }
 {
     let mut rest = [0; BLOCK - 1];
     clear_range(disk, gate_at() + 1, &mut rest)
@@ -89,8 +109,13 @@ pub fn erase_area<D: Disk>(disk: &mut D, slots: u32) -> Result<(), DiskFault>
     requires some { 1 ≤ slots }
     requires size { (D.state disk.old).size ≡ image_len slots }
     ensures call { IsCall (D.state disk.old) (D.state disk.new) result }
-    ensures reaches { IsObservable (D.state disk.old) → Reaches (IsApart (gate_at + 1) (journal_len slots - 1)) (IsZeroAt (gate_at + 1) (journal_len slots - 1)) (D.state disk.old) (D.state disk.new) result }
-    ensures makes { IsObservable (D.state disk.old) → Makes (erase_writes slots (D.state disk.old).bytes) 1 (D.state disk.old) (D.state disk.new) result }
+    ensures reaches { IsObservable (D.state disk.old)
+        → Reaches (IsApart (gate_at + 1) (journal_len slots - 1))
+        (IsZeroAt (gate_at + 1) (journal_len slots - 1)) (D.state disk.old)
+        (D.state disk.new) result }
+    ensures makes { IsObservable (D.state disk.old)
+        → Makes (erase_writes slots (D.state disk.old).bytes) 1 (D.state disk.old)
+        (D.state disk.new) result }
     ensures durable { IsObservable (D.state disk.old) → OnOk result (IsDurable (D.state disk.new)) }
 {
     clear_flag_block(disk)?;
@@ -106,8 +131,10 @@ pub fn is_journal_zero<D: Disk>(disk: &mut D, slots: u32) -> Result<bool, DiskFa
     requires some { 1 ≤ slots }
     requires size { (D.state disk.old).size ≡ image_len slots }
     ensures calls { AreCalls (D.state disk.old) (D.state disk.new) result }
-    ensures reads { IsObservable (D.state disk.old) → ReadsOnly (D.state disk.old) (D.state disk.new) }
-    ensures value { IsObservable (D.state disk.old) → IfOk result (λ zero. IsTrue zero ↔ HasEmptyJournal slots (D.state disk.old).bytes) }
+    ensures reads { IsObservable (D.state disk.old)
+        → ReadsOnly (D.state disk.old) (D.state disk.new) }
+    ensures value { IsObservable (D.state disk.old)
+        → IfOk result (λ zero. IsTrue zero ↔ HasEmptyJournal slots (D.state disk.old).bytes) }
 {
     for block in 1..table_at(slots, 0) / BLOCK as u64 {
         if !is_block_zero(disk, block * BLOCK as u64)? {
@@ -122,8 +149,10 @@ pub fn is_journal_zero<D: Disk>(disk: &mut D, slots: u32) -> Result<bool, DiskFa
 pub fn is_flag_set<D: Disk>(disk: &mut D) -> Result<bool, DiskFault>
     requires { gate_at + 1 ≤ (D.state disk.old).size }
     ensures call { IsCall (D.state disk.old) (D.state disk.new) result }
-    ensures reads { IsObservable (D.state disk.old) → ReadsOnly (D.state disk.old) (D.state disk.new) }
-    ensures value { IsObservable (D.state disk.old) → IfOk result (λ set. set ≡ is_flag_set (D.state disk.old).bytes) }
+    ensures reads { IsObservable (D.state disk.old)
+        → ReadsOnly (D.state disk.old) (D.state disk.new) }
+    ensures value { IsObservable (D.state disk.old)
+        → IfOk result (λ set. set ≡ is_flag_set (D.state disk.old).bytes) }
 {
     is_byte_set(disk, gate_at())
 }
@@ -134,8 +163,13 @@ fn redo_slot<D: Disk>(disk: &mut D, slots: u32, slot: u32) -> Result<(), DiskFau
     requires below { slot < slots }
     requires size { (D.state disk.old).size ≡ image_len slots }
     ensures call { IsCall (D.state disk.old) (D.state disk.new) result }
-    ensures reaches { IsObservable (D.state disk.old) → Reaches (IsApart (table_at slots slot) block_len) (λ image. table_slot slots image slot ≡ bytes_at (D.state disk.old).bytes (shadow_at slots slot) block_len) (D.state disk.old) (D.state disk.new) result }
-    ensures makes { IsObservable (D.state disk.old) → Makes 1 0 (D.state disk.old) (D.state disk.new) result }
+    ensures reaches { IsObservable (D.state disk.old)
+        → Reaches (IsApart (table_at slots slot) block_len)
+        (λ image. table_slot slots image slot
+        ≡ bytes_at (D.state disk.old).bytes (shadow_at slots slot) block_len) (D.state disk.old)
+        (D.state disk.new) result }
+    ensures makes { IsObservable (D.state disk.old)
+        → Makes 1 0 (D.state disk.old) (D.state disk.new) result }
 {
     let mut bytes = [0; BLOCK];
     disk.read_at(shadow_at(slots, slot), &mut bytes)?;
@@ -148,8 +182,14 @@ fn redo_block<D: Disk>(disk: &mut D, slots: u32, first: u32) -> Result<(), DiskF
     requires below { first < slots }
     requires size { (D.state disk.old).size ≡ image_len slots }
     ensures calls { AreCalls (D.state disk.old) (D.state disk.new) result }
-    ensures reaches { IsObservable (D.state disk.old) → Reaches (OutsideMarked slots first (min slots (first + block_len)) (D.state disk.old).bytes) (AreRedone slots first (min slots (first + block_len)) (D.state disk.old).bytes) (D.state disk.old) (D.state disk.new) result }
-    ensures makes { IsObservable (D.state disk.old) → Makes (marked_count first (min slots (first + block_len) - first) (D.state disk.old).bytes) 0 (D.state disk.old) (D.state disk.new) result }
+    ensures reaches { IsObservable (D.state disk.old)
+        → Reaches (OutsideMarked slots first (min slots (first + block_len))
+        (D.state disk.old).bytes)
+        (AreRedone slots first (min slots (first + block_len)) (D.state disk.old).bytes)
+        (D.state disk.old) (D.state disk.new) result }
+    ensures makes { IsObservable (D.state disk.old)
+        → Makes (marked_count first (min slots (first + block_len) - first)
+        (D.state disk.old).bytes) 0 (D.state disk.old) (D.state disk.new) result }
 {
     let mut marks = [0; BLOCK];
     disk.read_at(mark_at(first), &mut marks)?;
@@ -166,8 +206,13 @@ fn redo_version<D: Disk>(disk: &mut D, slots: u32) -> Result<(), DiskFault>
     requires in_range { slots ≤ slots_limit }
     requires size { (D.state disk.old).size ≡ image_len slots }
     ensures call { IsCall (D.state disk.old) (D.state disk.new) result }
-    ensures reaches { IsObservable (D.state disk.old) → Reaches (OutsideVersion slots (D.state disk.old).bytes) (HasRedoneVersion slots (D.state disk.old).bytes) (D.state disk.old) (D.state disk.new) result }
-    ensures makes { IsObservable (D.state disk.old) → Makes (marked_count slots 1 (D.state disk.old).bytes) 0 (D.state disk.old) (D.state disk.new) result }
+    ensures reaches { IsObservable (D.state disk.old)
+        → Reaches (OutsideVersion slots (D.state disk.old).bytes)
+        (HasRedoneVersion slots (D.state disk.old).bytes) (D.state disk.old)
+        (D.state disk.new) result }
+    ensures makes { IsObservable (D.state disk.old)
+        → Makes (marked_count slots 1 (D.state disk.old).bytes) 0 (D.state disk.old)
+        (D.state disk.new) result }
 {
     if is_byte_set(disk, mark_at(slots))? {
         return disk.write_at(version_at(), &[version_byte(Version::Two)]);
@@ -181,8 +226,12 @@ pub fn redo_table<D: Disk>(disk: &mut D, slots: u32) -> Result<(), DiskFault>
     requires in_range { slots ≤ slots_limit }
     requires size { (D.state disk.old).size ≡ image_len slots }
     ensures calls { AreCalls (D.state disk.old) (D.state disk.new) result }
-    ensures reaches { IsObservable (D.state disk.old) → Reaches (OutsideRedone slots (D.state disk.old).bytes) (IsRedone slots (D.state disk.old).bytes) (D.state disk.old) (D.state disk.new) result }
-    ensures makes { IsObservable (D.state disk.old) → Makes (marked_count 0 (slots + 1) (D.state disk.old).bytes) 1 (D.state disk.old) (D.state disk.new) result }
+    ensures reaches { IsObservable (D.state disk.old)
+        → Reaches (OutsideRedone slots (D.state disk.old).bytes)
+        (IsRedone slots (D.state disk.old).bytes) (D.state disk.old) (D.state disk.new) result }
+    ensures makes { IsObservable (D.state disk.old)
+        → Makes (marked_count 0 (slots + 1) (D.state disk.old).bytes) 1 (D.state disk.old)
+        (D.state disk.new) result }
     ensures durable { IsObservable (D.state disk.old) → OnOk result (IsDurable (D.state disk.new)) }
 {
     for block in 0..slots.div_ceil(BLOCK as u32) {

@@ -4,7 +4,8 @@ ghost use Rattle.store_model.specs.Parameters.{IsParameters, image_len, block_le
 ghost use Rattle.store_model.specs.Images.{bytes_at, recovered_slot};
 ghost use Rattle.disk_model.specs.DiskState.{DiskState, IsObservable};
 ghost use Rattle.gate_journal.specs.JournalCaches.{IsJournalCacheOf, HasSlot, ReadsJournal};
-ghost use Rattle.gate_journal.specs.ViewState.{viewed, viewed_count, viewed_whole, KeepsView, KeepsView-refl, KeepsView-trans};
+ghost use Rattle.gate_journal.specs.ViewState.{viewed, viewed_count, viewed_whole, KeepsView, KeepsView-refl};
+ghost use Rattle.gate_journal.specs.ViewState.{KeepsView-trans};
 
 use crate::journal_cache::JournalCache;
 use disk_model::Disk;
@@ -21,7 +22,9 @@ fn recovered_place<D: Disk>(
     requires { HasSlot slots slot (D.state disk.old) cache.old }
     ensures journal { ReadsJournal (D.state disk.old) (D.state disk.new) cache.new result }
     ensures within { IfOk result (λ place. place + block_len ≤ image_len slots) }
-    ensures value { IsObservable (D.state disk.old) → IfOk result (λ place. bytes_at (D.state disk.old).bytes place block_len ≡ recovered_slot slots (D.state disk.old).bytes slot) }
+    ensures value { IsObservable (D.state disk.old)
+        → IfOk result (λ place. bytes_at (D.state disk.old).bytes place block_len
+        ≡ recovered_slot slots (D.state disk.old).bytes slot) }
 {
     if cache.is_redone(disk, slots, slot)? {
         Ok(shadow_at(slots, slot))
@@ -40,7 +43,8 @@ pub fn read_recovered<D: Disk>(
 ) -> Result<(), DiskFault>
     requires { HasSlot slots slot (D.state disk.old) cache.old }
     ensures journal { ReadsJournal (D.state disk.old) (D.state disk.new) cache.new result }
-    ensures slot { IsObservable (D.state disk.old) → OnOk result (into.new ≡ recovered_slot slots (D.state disk.old).bytes slot) }
+    ensures slot { IsObservable (D.state disk.old)
+        → OnOk result (into.new ≡ recovered_slot slots (D.state disk.old).bytes slot) }
 {
     let place = recovered_place(disk, cache, slots, slot)?;
     disk.read_at(place, into)
@@ -96,15 +100,21 @@ impl<D: Disk> ReadSlots for View<D> {
 
     ghost state = { λ view. viewed (params_of view).slots (D.state (disk_of view)) };
 
-    ghost follows = { λ old new. KeepsView (params_of old) (params_of new) (D.state (disk_of old)) (D.state (disk_of new)) };
+    ghost follows = { λ old new. KeepsView (params_of old) (params_of new) (D.state (disk_of old))
+        (D.state (disk_of new)) };
 
-    ghost counted = { λ view observable. viewed_count (params_of view).slots (D.state (disk_of view)) };
+    ghost counted = { λ view observable.
+        viewed_count (params_of view).slots (D.state (disk_of view)) };
 
-    ghost whole = { λ view observable. viewed_whole (params_of view).slots (D.state (disk_of view)) (D.sound (disk_of view) observable) view.sized };
+    ghost whole = { λ view observable. viewed_whole (params_of view).slots (D.state (disk_of view))
+        (D.sound (disk_of view) observable) view.sized };
 
-    ghost follows_refl = { λ view. KeepsView-refl (params_of view) (D.state (disk_of view)) (D.sound (disk_of view)) };
+    ghost follows_refl = { λ view. KeepsView-refl (params_of view) (D.state (disk_of view))
+        (D.sound (disk_of view)) };
 
-    ghost follows_trans = { λ old mid new. KeepsView-trans (params_of old) (params_of mid) (params_of new) (D.state (disk_of old)) (D.state (disk_of mid)) (D.state (disk_of new)) };
+    ghost follows_trans = { λ old mid new.
+        KeepsView-trans (params_of old) (params_of mid) (params_of new) (D.state (disk_of old))
+        (D.state (disk_of mid)) (D.state (disk_of new)) };
 
     fn get(&mut self, at: u32, into: &mut Slot) -> Result<(), Fault> {
         Ok(read_recovered(

@@ -14,9 +14,13 @@ use store_model::BLOCK;
 fn wipe_rest<D: Disk>(disk: &mut D) -> Result<(), DiskFault>
     requires { 1 ≤ (D.state disk.old).size }
     ensures call { IsCall (D.state disk.old) (D.state disk.new) result }
-    ensures reaches { IsObservable (D.state disk.old) → Reaches (IsApart 1 ((D.state disk.old).size - 1)) (IsZeroAt 1 ((D.state disk.old).size - 1)) (D.state disk.old) (D.state disk.new) result }
+    ensures reaches { IsObservable (D.state disk.old)
+        → Reaches (IsApart 1 ((D.state disk.old).size - 1))
+        (IsZeroAt 1 ((D.state disk.old).size - 1)) (D.state disk.old) (D.state disk.new) result }
     ensures durable { IsObservable (D.state disk.old) → OnOk result (IsDurable (D.state disk.new)) }
-    ensures makes { IsObservable (D.state disk.old) → Makes (block_count (D.state disk.old).size) 1 (D.state disk.old) (D.state disk.new) result }
+    ensures makes { IsObservable (D.state disk.old)
+        → Makes (block_count (D.state disk.old).size) 1 (D.state disk.old)
+        (D.state disk.new) result }
 {
     let len = disk.len();
     let zeros = [0; BLOCK];
@@ -34,8 +38,11 @@ fn wipe_rest<D: Disk>(disk: &mut D) -> Result<(), DiskFault>
 pub fn overwrite_disk<D: Disk>(disk: &mut D) -> Result<(), DiskFault>
     requires { 1 ≤ (D.state disk.old).size }
     ensures call { IsCall (D.state disk.old) (D.state disk.new) result }
-    ensures wipes { IsObservable (D.state disk.old) → Wipes (D.state disk.old) (D.state disk.new) result }
-    ensures makes { IsObservable (D.state disk.old) → Makes (1 + block_count (D.state disk.old).size) 2 (D.state disk.old) (D.state disk.new) result }
+    ensures wipes { IsObservable (D.state disk.old)
+        → Wipes (D.state disk.old) (D.state disk.new) result }
+    ensures makes { IsObservable (D.state disk.old)
+        → Makes (1 + block_count (D.state disk.old).size) 2 (D.state disk.old)
+        (D.state disk.new) result }
 {
     // Durable before the rest is written: an image that is torn is none.
     write_first(disk, 0)?;

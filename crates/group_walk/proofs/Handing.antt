@@ -8,7 +8,8 @@ use Rattle.group_walk.specs.Walks.{HandsOn, pair_of}
 pub hands_none : (Took : List Pair → Type 0) → HandsOn Took Took
 hands_none Took pairs took = ([], subst Took (sym (append-nil pairs)) took)
 
-pub hands_both : (Took TookMid TookNow : List Pair → Type 0) → HandsOn Took TookMid → HandsOn TookMid TookNow → HandsOn Took TookNow
+pub hands_both : (Took TookMid TookNow : List Pair → Type 0) → HandsOn Took TookMid
+    → HandsOn TookMid TookNow → HandsOn Took TookNow
 hands_both Took TookMid TookNow first then pairs took =
     let (more, mid) = first pairs took in
     let (last, now) = then (pairs ++ more) mid in
@@ -21,5 +22,8 @@ pairs-append (cell ∷ cells) second = ap (λ (rest : List Pair). pair_of cell �
 pub handed_none : (Took : List Pair → Type 0) (pairs : List Pair) → Took pairs → Took (pairs ++ map pair_of [])
 handed_none Took pairs took = subst Took (sym (append-nil pairs)) took
 
-pub handed_both : (TookNow : List Pair → Type 0) (pairs : List Pair) (first second : List Cell) → TookNow ((pairs ++ map pair_of first) ++ map pair_of second) → TookNow (pairs ++ map pair_of (first ++ second))
-handed_both TookNow pairs first second now = subst TookNow (append_assoc pairs (map pair_of first) (map pair_of second) ∙ ap (λ (rest : List Pair). pairs ++ rest) (sym (pairs-append first second))) now
+pub handed_both : (TookNow : List Pair → Type 0) (pairs : List Pair) (first second : List Cell)
+    → TookNow ((pairs ++ map pair_of first) ++ map pair_of second) → TookNow (pairs ++ map pair_of (first ++ second))
+handed_both TookNow pairs first second now =
+    subst TookNow (append_assoc pairs (map pair_of first) (map pair_of second)
+    ∙ ap (λ (rest : List Pair). pairs ++ rest) (sym (pairs-append first second))) now

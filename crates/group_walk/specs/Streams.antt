@@ -26,7 +26,8 @@ abbrev pub IsReached : Option (List ℕ) → List ℕ → Type 0
 IsReached None key = ⊥
 IsReached (Some last) key = (key ≡ last) ⊎ (key_cmp key last ≡ Less)
 
--- from one last key the walk went on by these cells to another: they are above the first, and the other is the last of them
+-- from one last key the walk went on by these cells to another: they are above the first, and the other is the last
+-- of them
 pub record GoesOn (last : Option (List ℕ)) (stream : List Cell) (now : Option (List ℕ)) : Type 0 where
   pub above : (cell : Cell) → Contains stream cell → IsAbove last cell.key
   pub reached : (cell : Cell) → Contains stream cell → IsReached now cell.key

@@ -74,16 +74,20 @@ module _ (d : Draw) (There : Page → Type 0) where
     pub runs : AreRuns d (Contains pages)
     pub groups : AreGroups (Contains pages)
     -- each group is led by one of the cells, by a key of the level above, or by the start
-    pub led : (page : Page) → Contains pages page → IsLed (Contains pages) page.label.level page.label.lead ⊎ IsLedBy level own page
+    pub led : (page : Page) → Contains pages page → IsLed (Contains pages) page.label.level page.label.lead
+        ⊎ IsLedBy level own page
     pub leads : (low : ℕ) (cell : Cell) → level ≡ low + 1 → Contains own cell → LeadsGroup (Contains pages) low cell.key
     -- no page of a group was left out behind a full one
-    pub whole : (page next : Page) → Contains pages page → There next → IsNextRun page next → length page.cells ≡ page_room page.label.level → Contains pages next
+    pub whole : (page next : Page) → Contains pages page → There next → IsNextRun page next
+        → length page.cells ≡ page_room page.label.level → Contains pages next
     -- each key is one of the stream
     pub lead_keys : (page : Page) → Contains pages page → IsLeadIn stream page.label.lead
-    pub page_keys : (page : Page) (cell : Cell) → Contains pages page → Contains page.cells cell → HasKeyIn stream cell.key
+    pub page_keys : (page : Page) (cell : Cell) → Contains pages page → Contains page.cells cell
+        → HasKeyIn stream cell.key
     pub own_keys : (cell : Cell) → Contains own cell → HasKeyIn stream cell.key
     -- the stream has the cells of level 0
-    pub cells_from : (cell : Cell) → Contains stream cell → HasCell (Contains pages) 0 cell ⊎ ((level ≡ 0) × Contains own cell)
+    pub cells_from : (cell : Cell) → Contains stream cell
+        → HasCell (Contains pages) 0 cell ⊎ ((level ≡ 0) × Contains own cell)
     pub cells_of : (cell : Cell) → HasCell (Contains pages) 0 cell → Contains stream cell
     pub own_cells : (cell : Cell) → level ≡ 0 → Contains own cell → Contains stream cell
     pub rising : IsStrictlySortedBy cell_order stream
@@ -96,11 +100,13 @@ module _ (d : Draw) (There : Page → Type 0) where
     pub levels : (page : Page) → Contains runs page → page.label.level ≡ level
     pub leads : (page : Page) → Contains runs page → page.label.lead ≡ lead
     pub below : (page : Page) → Contains runs page → page.label.index < past
-    pub found : (index : ℕ) → index < past → (page : Page) × Contains runs page × (page.label ≡ label_of level lead index)
+    pub found : (index : ℕ) → index < past → (page : Page) × Contains runs page
+        × (page.label ≡ label_of level lead index)
     pub cells_of : (page : Page) (cell : Cell) → Contains runs page → Contains page.cells cell → Contains cells cell
     pub cells_from : (cell : Cell) → Contains cells cell → (page : Page) × Contains runs page × Contains page.cells cell
     -- no key is above those of the last run
-    pub last : (page : Page) (cell other : Cell) → Contains runs page → page.label.index + 1 ≡ past → Contains cells cell → Contains page.cells other
+    pub last : (page : Page) (cell other : Cell) → Contains runs page → page.label.index + 1 ≡ past
+        → Contains cells cell → Contains page.cells other
         → Contains page.cells cell ⊎ (cell_order cell other ≡ Less)
 
 -- the last key of the walk is none of the lead's, or is not below it
@@ -110,7 +116,8 @@ IsPassed last (Leader key) = IsReached last key
 
 -- what comes of the group that the lead leads is above the last key, where the pages meet the conditions
 abbrev pub IsAhead : Draw → (Page → Type 0) → ℕ → Option (List ℕ) → Lead → Type 0
-IsAhead d There level last Start = MeetWalk d There → (page : Page) (cell : Cell) → There page → page.label ≡ label_of level Start 0 → Contains page.cells cell → IsAbove last cell.key
+IsAhead d There level last Start = MeetWalk d There → (page : Page) (cell : Cell) → There page
+    → page.label ≡ label_of level Start 0 → Contains page.cells cell → IsAbove last cell.key
 IsAhead d There level last (Leader key) = IsAbove last key
 
 -- so many pages of the map were met, and so many are left
@@ -120,7 +127,8 @@ pub record AreMetOf (m : PageMap) (left : ℕ) (pages : List Page) : Type 0 wher
   pub count : length pages + left ≡ maps.len m
 
 -- a walk comes to a group with these pages met before
-pub record ComesTo (d : Draw) (m : PageMap) (level : ℕ) (lead : Lead) (left : ℕ) (last : Option (List ℕ)) (pages : List Page) : Type 0 where
+pub record ComesTo (d : Draw) (m : PageMap) (level : ℕ) (lead : Lead) (left : ℕ) (last : Option (List ℕ))
+    (pages : List Page) : Type 0 where
   pub met : AreMetOf m left pages
   pub passed : (page : Page) → Contains pages page → page.label.level < level + 1 → IsPassed last page.label.lead
   pub apart : (page : Page) → Contains pages page → page.label.level ≡ level → page.label.lead ≡ lead → ⊥
@@ -128,15 +136,18 @@ pub record ComesTo (d : Draw) (m : PageMap) (level : ℕ) (lead : Lead) (left : 
   pub ahead : IsAhead d (InMap m) level last lead
 
 -- a walk comes to a cell of a level with these pages met before
-pub record ComesToCell (d : Draw) (m : PageMap) (level : ℕ) (cell : Cell) (left : ℕ) (last : Option (List ℕ)) (pages : List Page) : Type 0 where
+pub record ComesToCell (d : Draw) (m : PageMap) (level : ℕ) (cell : Cell) (left : ℕ) (last : Option (List ℕ))
+    (pages : List Page) : Type 0 where
   pub met : AreMetOf m left pages
   pub passed : (other : Page) → Contains pages other → other.label.level < level → IsPassed last other.label.lead
   pub there : HasCell (InMap m) level cell
   pub above : IsAbove last cell.key
 
 -- a walk comes to the cells of a page with these pages met before, that page among them
-pub record ComesToCells (d : Draw) (m : PageMap) (page : Page) (left : ℕ) (last : Option (List ℕ)) (pages : List Page) : Type 0 where
+pub record ComesToCells (d : Draw) (m : PageMap) (page : Page) (left : ℕ) (last : Option (List ℕ))
+    (pages : List Page) : Type 0 where
   pub met : AreMetOf m left pages
   pub there : InMap m page
-  pub passed : (other : Page) → Contains pages other → other.label.level < page.label.level → IsPassed last other.label.lead
+  pub passed : (other : Page) → Contains pages other → other.label.level < page.label.level
+      → IsPassed last other.label.lead
   pub ahead : MeetWalk d (InMap m) → (cell : Cell) → Contains page.cells cell → IsAbove last cell.key

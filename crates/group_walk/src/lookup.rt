@@ -12,8 +12,9 @@ use store_base::{Fault, Label, ReadSlots};
 
 /// The page of the label; `None` exactly where the slots hold no such page.
 ///
-/// There have to be as many slots as the draw's, and the entries have to be an index of them by its digests. The front
-/// keeps what was digested of the label that was looked for last. A fault of the slots ends the call; it writes nothing.
+/// There have to be as many slots as the draw's, and the entries have to be an index of them by its digests. The
+/// front keeps what was digested of the label that was looked for last. A fault of the slots ends the call; it writes
+/// nothing.
 pub(crate) fn look_up<S: ReadSlots, W: Draw>(
     slots: &mut S,
     guide: &Guide<'_, W>,
@@ -21,8 +22,10 @@ pub(crate) fn look_up<S: ReadSlots, W: Draw>(
     front: &mut Front,
 ) -> Result<Option<Page>, Fault>
     requires count { (S.state slots.old).count ≡ (W.drawn guide.now.draw.now).slots }
-    requires index { IsIndexOf (W.digests guide.now.draw.now) (S.state slots.old) guide.now.entries.now }
-    ensures call { FindsPage (W.drawn guide.now.draw.now) (S.state slots.old) (S.state slots.new) label.now result }
+    requires index { IsIndexOf (W.digests guide.now.draw.now)
+        (S.state slots.old) guide.now.entries.now }
+    ensures call { FindsPage (W.drawn guide.now.draw.now) (S.state slots.old)
+        (S.state slots.new) label.now result }
     ensures follows { S.follows slots.old slots.new }
 {
     let digest = guide.draw.digest_from(front, label);

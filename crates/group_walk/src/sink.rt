@@ -16,7 +16,8 @@ pub trait TakesPairs {
     /// Takes one more pair.
     fn take(&mut self, key: &Key, value: &Value)
         ensures keeps { keeps self.old self.new }
-        ensures took { (pairs : List Pair) → took self.old pairs → took self.new (pairs ++ (key.now, value.now) ∷ []) };
+        ensures took { (pairs : List Pair) → took self.old pairs
+            → took self.new (pairs ++ (key.now, value.now) ∷ []) };
 
     /// It stays the same where nothing is taken.
     ghost keeps_refl: { (sink : Self) → keeps sink sink };

@@ -20,7 +20,8 @@ use store_base::{Fault, Key, Label, Lead, ReadSlots};
 /// Whether the key of cell `i` of a page belongs there: the first cell of a group that a key leads is the leader's, and
 /// every other key ends on the level of the page.
 fn is_in_place<W: Draw>(draw: &W, label: &Label, i: u32, key: &Key, front: &mut Front) -> bool
-    ensures { IsTrue result ↔ IsInPlace (W.drawn draw.now) label.now.level label.now.lead label.now.index i key.now }
+    ensures { IsTrue result
+        ↔ IsInPlace (W.drawn draw.now) label.now.level label.now.lead label.now.index i key.now }
 {
     match label.lead {
         Lead::Key(leader) if label.index == 0 && i == 0 => leader == *key,
@@ -47,7 +48,9 @@ fn is_next<W: Draw>(
     last: &Option<Key>,
     front: &mut Front,
 ) -> bool
-    ensures { IsTrue result ↔ (IsInPlace (W.drawn draw.now) label.now.level label.now.lead label.now.index i cell.now.key × IsAbove last.now cell.now.key) }
+    ensures { IsTrue result
+        ↔ (IsInPlace (W.drawn draw.now) label.now.level label.now.lead label.now.index i
+        cell.now.key × IsAbove last.now cell.now.key) }
 {
     is_in_place(draw, label, i, &cell.key, front) && is_above(last, &cell.key)
 }
@@ -73,8 +76,11 @@ fn walk_cell<S: ReadSlots, W: Draw, P: TakesPairs>(
     sink: &mut P,
 ) -> Result<bool, Fault>
     requires count { (S.state slots.old).count ≡ (W.drawn guide.now.draw.now).slots }
-    requires index { IsIndexOf (W.digests guide.now.draw.now) (S.state slots.old) guide.now.entries.now }
-    ensures call { WalksCell (W.drawn guide.now.draw.now) (S.state slots.old) (S.state slots.new) level cell.now (progress met.old.left met.old.last) (progress met.new.left met.new.last) (P.took sink.old) (P.took sink.new) result }
+    requires index { IsIndexOf (W.digests guide.now.draw.now)
+        (S.state slots.old) guide.now.entries.now }
+    ensures call { WalksCell (W.drawn guide.now.draw.now) (S.state slots.old)
+        (S.state slots.new) level cell.now (progress met.old.left met.old.last)
+        (progress met.new.left met.new.last) (P.took sink.old) (P.took sink.new) result }
     ensures follows { S.follows slots.old slots.new }
     ensures keeps { P.keeps sink.old sink.new }
 {
@@ -99,8 +105,11 @@ fn walk_cells<S: ReadSlots, W: Draw, P: TakesPairs>(
     sink: &mut P,
 ) -> Result<bool, Fault>
     requires count { (S.state slots.old).count ≡ (W.drawn guide.now.draw.now).slots }
-    requires index { IsIndexOf (W.digests guide.now.draw.now) (S.state slots.old) guide.now.entries.now }
-    ensures call { WalksCells (W.drawn guide.now.draw.now) (S.state slots.old) (S.state slots.new) page.now (progress met.old.left met.old.last) (progress met.new.left met.new.last) (P.took sink.old) (P.took sink.new) result }
+    requires index { IsIndexOf (W.digests guide.now.draw.now)
+        (S.state slots.old) guide.now.entries.now }
+    ensures call { WalksCells (W.drawn guide.now.draw.now) (S.state slots.old)
+        (S.state slots.new) page.now (progress met.old.left met.old.last)
+        (progress met.new.left met.new.last) (P.took sink.old) (P.took sink.new) result }
     ensures follows { S.follows slots.old slots.new }
     ensures keeps { P.keeps sink.old sink.new }
 {
@@ -129,8 +138,11 @@ fn walk_group<S: ReadSlots, W: Draw, P: TakesPairs>(
     sink: &mut P,
 ) -> Result<bool, Fault>
     requires count { (S.state slots.old).count ≡ (W.drawn guide.now.draw.now).slots }
-    requires index { IsIndexOf (W.digests guide.now.draw.now) (S.state slots.old) guide.now.entries.now }
-    ensures call { WalksGroup (W.drawn guide.now.draw.now) (S.state slots.old) (S.state slots.new) level (model_lead lead.now) (progress met.old.left met.old.last) (progress met.new.left met.new.last) (P.took sink.old) (P.took sink.new) result }
+    requires index { IsIndexOf (W.digests guide.now.draw.now)
+        (S.state slots.old) guide.now.entries.now }
+    ensures call { WalksGroup (W.drawn guide.now.draw.now) (S.state slots.old)
+        (S.state slots.new) level (model_lead lead.now) (progress met.old.left met.old.last)
+        (progress met.new.left met.new.last) (P.took sink.old) (P.took sink.new) result }
     ensures follows { S.follows slots.old slots.new }
     ensures keeps { P.keeps sink.old sink.new }
 {
@@ -168,7 +180,8 @@ pub fn walk_groups<S: ReadSlots, W: Draw, P: TakesPairs>(
 ) -> Result<bool, Fault>
     requires count { (S.state slots.old).count ≡ (W.drawn draw.now).slots }
     requires index { IsIndexOf (W.digests draw.now) (S.state slots.old) entries.now }
-    ensures call { WalksTable (W.drawn draw.now) (S.state slots.old) (S.state slots.new) used (P.took sink.old) (P.took sink.new) result }
+    ensures call { WalksTable (W.drawn draw.now) (S.state slots.old) (S.state slots.new) used
+        (P.took sink.old) (P.took sink.new) result }
     ensures follows { S.follows slots.old slots.new }
     ensures keeps { P.keeps sink.old sink.new }
 {

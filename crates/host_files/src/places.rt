@@ -79,7 +79,9 @@ impl<W: Sink + Drop> Places<W> {
 
     /// The path on the host of an entry, below the folder; nothing where it is left out.
     pub fn place(&mut self, path: &Path) -> Result<Option<String>, TakerFault>
-        ensures below { IfOk result (λ place. IfSome place (λ text. IsHostPath (string_bytes self.old.folder) path.now (string_bytes text))) }
+        ensures below { IfOk result
+            (λ place. IfSome place
+            (λ text. IsHostPath (string_bytes self.old.folder) path.now (string_bytes text))) }
         ensures same { self.new.folder ≡ self.old.folder }
     {
         if self.is_out(path) {

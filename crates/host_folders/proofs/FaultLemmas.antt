@@ -1,5 +1,6 @@
 -- Why a stream of a folder ends before its dump does.
-use Rattle.std.proofs.Common.{◌≡◌, ℕ, zero, suc, ◌+◌, Bool, true, false, List, [], ◌∷◌, ◌++◌, length, take, codes, Option, Some, Result, Ok, Err, refl, sym, ap, subst, ◌∙◌, arith}
+use Rattle.std.proofs.Common.{◌≡◌, ℕ, zero, suc, ◌+◌, Bool, true, false, List, [], ◌∷◌, ◌++◌, length, take, codes}
+use Rattle.std.proofs.Common.{Option, Some, Result, Ok, Err, refl, sym, ap, subst, ◌∙◌, arith}
 use Rattle.std.specs.Prelude.{IfErr, IsErrAnd}
 use Rattle.std.specs.Fmt.{decimal}
 use Rattle.std.specs.List.{Contains, slice_get}
@@ -21,14 +22,22 @@ use Rattle.host_folders.specs.declared.stream.Place.TheVariants as places
 use Rattle.host_folders.proofs.StepLemmas.{IsBegun}
 
 -- an error says what its cause says
-pub err_of : {T E : Type 0} (result : Result T E) (cause : E) (P : E → Type 0) → IsErrAnd result (λ e. e ≡ cause) → P cause → IfErr result P
+pub err_of : {T E : Type 0} (result : Result T E) (cause : E) (P : E → Type 0) → IsErrAnd result (λ e. e ≡ cause)
+    → P cause → IfErr result P
 err_of (Ok x) cause P told holds = tt
 err_of (Err e) cause P told holds = subst P (sym told) holds
 
-pub next_failed : (old new done : Tree → Type 0) (failed_by : Tree → StreamFault → Type 0) (c : Command) (result : Result Bool StreamFault) (cause : StreamFault) → IsErrAnd result (λ e. e ≡ cause) → ((t : Tree) → old t → failed_by t cause)
+pub next_failed : (old new done : Tree → Type 0) (failed_by : Tree → StreamFault → Type 0) (c : Command)
+    (result : Result Bool StreamFault) (cause : StreamFault) → IsErrAnd result (λ e. e ≡ cause)
+    → ((t : Tree) → old t → failed_by t cause)
     → IsNext old new done failed_by c result
 next_failed old new done failed_by c (Ok b) cause told fails = absurd told
-next_failed old new done failed_by c (Err e) cause told fails = record { came = λ t was. tt; extends = λ t was. tt; whole = λ t was. tt; failed = λ t was. subst (failed_by t) (sym told) (fails t was) }
+next_failed old new done failed_by c (Err e) cause told fails = record {
+  came = λ t was. tt;
+  extends = λ t was. tt;
+  whole = λ t was. tt;
+  failed = λ t was. subst (failed_by t) (sym told) (fails t was);
+}
 
 -- the entry behind those that were begun
 here_is : {X : Type 0} (xs : List X) (n : ℕ) (x : X) → take (suc n) xs ≡ take n xs ++ x ∷ [] → slice_get xs n ≡ Some x
@@ -38,26 +47,40 @@ here_is (y ∷ ys) zero x e = let head : y ≡ x = cc in ap Some head
 here_is (y ∷ ys) (suc n) x e = let tail : take (suc n) ys ≡ take n ys ++ x ∷ [] = cc in here_is ys n x tail
 
 -- the attributes of what was found
-pub mode_asked : (found : Found) → found.is_executable ≡ true → Contains (found_attributes found) (codes "mode", 0x78 ∷ [])
-mode_asked found executable = subst (λ b. Contains (mode_attributes b ++ mtime_attributes found.seconds) (codes "mode", 0x78 ∷ [])) (sym executable) (0, omega arith, refl)
+pub mode_asked : (found : Found) → found.is_executable ≡ true
+    → Contains (found_attributes found) (codes "mode", 0x78 ∷ [])
+mode_asked found executable =
+    subst (λ b. Contains (mode_attributes b ++ mtime_attributes found.seconds) (codes "mode", 0x78 ∷ []))
+    (sym executable) (0, omega arith, refl)
 
-pub mtime_asked : (found : Found) (seconds : ℕ) → found.seconds ≡ Some seconds → Contains (found_attributes found) (codes "mtime", decimal seconds)
+pub mtime_asked : (found : Found) (seconds : ℕ) → found.seconds ≡ Some seconds
+    → Contains (found_attributes found) (codes "mtime", decimal seconds)
 mtime_asked found seconds some =
-    Contains-append_right (mode_attributes found.is_executable) (mtime_attributes found.seconds) (codes "mtime", decimal seconds) (subst (λ (s : Option ℕ). Contains (mtime_attributes s) (codes "mtime", decimal seconds)) (sym some) (0, omega arith, refl))
+    Contains-append_right (mode_attributes found.is_executable) (mtime_attributes found.seconds)
+    (codes "mtime", decimal seconds)
+    (subst (λ (s : Option ℕ). Contains (mtime_attributes s) (codes "mtime", decimal seconds)) (sym some)
+    (0, omega arith, refl))
 
 module _ {F : Type 0} (state_of : F → FolderState) where
   -- the entry that is begun
-  pub begun_here : (old : FolderStream F) (found : Found) → IsBegun state_of old found → found_at old.place old.at old.found.items ≡ Some found
+  pub begun_here : (old : FolderStream F) (found : Found) → IsBegun state_of old found
+      → found_at old.place old.at old.found.items ≡ Some found
   begun_here old found begins =
       let behind : old.at + 1 ≡ suc old.at = omega arith in
-      ap (λ (p : Place). found_at p old.at old.found.items) begins.start ∙ here_is old.found.items old.at found (subst (λ n. take n old.found.items ≡ take old.at old.found.items ++ found ∷ []) behind begins.here)
+      ap (λ (p : Place). found_at p old.at old.found.items) begins.start
+      ∙ here_is old.found.items old.at found
+      (subst (λ n. take n old.found.items ≡ take old.at old.found.items ++ found ∷ []) behind begins.here)
 
   -- the kind of what is read
-  pub read_kind : (old : FolderStream F) (found : Found) (at : ℕ) (t : Tree) → old.place ≡ places.Piece found at → CameOf state_of old t → IsFile found.kind
-  read_kind old found at t place was = (subst (λ (p : Place). AreCome p (take old.at old.found.items) was.came) place was.come).2
+  pub read_kind : (old : FolderStream F) (found : Found) (at : ℕ) (t : Tree) → old.place ≡ places.Piece found at
+      → CameOf state_of old t → IsFile found.kind
+  read_kind old found at t place was =
+      (subst (λ (p : Place). AreCome p (take old.at old.found.items) was.came) place was.come).2
 
   -- the reader refused the command
-  pub asks_too_much : (old new : FolderStream F) (t : Tree) (found : Found) (c : Command) (reader : ListingReader) → CameOf state_of old t → AddsCommand old.reader reader c false → found_at new.place new.at new.found.items ≡ Some found → AsksFor found c
+  pub asks_too_much : (old new : FolderStream F) (t : Tree) (found : Found) (c : Command) (reader : ListingReader)
+      → CameOf state_of old t → AddsCommand old.reader reader c false
+      → found_at new.place new.at new.found.items ≡ Some found → AsksFor found c
       → AsksTooMuch new t
   asks_too_much old new t found c reader was adds here asks = record {
     found = found;
@@ -68,6 +91,8 @@ module _ {F : Type 0} (state_of : F → FolderState) where
   }
 
   -- and so the stream ends
-  pub ends_so : (old new : FolderStream F) (t : Tree) (found : Found) (c : Command) (reader : ListingReader) (fault : StreamFault) → fault ≡ faults.NoDump → CameOf state_of old t → AddsCommand old.reader reader c false
+  pub ends_so : (old new : FolderStream F) (t : Tree) (found : Found) (c : Command) (reader : ListingReader)
+      (fault : StreamFault) → fault ≡ faults.NoDump → CameOf state_of old t → AddsCommand old.reader reader c false
       → found_at new.place new.at new.found.items ≡ Some found → AsksFor found c → EndsBy new t fault
-  ends_so old new t found c reader fault told was adds here asks = subst (λ (f : StreamFault). EndsBy new t f) (sym told) (asks_too_much old new t found c reader was adds here asks)
+  ends_so old new t found c reader fault told was adds here asks =
+      subst (λ (f : StreamFault). EndsBy new t f) (sym told) (asks_too_much old new t found c reader was adds here asks)

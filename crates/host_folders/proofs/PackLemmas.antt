@@ -11,8 +11,11 @@ use Rattle.host_folders.specs.declared.found.Found.{Found}
 use Rattle.host_folders.specs.declared.stream.FolderStream.{FolderStream}
 
 module _ {F W : Type 0} (state_of : F → FolderState) (sink_of : W → SinkState) where
-  pub packs : (start stream : FolderStream F) (folder : F) (found : List Found) (old new : W) (result : Result (Unit {0}) DrainFault) → start.first.value ≡ folder → start.found.items ≡ found → IsOfSame start stream
-      → WritesDump (CameOf state_of) (IsPacked state_of) EndsBy sink_of stream old new result → OnOk result (PacksFolder state_of sink_of folder stream.folder found old new)
+  pub packs : (start stream : FolderStream F) (folder : F) (found : List Found) (old new : W)
+      (result : Result (Unit {0}) DrainFault) → start.first.value ≡ folder → start.found.items ≡ found
+      → IsOfSame start stream
+      → WritesDump (CameOf state_of) (IsPacked state_of) EndsBy sink_of stream old new result
+      → OnOk result (PacksFolder state_of sink_of folder stream.folder found old new)
   packs start stream folder found old new (Err fault) first items same written = tt
   packs start stream folder found old new (Ok done) first items same written =
       let whole = written.whole_is in
@@ -23,11 +26,13 @@ module _ {F W : Type 0} (state_of : F → FolderState) (sink_of : W → SinkStat
         is_tree = whole.is_tree;
         files = whole.files;
         entries = subst (λ (fs : List Found). HasFiles fs whole.files written.tree) all whole.entries;
-        told = subst (λ (f : F). IsObservable (state_of f) → ReadsFiles (state_of f) (state_of stream.folder) (whole_files whole.files)) before whole.told;
+        told = subst (λ (f : F). IsObservable (state_of f)
+            → ReadsFiles (state_of f) (state_of stream.folder) (whole_files whole.files)) before whole.told;
         written = written.written;
       }
 
-  pub stops : (stream : FolderStream F) (old new : W) (result : Result (Unit {0}) DrainFault) → WritesDump (CameOf state_of) (IsPacked state_of) EndsBy sink_of stream old new result
+  pub stops : (stream : FolderStream F) (old new : W) (result : Result (Unit {0}) DrainFault)
+      → WritesDump (CameOf state_of) (IsPacked state_of) EndsBy sink_of stream old new result
       → IfErr result (WritesUntil (CameOf state_of) (IsPacked state_of) EndsBy sink_of stream old new)
   stops stream old new (Ok done) written = tt
   stops stream old new (Err fault) written = written

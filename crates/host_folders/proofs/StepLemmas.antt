@@ -1,7 +1,10 @@
 -- What a command adds to what came.
-use Rattle.std.proofs.Common.{◌≡◌, ℕ, ◌+◌, ◌-◌, ◌^◌, ◌<◌, ◌≤◌, min, Bool, true, false, nat_lt, if◌then◌else◌, IsTrue, List, [], ◌∷◌, ◌++◌, length, map, take, vec_len, codes, Option, Some, Result, Ok, ◌⊎◌, inl, inr, refl, sym, ap, ap₂, subst, ◌∙◌, arith}
+use Rattle.std.proofs.Common.{◌≡◌, ℕ, ◌+◌, ◌-◌, ◌^◌, ◌<◌, ◌≤◌, min, Bool, true, false, nat_lt, if◌then◌else◌, IsTrue}
+use Rattle.std.proofs.Common.{List, [], ◌∷◌, ◌++◌, length, map, take, vec_len, codes, Option, Some, Result, Ok, ◌⊎◌}
+use Rattle.std.proofs.Common.{inl, inr, refl, sym, ap, ap₂, subst, ◌∙◌, arith}
 use Rattle.std.specs.Fmt.{decimal}
-use Rattle.std.proofs.lemmas.List.{append-nil, append_assoc, length-append, length-take-le, map-append, same_from_push, take_all}
+use Rattle.std.proofs.lemmas.List.{append-nil, append_assoc, length-append, length-take-le, map-append, same_from_push}
+use Rattle.std.proofs.lemmas.List.{take_all}
 use Rattle.store_model.specs.declared.version.Version.TheVariants.{Two}
 use Rattle.store_model.specs.declared.draw_kind.DrawKind.TheVariants as draws
 use Rattle.store_model.specs.Commands.{Command}
@@ -16,18 +19,21 @@ use Rattle.tree_listing.specs.Dumps.{dump_piece}
 use Rattle.tree_listing.specs.Reading.{HasRead, AddsCommand, GoesOn}
 use Rattle.tree_listing.specs.declared.reader.ListingReader.{ListingReader}
 use Rattle.tree_listing.proofs.DumpFronts.{next_of_goes_on}
-use Rattle.tree_listing.proofs.NextTrees.{IsNext, IsFirstWrite, IsLaterWrite, IsLaterName, named_entry, tree_of_make, tree_of_first, later_leads, name_leads}
+use Rattle.tree_listing.proofs.NextTrees.{IsNext, IsFirstWrite, IsLaterWrite, IsLaterName, named_entry, tree_of_make}
+use Rattle.tree_listing.proofs.NextTrees.{tree_of_first, later_leads, name_leads}
 use Rattle.dump_streams.specs.Streams.{Extends, IsNext as IsNextOf}
 use Rattle.dump_streams.specs.declared.fault.StreamFault.{StreamFault}
 use Rattle.host_folders.specs.FoundEntries.{found_attributes, mode_attributes, mtime_attributes, entries_of, file_paths}
 use Rattle.host_folders.specs.FolderState.{FolderState, IsObservable, ReadsFile, IsOpened, OpensFile, whole_files}
-use Rattle.host_folders.specs.Packed.{HasFiles, ReadsFiles, IsPacked, bare_found, timeless_found, CameLast, AreCome, AreAnswers, CameOf}
+use Rattle.host_folders.specs.Packed.{HasFiles, ReadsFiles, IsPacked, bare_found, timeless_found, CameLast, AreCome}
+use Rattle.host_folders.specs.Packed.{AreAnswers, CameOf}
 use Rattle.host_folders.specs.Steps.{Gives, IsPiece, place_behind}
 use Rattle.host_folders.specs.declared.found.Found.{Found}
 use Rattle.host_folders.specs.declared.stream.FolderStream.{FolderStream}
 use Rattle.host_folders.specs.declared.stream.Place.{Place}
 use Rattle.host_folders.specs.declared.stream.Place.TheVariants as places
-use Rattle.host_folders.proofs.EntryLemmas.{folder_more, file_more, EndsWithFile, ends_with_file, ends_with, entries_length}
+use Rattle.host_folders.proofs.EntryLemmas.{folder_more, file_more, EndsWithFile, ends_with_file, ends_with}
+use Rattle.host_folders.proofs.EntryLemmas.{entries_length}
 
 -- some parameters of version 2
 some_parameters : Parameters
@@ -43,9 +49,11 @@ pub record IsTakenBy (reader : ListingReader) (t : Tree) (c : Command) : Type 0 
   pub next : IsNext t parameters c
 
 -- as many entries came as were begun
-last_count : (begun came : List Found) (last so_far : Found) → CameLast begun last so_far came → length came ≡ length begun
+last_count : (begun came : List Found) (last so_far : Found) → CameLast begun last so_far came
+    → length came ≡ length begun
 last_count begun came last so_far come =
-    ap length come.2 ∙ omega (arith, length-append come.0 (so_far ∷ []), length-append come.0 (last ∷ []), ap length come.1)
+    ap length come.2
+    ∙ omega (arith, length-append come.0 (so_far ∷ []), length-append come.0 (last ∷ []), ap length come.1)
 
 come_count : (place : Place) (begun came : List Found) → AreCome place begun came → length came ≡ length begun
 come_count places.Start begun came come = ap length come
@@ -54,19 +62,24 @@ come_count (places.Mode found) begun came come = last_count begun came found (ba
 come_count (places.Mtime found) begun came come = last_count begun came found (timeless_found found) come
 
 -- whole files, one more
-whole_more : (files : List (Path × List ℕ)) (path : Path) (bytes : List ℕ) → whole_files (files ++ (path, bytes) ∷ []) ≡ whole_files files ++ (path, bytes, true) ∷ []
+whole_more : (files : List (Path × List ℕ)) (path : Path) (bytes : List ℕ)
+    → whole_files (files ++ (path, bytes) ∷ []) ≡ whole_files files ++ (path, bytes, true) ∷ []
 whole_more files path bytes = map-append (λ (file : Path × List ℕ). (file.0, file.1, true)) files ((path, bytes) ∷ [])
 
 -- behind a piece of a file
 place_of : Bool → Found → ℕ → Place
 place_of whole found end = if whole then places.Mode found else places.Piece found end
 
-come_behind : (whole : Bool) (begun came : List Found) (found : Found) (end : ℕ) → CameLast begun found (bare_found found) came → 0 < end → (len : ℕ) × (found.kind ≡ kinds.File len) → AreCome (place_of whole found end) begun came
+come_behind : (whole : Bool) (begun came : List Found) (found : Found) (end : ℕ)
+    → CameLast begun found (bare_found found) came → 0 < end → (len : ℕ) × (found.kind ≡ kinds.File len)
+    → AreCome (place_of whole found end) begun came
 unfolding place_of
 come_behind true begun came found end come some kind = come
 come_behind false begun came found end come some kind = (come, some, kind)
 
-answers_behind : (whole : Bool) (found : Found) (end : ℕ) (before : List (Path × List ℕ)) (path : Path) (bytes : List ℕ) → AreAnswers (place_of whole found end) (before ++ (path, bytes) ∷ []) (whole_files before ++ (path, bytes, whole) ∷ [])
+answers_behind : (whole : Bool) (found : Found) (end : ℕ) (before : List (Path × List ℕ)) (path : Path) (bytes : List ℕ)
+    → AreAnswers (place_of whole found end) (before ++ (path, bytes) ∷ [])
+    (whole_files before ++ (path, bytes, whole) ∷ [])
 unfolding place_of
 answers_behind true found end before path bytes = sym (whole_more before path bytes)
 answers_behind false found end before path bytes = (before, path, bytes, false, refl, refl)
@@ -76,17 +89,22 @@ no_bytes [] none = refl
 no_bytes (b ∷ bytes) none = absurd (omega (arith, none))
 
 -- what the folder told of a file of which more bytes came
-read_more : (first old now : FolderState) (before : List (Path × List ℕ × Bool)) (path : Path) (bytes more : List ℕ) (was_ended is_ended : Bool) → ReadsFiles first old (before ++ (path, bytes, was_ended) ∷ []) → ReadsFile old now more is_ended
+read_more : (first old now : FolderState) (before : List (Path × List ℕ × Bool)) (path : Path) (bytes more : List ℕ)
+    (was_ended is_ended : Bool) → ReadsFiles first old (before ++ (path, bytes, was_ended) ∷ [])
+    → ReadsFile old now more is_ended
     → ReadsFiles first now (before ++ (path, bytes ++ more, is_ended) ∷ [])
 read_more first old now before path bytes more was_ended is_ended reads piece = record {
   listed = piece.listed ∙ reads.listed;
-  read = piece.read (first.read ++ before) path bytes was_ended (reads.read ∙ sym (append_assoc first.read before ((path, bytes, was_ended) ∷ []))) ∙ append_assoc first.read before ((path, bytes ++ more, is_ended) ∷ []);
+  read = piece.read (first.read ++ before) path bytes was_ended
+      (reads.read ∙ sym (append_assoc first.read before ((path, bytes, was_ended) ∷ [])))
+      ∙ append_assoc first.read before ((path, bytes ++ more, is_ended) ∷ []);
 }
 
 -- ---- the trees that commands lead to
 
 -- the first bytes of a file
-first_tree : (t : Tree) (path : Path) (bytes : List ℕ) → IsFirstWrite t path 0 bytes ⊎ IsLaterWrite t path 0 bytes → next_tree t (Write path 0 bytes) ≡ t ++ (path, named_entry (File bytes) []) ∷ []
+first_tree : (t : Tree) (path : Path) (bytes : List ℕ) → IsFirstWrite t path 0 bytes ⊎ IsLaterWrite t path 0 bytes
+    → next_tree t (Write path 0 bytes) ≡ t ++ (path, named_entry (File bytes) []) ∷ []
 first_tree t path bytes (inl first) = tree_of_first t path bytes first.next
 first_tree t path bytes (inr later) =
     let at = later.at_is in
@@ -94,13 +112,16 @@ first_tree t path bytes (inr later) =
     absurd (omega (arith, at, full))
 
 -- further ones
-later_tree : (t front : Tree) (path last : Path) (at : ℕ) (first bytes : List ℕ) → IsTree t → 0 < at → IsFirstWrite t path at bytes ⊎ IsLaterWrite t path at bytes → t ≡ front ++ (last, named_entry (File first) []) ∷ []
+later_tree : (t front : Tree) (path last : Path) (at : ℕ) (first bytes : List ℕ) → IsTree t → 0 < at
+    → IsFirstWrite t path at bytes ⊎ IsLaterWrite t path at bytes
+    → t ≡ front ++ (last, named_entry (File first) []) ∷ []
     → next_tree t (Write path at bytes) ≡ front ++ (last, named_entry (File (first ++ bytes)) []) ∷ []
 later_tree t front path last at first bytes tree further (inl write) split =
     let start = write.at_is in
     absurd (omega (arith, start, further))
 later_tree t front path last at first bytes tree further (inr later) split =
-    let same = same_from_push later.before front (path, named_entry (File later.content) []) (last, named_entry (File first) []) (sym later.entries_are ∙ split) in
+    let same = same_from_push later.before front (path, named_entry (File later.content) [])
+    (last, named_entry (File first) []) (sym later.entries_are ∙ split) in
     let before : later.before ≡ front = same.0 in
     let nodes : File later.content ≡ File first = ap (λ (e : Path × Entry). e.1.node) same.1 in
     let content : later.content ≡ first = cc in
@@ -110,27 +131,45 @@ later_tree t front path last at first bytes tree further (inr later) split =
     ∙ ap (λ (old : List ℕ). front ++ (last, named_entry (File (old ++ bytes)) []) ∷ []) content
 
 -- an attribute
-name_tree : (t front : Tree) (p : Parameters) (path last : Path) (name : Name) (bytes : List ℕ) (node : Node) (attributes : Attributes) → IsTree t → IsLaterName t p path name bytes → t ≡ front ++ (last, named_entry node attributes) ∷ []
-    → next_tree t (SetAttribute path name bytes) ≡ front ++ (last, named_entry node (attributes ++ (name, bytes) ∷ [])) ∷ []
+name_tree : (t front : Tree) (p : Parameters) (path last : Path) (name : Name) (bytes : List ℕ) (node : Node)
+    (attributes : Attributes) → IsTree t → IsLaterName t p path name bytes
+    → t ≡ front ++ (last, named_entry node attributes) ∷ []
+    → next_tree t (SetAttribute path name bytes) ≡ front
+    ++ (last, named_entry node (attributes ++ (name, bytes) ∷ [])) ∷ []
 name_tree t front p path last name bytes node attributes tree later split =
-    let same = same_from_push later.before front (path, named_entry later.node later.attributes) (last, named_entry node attributes) (sym later.entries_are ∙ split) in
+    let same = same_from_push later.before front (path, named_entry later.node later.attributes)
+    (last, named_entry node attributes) (sym later.entries_are ∙ split) in
     let before : later.before ≡ front = same.0 in
     let place : path ≡ last = ap (λ (e : Path × Entry). e.0) same.1 in
     let nodes : later.node ≡ node = ap (λ (e : Path × Entry). e.1.node) same.1 in
     let names : later.attributes ≡ attributes = ap (λ (e : Path × Entry). e.1.attributes) same.1 in
     name_leads t p path name bytes later tree
-    ∙ ap₂ (λ (b : Tree) (x : Path). b ++ (x, named_entry later.node (later.attributes ++ (name, bytes) ∷ [])) ∷ []) before place
+    ∙ ap₂ (λ (b : Tree) (x : Path). b ++ (x, named_entry later.node (later.attributes ++ (name, bytes) ∷ [])) ∷ [])
+    before place
     ∙ ap₂ (λ (n : Node) (a : Attributes). front ++ (last, named_entry n (a ++ (name, bytes) ∷ [])) ∷ []) nodes names
 
 -- ---- answers of a stream
 
-pub next_given : (old new done : Tree → Type 0) (failed_by : Tree → StreamFault → Type 0) (c : Command) → Gives {E = StreamFault} old new c (Ok tt) → IsNextOf old new done failed_by c (Ok true)
-next_given old new done failed_by c gives = record { came = gives.came; extends = gives.extends; whole = λ t was. tt; failed = λ t was. tt }
+pub next_given : (old new done : Tree → Type 0) (failed_by : Tree → StreamFault → Type 0) (c : Command)
+    → Gives {E = StreamFault} old new c (Ok tt) → IsNextOf old new done failed_by c (Ok true)
+next_given old new done failed_by c gives = record {
+  came = gives.came;
+  extends = gives.extends;
+  whole = λ t was. tt;
+  failed = λ t was. tt;
+}
 
-pub next_whole : (old new done : Tree → Type 0) (failed_by : Tree → StreamFault → Type 0) (c : Command) → ((t : Tree) → old t → done t) → IsNextOf old new done failed_by c (Ok false)
-next_whole old new done failed_by c whole = record { came = λ t was. tt; extends = λ t was. tt; whole = whole; failed = λ t was. tt }
+pub next_whole : (old new done : Tree → Type 0) (failed_by : Tree → StreamFault → Type 0) (c : Command)
+    → ((t : Tree) → old t → done t) → IsNextOf old new done failed_by c (Ok false)
+next_whole old new done failed_by c whole = record {
+  came = λ t was. tt;
+  extends = λ t was. tt;
+  whole = whole;
+  failed = λ t was. tt;
+}
 
-pub next_behind : (old mid new done : Tree → Type 0) (failed_by : Tree → StreamFault → Type 0) (c : Command) (result : Result Bool StreamFault) → ((t : Tree) → old t → mid t) → IsNextOf mid new done failed_by c result
+pub next_behind : (old mid new done : Tree → Type 0) (failed_by : Tree → StreamFault → Type 0) (c : Command)
+    (result : Result Bool StreamFault) → ((t : Tree) → old t → mid t) → IsNextOf mid new done failed_by c result
     → IsNextOf old new done failed_by c result
 next_behind old mid new done failed_by c result passes next = record {
   came = λ t was. next.came t (passes t was);
@@ -140,7 +179,8 @@ next_behind old mid new done failed_by c result passes next = record {
 }
 
 module _ {F : Type 0} (state_of : F → FolderState) where
-  pub taken_by : (old : FolderStream F) (reader : ListingReader) (t : Tree) (c : Command) → CameOf state_of old t → AddsCommand old.reader reader c true → IsTakenBy reader t c
+  pub taken_by : (old : FolderStream F) (reader : ListingReader) (t : Tree) (c : Command) → CameOf state_of old t
+      → AddsCommand old.reader reader c true → IsTakenBy reader t c
   unfolding some_parameters
   taken_by old reader t c was adds =
       let has = was.read some_parameters refl in
@@ -155,7 +195,9 @@ module _ {F : Type 0} (state_of : F → FolderState) where
       }
 
   -- nothing came of a new stream
-  pub came_of_none : (stream : FolderStream F) → stream.folder ≡ stream.first.value → stream.at ≡ 0 → stream.place ≡ places.Start → stream.reader.version ≡ Two → ((p : Parameters) → p.version ≡ Two → HasRead stream.reader empty_tree p)
+  pub came_of_none : (stream : FolderStream F) → stream.folder ≡ stream.first.value → stream.at ≡ 0
+      → stream.place ≡ places.Start → stream.reader.version ≡ Two
+      → ((p : Parameters) → p.version ≡ Two → HasRead stream.reader empty_tree p)
       → CameOf state_of stream empty_tree
   unfolding entries_of file_paths
   came_of_none stream same at place version read = record {
@@ -164,7 +206,8 @@ module _ {F : Type 0} (state_of : F → FolderState) where
     observable = ap (λ (folder : F). (state_of folder).is_observable) same;
     within = omega (arith, at);
     came = [];
-    come = subst (λ (p : Place). AreCome p (take stream.at stream.found.items) []) (sym place) (sym (ap (λ n. take n stream.found.items) at));
+    come = subst (λ (p : Place). AreCome p (take stream.at stream.found.items) []) (sym place)
+        (sym (ap (λ n. take n stream.found.items) at));
     files = [];
     entries = record { paths = refl; tree = refl };
     told = λ observable. record {
@@ -178,25 +221,34 @@ module _ {F : Type 0} (state_of : F → FolderState) where
   }
 
   -- all came
-  pub came_whole : (stream : FolderStream F) (t : Tree) → stream.place ≡ places.Start → vec_len stream.found ≤ stream.at → CameOf state_of stream t → IsPacked state_of stream t
+  pub came_whole : (stream : FolderStream F) (t : Tree) → stream.place ≡ places.Start → vec_len stream.found ≤ stream.at
+      → CameOf state_of stream t → IsPacked state_of stream t
   unfolding some_parameters
   came_whole stream t place all was =
-      let come : AreCome places.Start (take stream.at stream.found.items) was.came = subst (λ (p : Place). AreCome p (take stream.at stream.found.items) was.came) place was.come in
-      let found : was.came ≡ stream.found.items = come ∙ take_all stream.at stream.found.items (omega (arith, stream.found.ok.0)) in
+      let come : AreCome places.Start (take stream.at stream.found.items) was.came =
+      subst (λ (p : Place). AreCome p (take stream.at stream.found.items) was.came) place was.come in
+      let found : was.came ≡ stream.found.items =
+      come ∙ take_all stream.at stream.found.items (omega (arith, stream.found.ok.0)) in
       record {
         is_tree = ((was.read some_parameters refl).under).is_tree;
         files = was.files;
         entries = subst (λ (fs : List Found). HasFiles fs was.files t) found was.entries;
         told = λ observable.
             let tells = was.told observable in
-            let are : AreAnswers places.Start was.files tells.answers = subst (λ (p : Place). AreAnswers p was.files tells.answers) place tells.are in
-            record { listed = (tells.reads).listed; read = (tells.reads).read ∙ ap (λ (answers : List (Path × List ℕ × Bool)). (state_of stream.first.value).read ++ answers) are };
+            let are : AreAnswers places.Start was.files tells.answers =
+            subst (λ (p : Place). AreAnswers p was.files tells.answers) place tells.are in
+            record {
+              listed = (tells.reads).listed;
+              read = (tells.reads).read
+                  ∙ ap (λ (answers : List (Path × List ℕ × Bool)). (state_of stream.first.value).read ++ answers) are;
+            };
       }
 
   -- as many entries came as were begun
   pub came_length : (stream : FolderStream F) (t : Tree) → CameOf state_of stream t → stream.at ≡ length t
   came_length stream t was =
-      let all = ap length (was.entries).tree ∙ entries_length was.came (map (λ (file : Path × List ℕ). file.1) was.files) in
+      let all = ap length (was.entries).tree
+      ∙ entries_length was.came (map (λ (file : Path × List ℕ). file.1) was.files) in
       let begun = come_count stream.place (take stream.at stream.found.items) was.came was.come in
       let within = was.within in
       let ok = stream.found.ok.0 in
@@ -210,19 +262,26 @@ module _ {F : Type 0} (state_of : F → FolderState) where
     pub here : take (old.at + 1) old.found.items ≡ take old.at old.found.items ++ found ∷ []
 
   -- what came where none is begun
-  at_start : (old : FolderStream F) (t : Tree) → old.place ≡ places.Start → (was : CameOf state_of old t) → was.came ≡ take old.at old.found.items
+  at_start : (old : FolderStream F) (t : Tree) → old.place ≡ places.Start → (was : CameOf state_of old t)
+      → was.came ≡ take old.at old.found.items
   at_start old t place was = subst (λ (p : Place). AreCome p (take old.at old.found.items) was.came) place was.come
 
-  begun_last : (old : FolderStream F) (found : Found) (t : Tree) → IsBegun old found → (was : CameOf state_of old t) → CameLast (take (old.at + 1) old.found.items) found (bare_found found) (was.came ++ bare_found found ∷ [])
-  begun_last old found t begins was = (was.came, begins.here ∙ ap (λ (fs : List Found). fs ++ found ∷ []) (sym (at_start old t begins.start was)), refl)
+  begun_last : (old : FolderStream F) (found : Found) (t : Tree) → IsBegun old found → (was : CameOf state_of old t)
+      → CameLast (take (old.at + 1) old.found.items) found (bare_found found) (was.came ++ bare_found found ∷ [])
+  begun_last old found t begins was =
+      (was.came, begins.here ∙ ap (λ (fs : List Found). fs ++ found ∷ []) (sym (at_start old t begins.start was)), refl)
 
   -- a folder is made
-  pub gives_folder : {E : Type 0} (old : FolderStream F) (found : Found) (reader : ListingReader) → IsBegun old found → found.kind ≡ kinds.Directory → AddsCommand old.reader reader (Make found.path) true
-      → Gives {E = E} (CameOf state_of old) (CameOf state_of (record old { at = old.at + 1; place = places.Mode found; reader = reader })) (Make found.path) (Ok tt)
+  pub gives_folder : {E : Type 0} (old : FolderStream F) (found : Found) (reader : ListingReader) → IsBegun old found
+      → found.kind ≡ kinds.Directory → AddsCommand old.reader reader (Make found.path) true
+      → Gives {E = E} (CameOf state_of old)
+      (CameOf state_of (record old { at = old.at + 1; place = places.Mode found; reader = reader }))
+      (Make found.path) (Ok tt)
   gives_folder old found reader begins kind adds = record {
     came = λ t was.
         let taken = taken_by old reader t (Make found.path) was adds in
-        let leads : next_tree t (Make found.path) ≡ t ++ (found.path, named_entry Directory []) ∷ [] = tree_of_make t found.path taken.next in
+        let leads : next_tree t (Make found.path) ≡ t ++ (found.path, named_entry Directory []) ∷ [] =
+        tree_of_make t found.path taken.next in
         record {
           read = taken.read;
           version = taken.version;
@@ -231,16 +290,23 @@ module _ {F : Type 0} (state_of : F → FolderState) where
           came = was.came ++ bare_found found ∷ [];
           come = begun_last old found t begins was;
           files = was.files;
-          entries = subst (λ (u : Tree). HasFiles (was.came ++ bare_found found ∷ []) was.files u) (sym leads) (folder_more was.came was.files t (bare_found found) was.entries kind);
+          entries = subst (λ (u : Tree). HasFiles (was.came ++ bare_found found ∷ []) was.files u) (sym leads)
+              (folder_more was.came was.files t (bare_found found) was.entries kind);
           told = λ observable.
               let tells = was.told observable in
-              record { answers = tells.answers; reads = tells.reads; are = subst (λ (p : Place). AreAnswers p was.files tells.answers) begins.start tells.are };
+              record {
+                answers = tells.answers;
+                reads = tells.reads;
+                are = subst (λ (p : Place). AreAnswers p was.files tells.answers) begins.start tells.are;
+              };
         };
     extends = λ t was. (taken_by old reader t (Make found.path) was adds).extends;
   }
 
   -- what the folder told of a file that was opened and of which the first piece was read
-  opened_reads : (first before opened now : FolderState) (answers : List (Path × List ℕ × Bool)) (path : Path) (bytes : List ℕ) (is_ended : Bool) → ReadsFiles first before answers → OpensFile before opened path → ReadsFile opened now bytes is_ended
+  opened_reads : (first before opened now : FolderState) (answers : List (Path × List ℕ × Bool)) (path : Path)
+      (bytes : List ℕ) (is_ended : Bool) → ReadsFiles first before answers → OpensFile before opened path
+      → ReadsFile opened now bytes is_ended
       → ReadsFiles first now (answers ++ (path, bytes, is_ended) ∷ [])
   opened_reads first before opened now answers path bytes is_ended reads opens piece = record {
     listed = piece.listed ∙ opens.listed ∙ reads.listed;
@@ -250,16 +316,27 @@ module _ {F : Type 0} (state_of : F → FolderState) where
   }
 
   -- a file is opened, and its first piece is written
-  pub gives_file : {E G : Type 0} (old : FolderStream F) (found : Found) (len : ℕ) (opened now : F) (c : Command) (count : ℕ) (reader : ListingReader) → IsBegun old found → found.kind ≡ kinds.File len
-      → IsOpened {E = G} (state_of old.folder) (state_of opened) found.path (Ok tt) → (state_of now).is_observable ≡ (state_of opened).is_observable → IsPiece (state_of opened) (state_of now) found.path 0 c count → AddsCommand old.reader reader c true
-      → Gives {E = E} (CameOf state_of old) (CameOf state_of (record old { folder = now; at = old.at + 1; place = place_behind found 0 count; reader = reader })) c (Ok tt)
+  pub gives_file : {E G : Type 0} (old : FolderStream F) (found : Found) (len : ℕ) (opened now : F) (c : Command)
+      (count : ℕ) (reader : ListingReader) → IsBegun old found → found.kind ≡ kinds.File len
+      → IsOpened {E = G} (state_of old.folder) (state_of opened) found.path (Ok tt)
+      → (state_of now).is_observable ≡ (state_of opened).is_observable
+      → IsPiece (state_of opened) (state_of now) found.path 0 c count → AddsCommand old.reader reader c true
+      → Gives {E = E} (CameOf state_of old)
+      (CameOf state_of (record old {
+        folder = now;
+        at = old.at + 1;
+        place = place_behind found 0 count;
+        reader = reader;
+      })) c (Ok tt)
   unfolding place_of
   gives_file old found len opened now c count reader begins kind opens same piece adds = record {
     came = λ t was.
         let taken = taken_by old reader t c was adds in
         let bytes = piece.bytes in
-        let next : IsFirstWrite t found.path 0 bytes ⊎ IsLaterWrite t found.path 0 bytes = subst (λ (d : Command). IsNext t taken.parameters d) piece.command_is taken.next in
-        let leads : next_tree t c ≡ t ++ (found.path, named_entry (File bytes) []) ∷ [] = ap (next_tree t) piece.command_is ∙ first_tree t found.path bytes next in
+        let next : IsFirstWrite t found.path 0 bytes ⊎ IsLaterWrite t found.path 0 bytes =
+        subst (λ (d : Command). IsNext t taken.parameters d) piece.command_is taken.next in
+        let leads : next_tree t c ≡ t ++ (found.path, named_entry (File bytes) []) ∷ [] =
+        ap (next_tree t) piece.command_is ∙ first_tree t found.path bytes next in
         let whole = nat_lt count dump_piece in
         record {
           read = taken.read;
@@ -267,18 +344,26 @@ module _ {F : Type 0} (state_of : F → FolderState) where
           observable = same ∙ opens.observable ∙ was.observable;
           within = let more = begins.more in omega (arith, more);
           came = was.came ++ bare_found found ∷ [];
-          come = come_behind whole (take (old.at + 1) old.found.items) (was.came ++ bare_found found ∷ []) found (min (0 + dump_piece) (2 ^ 32 - 1)) (begun_last old found t begins was) (omega arith) (len, kind);
+          come = come_behind whole (take (old.at + 1) old.found.items) (was.came ++ bare_found found ∷ []) found
+              (min (0 + dump_piece) (2 ^ 32 - 1)) (begun_last old found t begins was) (omega arith) (len, kind);
           files = was.files ++ (found.path, bytes) ∷ [];
-          entries = subst (λ (u : Tree). HasFiles (was.came ++ bare_found found ∷ []) (was.files ++ (found.path, bytes) ∷ []) u) (sym leads) (file_more was.came was.files t (bare_found found) len bytes was.entries kind);
+          entries = subst (λ (u : Tree). HasFiles (was.came ++ bare_found found ∷ [])
+              (was.files ++ (found.path, bytes) ∷ []) u) (sym leads)
+              (file_more was.came was.files t (bare_found found) len bytes was.entries kind);
           told = λ observable.
               let tells = was.told observable in
               let here : IsObservable (state_of old.folder) = subst IsTrue (sym was.observable) observable in
               let there : IsObservable (state_of opened) = subst IsTrue (sym opens.observable) here in
-              let are : tells.answers ≡ whole_files was.files = subst (λ (p : Place). AreAnswers p was.files tells.answers) begins.start tells.are in
+              let are : tells.answers ≡ whole_files was.files =
+              subst (λ (p : Place). AreAnswers p was.files tells.answers) begins.start tells.are in
               record {
                 answers = whole_files was.files ++ (found.path, bytes, whole) ∷ [];
-                reads = subst (λ (answers : List (Path × List ℕ × Bool)). ReadsFiles (state_of old.first.value) (state_of now) (answers ++ (found.path, bytes, whole) ∷ [])) are
-                    (opened_reads (state_of old.first.value) (state_of old.folder) (state_of opened) (state_of now) tells.answers found.path bytes whole tells.reads (opens.opened here) (piece.told there));
+                reads = subst (λ (answers : List (Path × List ℕ × Bool)).
+                    ReadsFiles (state_of old.first.value) (state_of now) (answers ++ (found.path, bytes, whole) ∷ []))
+                    are
+                    (opened_reads (state_of old.first.value) (state_of old.folder) (state_of opened)
+                    (state_of now) tells.answers found.path bytes whole
+                    tells.reads (opens.opened here) (piece.told there));
                 are = answers_behind whole found (min (0 + dump_piece) (2 ^ 32 - 1)) was.files found.path bytes;
               };
         };
@@ -288,7 +373,8 @@ module _ {F : Type 0} (state_of : F → FolderState) where
   -- ---- behind the beginning of an entry
 
   -- what came of a file that still is read
-  pub record IsInFile (stream : FolderStream F) (t : Tree) (found : Found) (came : List Found) (files : List (Path × List ℕ)) : Type 0 where
+  pub record IsInFile (stream : FolderStream F) (t : Tree) (found : Found) (came : List Found)
+      (files : List (Path × List ℕ)) : Type 0 where
     pub others : List Found
     pub begun_is : take stream.at stream.found.items ≡ others ++ found ∷ []
     pub came_is : came ≡ others ++ bare_found found ∷ []
@@ -296,14 +382,20 @@ module _ {F : Type 0} (state_of : F → FolderState) where
     pub kind_is : found.kind ≡ kinds.File len
     pub ends : EndsWithFile others files t (bare_found found)
     pub told : IsObservable (state_of stream.first.value)
-        → (answers : List (Path × List ℕ × Bool)) × (is_ended : Bool) × (answers ≡ whole_files ends.before ++ (found.path, ends.bytes, is_ended) ∷ []) × ReadsFiles (state_of stream.first.value) (state_of stream.folder) answers
+        → (answers : List (Path × List ℕ × Bool)) × (is_ended : Bool)
+        × (answers ≡ whole_files ends.before ++ (found.path, ends.bytes, is_ended) ∷ [])
+        × ReadsFiles (state_of stream.first.value) (state_of stream.folder) answers
 
-  in_file : (stream : FolderStream F) (t : Tree) (found : Found) (at : ℕ) → stream.place ≡ places.Piece found at → (was : CameOf state_of stream t) → IsInFile stream t found was.came was.files
+  in_file : (stream : FolderStream F) (t : Tree) (found : Found) (at : ℕ) → stream.place ≡ places.Piece found at
+      → (was : CameOf state_of stream t) → IsInFile stream t found was.came was.files
   in_file stream t found at place was =
-      let come : AreCome (places.Piece found at) (take stream.at stream.found.items) was.came = subst (λ (p : Place). AreCome p (take stream.at stream.found.items) was.came) place was.come in
+      let come : AreCome (places.Piece found at) (take stream.at stream.found.items) was.came =
+      subst (λ (p : Place). AreCome p (take stream.at stream.found.items) was.came) place was.come in
       let others = come.0.0 in
       let kind = come.2.1 in
-      let ends = ends_with_file others was.files t (bare_found found) come.2.0 (subst (λ (fs : List Found). HasFiles fs was.files t) come.0.2 was.entries) kind in
+      let ends = ends_with_file others was.files t
+      (bare_found found) come.2.0 (subst (λ (fs : List Found). HasFiles fs was.files t) come.0.2 was.entries) kind
+      in
       record {
         others = others;
         begun_is = come.0.1;
@@ -313,19 +405,24 @@ module _ {F : Type 0} (state_of : F → FolderState) where
         ends = ends;
         told = λ observable.
             let tells = was.told observable in
-            let are : AreAnswers (places.Piece found at) was.files tells.answers = subst (λ (p : Place). AreAnswers p was.files tells.answers) place tells.are in
-            let same = same_from_push are.0 ends.before (are.1, are.2) (found.path, ends.bytes) (sym are.4 ∙ ends.files_are) in (
+            let are : AreAnswers (places.Piece found at) was.files tells.answers =
+            subst (λ (p : Place). AreAnswers p was.files tells.answers) place tells.are in
+            let same = same_from_push are.0 ends.before (are.1, are.2) (found.path, ends.bytes)
+            (sym are.4 ∙ ends.files_are) in (
               tells.answers,
               are.3,
               are.5
-                  ∙ ap₂ (λ (before : List (Path × List ℕ)) (last : Path × List ℕ). whole_files before ++ (last.0, last.1, are.3) ∷ []) same.0 same.1,
+                  ∙ ap₂ (λ (before : List (Path × List ℕ)) (last : Path × List ℕ). whole_files before
+                  ++ (last.0, last.1, are.3) ∷ []) same.0 same.1,
               tells.reads,
             );
       }
 
   -- the file was at its end
-  pub passes_file : (old : FolderStream F) (t : Tree) (found : Found) (at : ℕ) (now : F) (c : Command) (count : ℕ) → old.place ≡ places.Piece found at → (state_of now).is_observable ≡ (state_of old.folder).is_observable
-      → IsPiece (state_of old.folder) (state_of now) found.path at c count → count ≡ 0 → CameOf state_of old t → CameOf state_of (record old { folder = now; place = places.Mode found }) t
+  pub passes_file : (old : FolderStream F) (t : Tree) (found : Found) (at : ℕ) (now : F) (c : Command) (count : ℕ)
+      → old.place ≡ places.Piece found at → (state_of now).is_observable ≡ (state_of old.folder).is_observable
+      → IsPiece (state_of old.folder) (state_of now) found.path at c count → count ≡ 0 → CameOf state_of old t
+      → CameOf state_of (record old { folder = now; place = places.Mode found }) t
   passes_file old t found at now c count place same piece none was =
       let inside = in_file old t found at place was in
       let ends = inside.ends in
@@ -343,21 +440,31 @@ module _ {F : Type 0} (state_of : F → FolderState) where
         told = λ observable.
             let told = inside.told observable in
             let here : IsObservable (state_of old.folder) = subst IsTrue (sym was.observable) observable in
-            let reads = read_more (state_of old.first.value) (state_of old.folder) (state_of now) (whole_files ends.before) found.path ends.bytes piece.bytes told.1 (nat_lt count dump_piece) (subst (λ (a : List (Path × List ℕ × Bool)). ReadsFiles (state_of old.first.value) (state_of old.folder) a) told.2 told.3) (piece.told here) in
+            let reads = read_more (state_of old.first.value) (state_of old.folder) (state_of now)
+            (whole_files ends.before) found.path ends.bytes piece.bytes told.1 (nat_lt count dump_piece)
+            (subst (λ (a : List (Path × List ℕ × Bool)).
+            ReadsFiles (state_of old.first.value) (state_of old.folder) a) told.2 told.3) (piece.told here) in
             record {
               answers = whole_files was.files;
-              reads = subst (λ (a : List (Path × List ℕ × Bool)). ReadsFiles (state_of old.first.value) (state_of now) a)
-                  (ap₂ (λ (bytes : List ℕ) (b : Bool). whole_files ends.before ++ (found.path, ends.bytes ++ bytes, b) ∷ []) nothing last
-                  ∙ ap (λ (bytes : List ℕ). whole_files ends.before ++ (found.path, bytes, true) ∷ []) (append-nil ends.bytes)
+              reads = subst (λ (a : List (Path × List ℕ × Bool)).
+                  ReadsFiles (state_of old.first.value) (state_of now) a)
+                  (ap₂ (λ (bytes : List ℕ) (b : Bool). whole_files ends.before
+                  ++ (found.path, ends.bytes ++ bytes, b) ∷ []) nothing last
+                  ∙ ap (λ (bytes : List ℕ). whole_files ends.before ++ (found.path, bytes, true) ∷ [])
+                  (append-nil ends.bytes)
                   ∙ sym (ap whole_files ends.files_are ∙ whole_more ends.before found.path ends.bytes)) reads;
               are = refl;
             };
       }
 
   -- a piece more of a file is written
-  pub gives_piece : {E : Type 0} (old : FolderStream F) (found : Found) (at : ℕ) (now : F) (c : Command) (count : ℕ) (reader : ListingReader) → old.place ≡ places.Piece found at → (state_of now).is_observable ≡ (state_of old.folder).is_observable
+  pub gives_piece : {E : Type 0} (old : FolderStream F) (found : Found) (at : ℕ) (now : F) (c : Command) (count : ℕ)
+      (reader : ListingReader) → old.place ≡ places.Piece found at
+      → (state_of now).is_observable ≡ (state_of old.folder).is_observable
       → IsPiece (state_of old.folder) (state_of now) found.path at c count → AddsCommand old.reader reader c true
-      → Gives {E = E} (CameOf state_of old) (CameOf state_of (record old { folder = now; place = place_behind found at count; reader = reader })) c (Ok tt)
+      → Gives {E = E} (CameOf state_of old)
+      (CameOf state_of (record old { folder = now; place = place_behind found at count; reader = reader })) c
+      (Ok tt)
   unfolding place_of
   gives_piece old found at now c count reader place same piece adds = record {
     came = λ t was.
@@ -366,29 +473,39 @@ module _ {F : Type 0} (state_of : F → FolderState) where
         let ends = inside.ends in
         let bytes = piece.bytes in
         let whole = nat_lt count dump_piece in
-        let further : 0 < at = (subst (λ (p : Place). AreCome p (take old.at old.found.items) was.came) place was.come).1 in
-        let next : IsFirstWrite t found.path at bytes ⊎ IsLaterWrite t found.path at bytes = subst (λ (d : Command). IsNext t taken.parameters d) piece.command_is taken.next in
+        let further : 0 < at =
+        (subst (λ (p : Place). AreCome p (take old.at old.found.items) was.came) place was.come).1 in
+        let next : IsFirstWrite t found.path at bytes ⊎ IsLaterWrite t found.path at bytes =
+        subst (λ (d : Command). IsNext t taken.parameters d) piece.command_is taken.next in
         let leads : next_tree t c ≡ ends.front ++ (found.path, named_entry (File (ends.bytes ++ bytes)) []) ∷ [] =
-        ap (next_tree t) piece.command_is ∙ later_tree t ends.front found.path found.path at ends.bytes bytes taken.is_tree further next ends.tree in
+        ap (next_tree t) piece.command_is ∙ later_tree t ends.front found.path found.path at ends.bytes bytes
+        taken.is_tree further next ends.tree in
         record {
           read = taken.read;
           version = taken.version;
           observable = same ∙ was.observable;
           within = was.within;
           came = was.came;
-          come = come_behind whole (take old.at old.found.items) was.came found (min (at + dump_piece) (2 ^ 32 - 1)) (inside.others, inside.begun_is, inside.came_is) (omega arith) (inside.len, inside.kind_is);
+          come = come_behind whole (take old.at old.found.items) was.came found (min (at + dump_piece) (2 ^ 32 - 1))
+              (inside.others, inside.begun_is, inside.came_is) (omega arith) (inside.len, inside.kind_is);
           files = ends.before ++ (found.path, ends.bytes ++ bytes) ∷ [];
-          entries = subst (λ (u : Tree). HasFiles was.came (ends.before ++ (found.path, ends.bytes ++ bytes) ∷ []) u) (sym leads)
-              (subst (λ (fs : List Found). HasFiles fs (ends.before ++ (found.path, ends.bytes ++ bytes) ∷ []) (ends.front ++ (found.path, named_entry (File (ends.bytes ++ bytes)) []) ∷ [])) (sym inside.came_is)
-              (file_more inside.others ends.before ends.front (bare_found found) inside.len (ends.bytes ++ bytes) ends.has inside.kind_is));
+          entries = subst (λ (u : Tree). HasFiles was.came (ends.before ++ (found.path, ends.bytes ++ bytes) ∷ []) u)
+              (sym leads)
+              (subst (λ (fs : List Found). HasFiles fs (ends.before ++ (found.path, ends.bytes ++ bytes) ∷ [])
+              (ends.front ++ (found.path, named_entry (File (ends.bytes ++ bytes)) []) ∷ [])) (sym inside.came_is)
+              (file_more inside.others ends.before ends.front (bare_found found) inside.len (ends.bytes ++ bytes)
+              ends.has inside.kind_is));
           told = λ observable.
               let told = inside.told observable in
               let here : IsObservable (state_of old.folder) = subst IsTrue (sym was.observable) observable in
               record {
                 answers = whole_files ends.before ++ (found.path, ends.bytes ++ bytes, whole) ∷ [];
-                reads = read_more (state_of old.first.value) (state_of old.folder) (state_of now) (whole_files ends.before) found.path ends.bytes bytes told.1 whole
-                    (subst (λ (a : List (Path × List ℕ × Bool)). ReadsFiles (state_of old.first.value) (state_of old.folder) a) told.2 told.3) (piece.told here);
-                are = answers_behind whole found (min (at + dump_piece) (2 ^ 32 - 1)) ends.before found.path (ends.bytes ++ bytes);
+                reads = read_more (state_of old.first.value) (state_of old.folder) (state_of now)
+                    (whole_files ends.before) found.path ends.bytes bytes told.1 whole
+                    (subst (λ (a : List (Path × List ℕ × Bool)).
+                    ReadsFiles (state_of old.first.value) (state_of old.folder) a) told.2 told.3) (piece.told here);
+                are = answers_behind whole found (min (at + dump_piece) (2 ^ 32 - 1))
+                    ends.before found.path (ends.bytes ++ bytes);
               };
         };
     extends = λ t was. (taken_by old reader t c was adds).extends;
@@ -397,48 +514,78 @@ module _ {F : Type 0} (state_of : F → FolderState) where
   -- ---- attributes
 
   -- an attribute of the last entry is given
-  gives_name : {E : Type 0} (old : FolderStream F) (found so_far more : Found) (behind : Place) (name : Name) (bytes : List ℕ) (reader : ListingReader) → so_far.path ≡ found.path → more.path ≡ so_far.path → more.kind ≡ so_far.kind
+  gives_name : {E : Type 0} (old : FolderStream F) (found so_far more : Found) (behind : Place) (name : Name)
+      (bytes : List ℕ) (reader : ListingReader) → so_far.path ≡ found.path → more.path ≡ so_far.path
+      → more.kind ≡ so_far.kind
       → found_attributes more ≡ found_attributes so_far ++ (name, bytes) ∷ []
-      → ((came : List Found) → AreCome old.place (take old.at old.found.items) came → CameLast (take old.at old.found.items) found so_far came)
-      → ((came : List Found) → CameLast (take old.at old.found.items) found more came → AreCome behind (take old.at old.found.items) came)
-      → ((files : List (Path × List ℕ)) (answers : List (Path × List ℕ × Bool)) → AreAnswers old.place files answers → AreAnswers behind files answers)
+      → ((came : List Found) → AreCome old.place (take old.at old.found.items) came
+      → CameLast (take old.at old.found.items) found so_far came)
+      → ((came : List Found) → CameLast (take old.at old.found.items) found more came
+      → AreCome behind (take old.at old.found.items) came)
+      → ((files : List (Path × List ℕ)) (answers : List (Path × List ℕ × Bool)) → AreAnswers old.place files answers
+      → AreAnswers behind files answers)
       → AddsCommand old.reader reader (SetAttribute found.path name bytes) true
-      → Gives {E = E} (CameOf state_of old) (CameOf state_of (record old { place = behind; reader = reader })) (SetAttribute found.path name bytes) (Ok tt)
-  gives_name old found so_far more behind name bytes reader path same_path same_kind attributes before after answers adds = record {
-    came = λ t was.
-        let taken = taken_by old reader t (SetAttribute found.path name bytes) was adds in
-        let come = before was.came was.come in
-        let ends = ends_with come.0 was.files t so_far (subst (λ (fs : List Found). HasFiles fs was.files t) come.2 was.entries) in
-        let leads : next_tree t (SetAttribute found.path name bytes) ≡ ends.front ++ (so_far.path, named_entry ends.node (found_attributes more)) ∷ [] =
-        name_tree t ends.front taken.parameters found.path so_far.path name bytes ends.node (found_attributes so_far) taken.is_tree taken.next ends.tree
-        ∙ ap (λ (a : Attributes). ends.front ++ (so_far.path, named_entry ends.node a) ∷ []) (sym attributes) in
-        record {
-          read = taken.read;
-          version = taken.version;
-          observable = was.observable;
-          within = was.within;
-          came = come.0 ++ more ∷ [];
-          come = after (come.0 ++ more ∷ []) (come.0, come.1, refl);
-          files = was.files;
-          entries = subst (λ (u : Tree). HasFiles (come.0 ++ more ∷ []) was.files u) (sym leads) (ends.again more same_path same_kind);
-          told = λ observable.
-              let tells = was.told observable in
-              record { answers = tells.answers; reads = tells.reads; are = answers was.files tells.answers tells.are };
-        };
-    extends = λ t was. (taken_by old reader t (SetAttribute found.path name bytes) was adds).extends;
-  }
+      → Gives {E = E} (CameOf state_of old) (CameOf state_of (record old { place = behind; reader = reader }))
+      (SetAttribute found.path name bytes) (Ok tt)
+  gives_name old found so_far more behind name bytes reader path same_path same_kind attributes before after
+      answers adds = record {
+        came = λ t was.
+            let taken = taken_by old reader t (SetAttribute found.path name bytes) was adds in
+            let come = before was.came was.come in
+            let ends = ends_with come.0 was.files t so_far
+            (subst (λ (fs : List Found). HasFiles fs was.files t) come.2 was.entries) in
+            let leads : next_tree t (SetAttribute found.path name bytes)
+            ≡ ends.front ++ (so_far.path, named_entry ends.node (found_attributes more)) ∷ [] =
+            name_tree t ends.front taken.parameters found.path so_far.path name bytes
+            ends.node (found_attributes so_far)
+            taken.is_tree taken.next ends.tree
+            ∙ ap (λ (a : Attributes). ends.front ++ (so_far.path, named_entry ends.node a) ∷ []) (sym attributes) in
+            record {
+              read = taken.read;
+              version = taken.version;
+              observable = was.observable;
+              within = was.within;
+              came = come.0 ++ more ∷ [];
+              come = after (come.0 ++ more ∷ []) (come.0, come.1, refl);
+              files = was.files;
+              entries = subst (λ (u : Tree). HasFiles (come.0 ++ more ∷ []) was.files u) (sym leads)
+                  (ends.again more same_path same_kind);
+              told = λ observable.
+                  let tells = was.told observable in
+                  record {
+                    answers = tells.answers;
+                    reads = tells.reads;
+                    are = answers was.files tells.answers tells.are;
+                  };
+            };
+        extends = λ t was. (taken_by old reader t (SetAttribute found.path name bytes) was adds).extends;
+      }
 
   -- that an entry may be executed
-  pub gives_mode : {E : Type 0} (old : FolderStream F) (found : Found) (reader : ListingReader) → old.place ≡ places.Mode found → found.is_executable ≡ true → AddsCommand old.reader reader (SetAttribute found.path (codes "mode") (0x78 ∷ [])) true
-      → Gives {E = E} (CameOf state_of old) (CameOf state_of (record old { place = places.Mtime found; reader = reader })) (SetAttribute found.path (codes "mode") (0x78 ∷ [])) (Ok tt)
+  pub gives_mode : {E : Type 0} (old : FolderStream F) (found : Found) (reader : ListingReader)
+      → old.place ≡ places.Mode found → found.is_executable ≡ true
+      → AddsCommand old.reader reader (SetAttribute found.path (codes "mode") (0x78 ∷ [])) true
+      → Gives {E = E} (CameOf state_of old)
+      (CameOf state_of (record old { place = places.Mtime found; reader = reader }))
+      (SetAttribute found.path (codes "mode") (0x78 ∷ [])) (Ok tt)
   gives_mode old found reader place executable adds =
-      gives_name old found (bare_found found) (timeless_found found) (places.Mtime found) (codes "mode") (0x78 ∷ []) reader refl refl refl (ap (λ b. mode_attributes b ++ []) executable)
-      (λ came come. subst (λ (p : Place). AreCome p (take old.at old.found.items) came) place come) (λ came come. come) (λ files answers are. subst (λ (p : Place). AreAnswers p files answers) place are) adds
+      gives_name old found (bare_found found) (timeless_found found) (places.Mtime found) (codes "mode")
+      (0x78 ∷ []) reader refl refl refl (ap (λ b. mode_attributes b ++ []) executable)
+      (λ came come. subst (λ (p : Place). AreCome p (take old.at old.found.items) came) place come) (λ came come. come)
+      (λ files answers are. subst (λ (p : Place). AreAnswers p files answers) place are) adds
 
   -- when it was changed
-  pub gives_mtime : {E : Type 0} (old : FolderStream F) (found : Found) (seconds : ℕ) (reader : ListingReader) → old.place ≡ places.Mtime found → found.seconds ≡ Some seconds → AddsCommand old.reader reader (SetAttribute found.path (codes "mtime") (decimal seconds)) true
-      → Gives {E = E} (CameOf state_of old) (CameOf state_of (record old { place = places.Start; reader = reader })) (SetAttribute found.path (codes "mtime") (decimal seconds)) (Ok tt)
+  pub gives_mtime : {E : Type 0} (old : FolderStream F) (found : Found) (seconds : ℕ) (reader : ListingReader)
+      → old.place ≡ places.Mtime found → found.seconds ≡ Some seconds
+      → AddsCommand old.reader reader (SetAttribute found.path (codes "mtime") (decimal seconds)) true
+      → Gives {E = E} (CameOf state_of old) (CameOf state_of (record old { place = places.Start; reader = reader }))
+      (SetAttribute found.path (codes "mtime") (decimal seconds)) (Ok tt)
   gives_mtime old found seconds reader place some adds =
-      gives_name old found (timeless_found found) found places.Start (codes "mtime") (decimal seconds) reader refl refl refl
-      (ap (λ (s : Option ℕ). mode_attributes found.is_executable ++ mtime_attributes s) some ∙ ap (λ (a : Attributes). a ++ mtime_attributes (Some seconds)) (sym (append-nil (mode_attributes found.is_executable))))
-      (λ came come. subst (λ (p : Place). AreCome p (take old.at old.found.items) came) place come) (λ came come. come.2 ∙ sym come.1) (λ files answers are. subst (λ (p : Place). AreAnswers p files answers) place are) adds
+      gives_name old found (timeless_found found) found places.Start (codes "mtime")
+      (decimal seconds) reader refl refl refl
+      (ap (λ (s : Option ℕ). mode_attributes found.is_executable ++ mtime_attributes s) some
+      ∙ ap (λ (a : Attributes). a ++ mtime_attributes (Some seconds))
+      (sym (append-nil (mode_attributes found.is_executable))))
+      (λ came come. subst (λ (p : Place). AreCome p (take old.at old.found.items) came) place come)
+      (λ came come. come.2 ∙ sym come.1)
+      (λ files answers are. subst (λ (p : Place). AreAnswers p files answers) place are) adds

@@ -1,10 +1,11 @@
 -- What a folder of the host has told, and what each of its answers adds.
-use Rattle.std.specs.Prelude.{◌≡◌, ℕ, ◌≤◌, Bool, IsTrue, true, false, ◌&&◌, nat_lt, List, [], ◌∷◌, ◌++◌, length, map, take, Result, OnOk, IfOk}
+use Rattle.std.specs.Prelude.{◌≡◌, ℕ, ◌≤◌, Bool, IsTrue, true, false, ◌&&◌, nat_lt, List, [], ◌∷◌, ◌++◌, length, map}
+use Rattle.std.specs.Prelude.{take, Result, OnOk, IfOk}
 use Rattle.store_model.specs.Paths.{Path}
 use Rattle.host_folders.specs.declared.found.Found.{Found}
 
--- A folder at one moment, by its answers so far. Only where it is observable do they mean anything. A folder may change between
--- two of its answers.
+-- A folder at one moment, by its answers so far. Only where it is observable do they mean anything. A folder may
+-- change between two of its answers.
 pub record FolderState : Type 0 where
   -- whether it tells its answers
   pub is_observable : Bool
@@ -24,7 +25,8 @@ pub record ListsFolder (old new : FolderState) (path : Path) (before after : Lis
   pub read : new.read ≡ old.read
 
 -- a listing of a folder
-pub record IsListed {E : Type 0} (old new : FolderState) (path : Path) (before after : List Found) (result : Result (Unit {0}) E) : Type 0 where
+pub record IsListed {E : Type 0} (old new : FolderState) (path : Path) (before after : List Found)
+    (result : Result (Unit {0}) E) : Type 0 where
   pub observable : new.is_observable ≡ old.is_observable
   pub listed : IsObservable old → OnOk result (ListsFolder old new path before after)
 
@@ -40,7 +42,8 @@ pub record IsOpened {E : Type 0} (old new : FolderState) (path : Path) (result :
 -- so many bytes of the buffer came of the file that was opened last, and this is told of its end
 pub record ReadsFile (old new : FolderState) (bytes : List ℕ) (is_ended : Bool) : Type 0 where
   pub listed : new.listed ≡ old.listed
-  pub read : (before : List (Path × List ℕ × Bool)) (path : Path) (first : List ℕ) (was_ended : Bool) → old.read ≡ before ++ (path, first, was_ended) ∷ []
+  pub read : (before : List (Path × List ℕ × Bool)) (path : Path) (first : List ℕ) (was_ended : Bool)
+      → old.read ≡ before ++ (path, first, was_ended) ∷ []
       → new.read ≡ before ++ (path, first ++ bytes, is_ended) ∷ []
 
 -- no bytes for a buffer with room tell of the end
@@ -51,13 +54,16 @@ tells_end count room = nat_lt count 1 && nat_lt 0 room
 pub record IsFileRead {E : Type 0} (old new : FolderState) (buffer : List ℕ) (result : Result ℕ E) : Type 0 where
   pub observable : new.is_observable ≡ old.is_observable
   pub within : IfOk result (λ count. count ≤ length buffer)
-  pub read : IsObservable old → IfOk result (λ count. ReadsFile old new (take count buffer) (tells_end count (length buffer)))
+  pub read : IsObservable old
+      → IfOk result (λ count. ReadsFile old new (take count buffer) (tells_end count (length buffer)))
 
--- The buffer is filled from the file that was opened last, as far as the file goes: where it is not full, the file told its end.
+-- The buffer is filled from the file that was opened last, as far as the file goes: where it is not full, the file
+-- told its end.
 pub record IsFilled {E : Type 0} (old new : FolderState) (buffer : List ℕ) (result : Result ℕ E) : Type 0 where
   pub observable : new.is_observable ≡ old.is_observable
   pub within : IfOk result (λ count. count ≤ length buffer)
-  pub read : IsObservable old → IfOk result (λ count. ReadsFile old new (take count buffer) (nat_lt count (length buffer)))
+  pub read : IsObservable old
+      → IfOk result (λ count. ReadsFile old new (take count buffer) (nat_lt count (length buffer)))
 
 -- files of which these bytes came, up to their ends
 abbrev pub whole_files : List (Path × List ℕ) → List (Path × List ℕ × Bool)

@@ -28,9 +28,16 @@ found_node kinds.Directory bytes = Directory
 found_node (kinds.File len) bytes = File bytes
 
 abbrev pub found_entry : Found → List ℕ → Path × Entry
-found_entry found bytes = (found.path, record { node = found_node found.kind bytes; attributes = found_attributes found })
+found_entry found bytes = (
+  found.path,
+  record {
+    node = found_node found.kind bytes;
+    attributes = found_attributes found;
+  },
+)
 
--- the bytes of an entry, where those of the files come one after another, and those that are left for the entries behind it
+-- the bytes of an entry, where those of the files come one after another, and those that are left for the entries
+-- behind it
 abbrev pub contents_here : Kind → List (List ℕ) → List ℕ
 contents_here kinds.Directory contents = []
 contents_here (kinds.File len) [] = []
@@ -44,7 +51,8 @@ contents_behind (kinds.File len) (bytes ∷ contents) = contents
 -- The entries of what was found, whose files have these bytes, one after another.
 unfoldable pub entries_of : List Found → List (List ℕ) → Tree
 entries_of [] contents = []
-entries_of (found ∷ more) contents = found_entry found (contents_here found.kind contents) ∷ entries_of more (contents_behind found.kind contents)
+entries_of (found ∷ more) contents = found_entry found (contents_here found.kind contents)
+    ∷ entries_of more (contents_behind found.kind contents)
 
 -- the paths of the files that were found
 abbrev pub path_of_file : Path → Kind → List Path

@@ -1,5 +1,6 @@
 -- A folder in memory, as its clauses see it.
-use Rattle.std.specs.Prelude.{◌≡◌, ◌⊎◌, ℕ, Bool, true, false, not, ◌&&◌, List, [], ◌++◌, length, map, take, drop, filter, min, max, Contains, Option, Some, option_map, option_to_list, slice_index_or}
+use Rattle.std.specs.Prelude.{◌≡◌, ◌⊎◌, ℕ, Bool, true, false, not, ◌&&◌, List, [], ◌++◌, length, map, take, drop}
+use Rattle.std.specs.Prelude.{filter, min, max, Contains, Option, Some, option_map, option_to_list, slice_index_or}
 use Rattle.std.specs.List.{find}
 use Rattle.store_model.specs.Paths.{Path, is_root, parent, same_path}
 use Rattle.tree_pairs.specs.declared.kind.Kind.{Kind}
@@ -61,8 +62,8 @@ pub record IsOpenAt (folder : MemFolder) (path : Path) : Type 0 where
   pub is_first : file_bytes folder.entries.items path ≡ Some bytes
   pub left : left_of folder ≡ Some (path, bytes)
 
--- Of the file that is open so many bytes came into the buffer: as many as it has room for, as the file has left, and as a read
--- gives at most.
+-- Of the file that is open so many bytes came into the buffer: as many as it has room for, as the file has left, and
+-- as a read gives at most.
 pub record ReadsLeft (old new : MemFolder) (buffer : List ℕ) (count : ℕ) : Type 0 where
   pub path : Path
   pub left : List ℕ

@@ -1,5 +1,6 @@
 -- The tree that a folder's answers give, and how much of its dump came.
-use Rattle.std.specs.Prelude.{◌≡◌, ℕ, ◌<◌, ◌≤◌, Bool, false, List, [], ◌∷◌, ◌++◌, map, take, vec_len, Option, Some, None, ⊤}
+use Rattle.std.specs.Prelude.{◌≡◌, ℕ, ◌<◌, ◌≤◌, Bool, false, List, [], ◌∷◌, ◌++◌, map, take, vec_len, Option, Some}
+use Rattle.std.specs.Prelude.{None, ⊤}
 use Rattle.std.specs.List.{slice_get, Contains}
 use Rattle.store_model.specs.declared.version.Version.TheVariants.{Two}
 use Rattle.store_model.specs.Parameters.{Parameters}
@@ -29,13 +30,14 @@ pub record ReadsFiles (old new : FolderState) (answers : List (Path × List ℕ 
   pub listed : new.listed ≡ old.listed
   pub read : new.read ≡ old.read ++ answers
 
--- What came was the dump of this tree, and it is whole. Each of its files was opened once, in their order, and its bytes are all
--- that came of it up to its end.
+-- What came was the dump of this tree, and it is whole. Each of its files was opened once, in their order, and its
+-- bytes are all that came of it up to its end.
 pub record IsPacked {F : Type 0} (state_of : F → FolderState) (stream : FolderStream F) (t : Tree) : Type 0 where
   pub is_tree : IsTree t
   pub files : List (Path × List ℕ)
   pub entries : HasFiles stream.found.items files t
-  pub told : IsObservable (state_of stream.first.value) → ReadsFiles (state_of stream.first.value) (state_of stream.folder) (whole_files files)
+  pub told : IsObservable (state_of stream.first.value)
+      → ReadsFiles (state_of stream.first.value) (state_of stream.folder) (whole_files files)
 
 -- ---- why a stream ends before its dump does
 
@@ -84,7 +86,12 @@ bare_found found = record { path = found.path; kind = found.kind; is_executable 
 
 -- and before its time came
 abbrev pub timeless_found : Found → Found
-timeless_found found = record { path = found.path; kind = found.kind; is_executable = found.is_executable; seconds = None }
+timeless_found found = record {
+  path = found.path;
+  kind = found.kind;
+  is_executable = found.is_executable;
+  seconds = None;
+}
 
 -- of the last entry that was begun this came; the others before it came whole
 abbrev pub CameLast : List Found → Found → Found → List Found → Type 0
@@ -100,7 +107,8 @@ AreCome (places.Mtime found) begun came = CameLast begun found (timeless_found f
 -- so the folder answered of these files: each was read to its end, but for one that still is read
 abbrev pub AreAnswers : Place → List (Path × List ℕ) → List (Path × List ℕ × Bool) → Type 0
 AreAnswers (places.Piece found at) files answers =
-    (before : List (Path × List ℕ)) × (path : Path) × (bytes : List ℕ) × (is_ended : Bool) × (files ≡ before ++ (path, bytes) ∷ []) × (answers ≡ whole_files before ++ (path, bytes, is_ended) ∷ [])
+    (before : List (Path × List ℕ)) × (path : Path) × (bytes : List ℕ) × (is_ended : Bool)
+    × (files ≡ before ++ (path, bytes) ∷ []) × (answers ≡ whole_files before ++ (path, bytes, is_ended) ∷ [])
 AreAnswers places.Start files answers = answers ≡ whole_files files
 AreAnswers (places.Mode found) files answers = answers ≡ whole_files files
 AreAnswers (places.Mtime found) files answers = answers ≡ whole_files files
@@ -121,4 +129,5 @@ pub record CameOf {F : Type 0} (state_of : F → FolderState) (stream : FolderSt
   pub come : AreCome stream.place (take stream.at stream.found.items) came
   pub files : List (Path × List ℕ)
   pub entries : HasFiles came files t
-  pub told : IsObservable (state_of stream.first.value) → TellsFiles (state_of stream.first.value) (state_of stream.folder) stream.place files
+  pub told : IsObservable (state_of stream.first.value)
+      → TellsFiles (state_of stream.first.value) (state_of stream.folder) stream.place files

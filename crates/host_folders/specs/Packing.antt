@@ -8,9 +8,10 @@ use Rattle.host_folders.specs.FolderState.{FolderState, IsObservable, whole_file
 use Rattle.host_folders.specs.Packed.{HasFiles, ReadsFiles}
 use Rattle.host_folders.specs.declared.found.Found.{Found}
 
--- The listing of a tree is written. The tree has just the entries that were found, and its files have the bytes that the folder
--- told of them from one moment to a later one, up to their ends.
-pub record PacksFolder {F W : Type 0} (state_of : F → FolderState) (sink_of : W → SinkState) (folder now : F) (found : List Found) (old new : W) : Type 0 where
+-- The listing of a tree is written. The tree has just the entries that were found, and its files have the bytes that
+-- the folder told of them from one moment to a later one, up to their ends.
+pub record PacksFolder {F W : Type 0} (state_of : F → FolderState) (sink_of : W → SinkState) (folder now : F)
+    (found : List Found) (old new : W) : Type 0 where
   pub tree : Tree
   pub is_tree : IsTree tree
   pub files : List (Path × List ℕ)

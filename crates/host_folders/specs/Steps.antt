@@ -1,5 +1,6 @@
 -- What the steps of a stream do.
-use Rattle.std.specs.Prelude.{◌≡◌, ℕ, ◌+◌, ◌^◌, ◌-◌, List, length, min, nat_lt, if◌then◌else◌, Result, IfOk, OnOk, Option, Some, None}
+use Rattle.std.specs.Prelude.{◌≡◌, ℕ, ◌+◌, ◌^◌, ◌-◌, List, length, min, nat_lt, if◌then◌else◌, Result, IfOk, OnOk}
+use Rattle.std.specs.Prelude.{Option, Some, None}
 use Rattle.store_model.specs.Paths.{Path}
 use Rattle.store_model.specs.Trees.{Tree}
 use Rattle.store_model.specs.Commands.{Command}
@@ -18,20 +19,23 @@ pub record Gives {E : Type 0} (old new : Tree → Type 0) (c : Command) (result 
   pub came : (t : Tree) → old t → OnOk result (new (next_tree t c))
   pub extends : (t : Tree) → old t → OnOk result (Extends t c)
 
--- the command writes the next piece of the file that was opened last, of so many bytes: a full one, or what is left of the file
+-- the command writes the next piece of the file that was opened last, of so many bytes: a full one, or what is left
+-- of the file
 pub record IsPiece (old new : FolderState) (path : Path) (at : ℕ) (c : Command) (count : ℕ) : Type 0 where
   pub bytes : List ℕ
   pub command_is : c ≡ Write path at bytes
   pub count_is : count ≡ length bytes
   pub told : IsObservable old → ReadsFile old new bytes (nat_lt count dump_piece)
 
-pub record ReadsPiece {E : Type 0} (old new : FolderState) (path : Path) (at : ℕ) (c : Command) (result : Result ℕ E) : Type 0 where
+pub record ReadsPiece {E : Type 0} (old new : FolderState) (path : Path) (at : ℕ) (c : Command)
+    (result : Result ℕ E) : Type 0 where
   pub observable : new.is_observable ≡ old.is_observable
   pub piece : IfOk result (IsPiece old new path at c)
 
 -- what comes behind the piece of a file that begins at an offset: a full one leaves it open whether there is another
 abbrev pub place_behind : Found → ℕ → ℕ → Place
-place_behind found at count = if nat_lt count dump_piece then places.Mode found else places.Piece found (min (at + dump_piece) (2 ^ 32 - 1))
+place_behind found at count = if nat_lt count dump_piece then places.Mode found else places.Piece found
+    (min (at + dump_piece) (2 ^ 32 - 1))
 
 -- the path of the entry at which a stream is
 abbrev pub path_of_found : Option Found → Option Path

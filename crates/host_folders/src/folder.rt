@@ -15,7 +15,8 @@ pub trait Folder {
     /// Adds what stands in the folder at a path, in any order, to what was found. What has no place in an image is left
     /// out; the folder keeps for itself what that was.
     fn list(&mut self, path: &Path, found: &mut Vec<Found>) -> Result<(), FolderFault>
-        ensures { IsListed (state self.old) (state self.new) path.now found.old.items found.new.items result };
+        ensures { IsListed (state self.old)
+            (state self.new) path.now found.old.items found.new.items result };
 
     /// Opens the file at a path, in the place of the one that was open.
     fn open(&mut self, path: &Path) -> Result<(), FolderFault>

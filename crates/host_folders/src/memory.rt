@@ -1,11 +1,13 @@
 //! A folder in memory, whose calls fail where they are told to. It tells its answers.
 
-ghost use Rattle.std.specs.Prelude.{◌≡◌, ◌↔◌, ◌⊎◌, ◌+◌, ◌^◌, ◌<◌, ◌≤◌, ◌++◌, [], None, option_map, Contains, IfOk, IfErr, IsErr, drop, IsTrue, OnErr, OnOk, length, slice_index_or, min, max, true};
+ghost use Rattle.std.specs.Prelude.{◌≡◌, ◌↔◌, ◌⊎◌, ◌+◌, ◌^◌, ◌<◌, ◌≤◌, ◌++◌, [], None, option_map, Contains, IfOk};
+ghost use Rattle.std.specs.Prelude.{IfErr, IsErr, drop, IsTrue, OnErr, OnOk, length, slice_index_or, min, max, true};
 ghost use Rattle.store_base.specs.Counts.{raised};
 ghost use Rattle.host_folders.specs.FolderState.{IsListed, IsOpened, IsFileRead};
 ghost use Rattle.host_folders.specs.FolderState as states;
 ghost use Rattle.host_folders.specs.declared.fault.FolderFault.TheVariants as faults;
-ghost use Rattle.host_folders.specs.Memory.{HasSameEntries, IsRefused, IsOpenAt, ReadsLeft, bytes_at, children_of, file_bytes, folder_state, is_child, is_file, is_file_at, left_of, told_of};
+ghost use Rattle.host_folders.specs.Memory.{HasSameEntries, IsRefused, IsOpenAt, ReadsLeft, bytes_at, children_of};
+ghost use Rattle.host_folders.specs.Memory.{file_bytes, folder_state, is_child, is_file, is_file_at, left_of, told_of};
 
 use crate::fault::FolderFault;
 use crate::folder::Folder;
@@ -90,7 +92,8 @@ impl MemFolder {
 
     /// What stands right below a path.
     fn below(&self, path: &Path) -> Result<Vec<Found>, FolderFault>
-        ensures found { IfOk result (λ found. found.items ≡ told_of self.now.entries.items path.now) }
+        ensures found { IfOk result
+            (λ found. found.items ≡ told_of self.now.entries.items path.now) }
         ensures fault { IfErr result (λ fault. fault ≡ faults.NoMemory) }
     {
         let mut found = Vec::new(*self.entries.allocator());
@@ -115,7 +118,8 @@ impl MemFolder {
 
     /// Which of the entries is the first file at a path.
     fn place_of(&self, path: &Path) -> Option<usize>
-        ensures { option_map (bytes_at self.now.entries.items) result ≡ file_bytes self.now.entries.items path.now }
+        ensures { option_map (bytes_at self.now.entries.items) result
+            ≡ file_bytes self.now.entries.items path.now }
     {
         for (place, entry) in self.entries.iter().enumerate() {
             if is_file_at(entry, path) {
@@ -131,11 +135,14 @@ impl Folder for MemFolder {
 
     /// Tells the entries whose parent the path is, in their order.
     fn list(&mut self, path: &Path, found: &mut Vec<Found>) -> Result<(), FolderFault>
-        ensures contract { IsListed (folder_state self.old) (folder_state self.new) path.now found.old.items found.new.items result }
+        ensures contract { IsListed (folder_state self.old)
+            (folder_state self.new) path.now found.old.items found.new.items result }
         ensures same { HasSameEntries self.old self.new }
         ensures fails { Contains self.old.failing.items self.old.calls → IsErr result }
-        ensures fault { IfErr result (λ fault. fault ≡ faults.NoMemory ⊎ Contains self.old.failing.items self.old.calls) }
-        ensures told { OnOk result (found.new.items ≡ found.old.items ++ children_of self.old path.now) }
+        ensures fault { IfErr result (λ fault. fault ≡ faults.NoMemory
+            ⊎ Contains self.old.failing.items self.old.calls) }
+        ensures told { OnOk result
+            (found.new.items ≡ found.old.items ++ children_of self.old path.now) }
     {
         self.count_call()?;
         let told = self.below(path)?;
@@ -155,12 +162,15 @@ impl Folder for MemFolder {
     /// Opens the first entry that is a file at the path.
     /// `Unreadable`: the call is to fail, or there is none. After an error the file that was open stays open.
     fn open(&mut self, path: &Path) -> Result<(), FolderFault>
-        ensures contract { IsOpened (folder_state self.old) (folder_state self.new) path.now result }
+        ensures contract { IsOpened (folder_state self.old)
+            (folder_state self.new) path.now result }
         ensures same { HasSameEntries self.old self.new }
         ensures opened { OnOk result (IsOpenAt self.new path.now) }
         ensures unchanged { OnErr result (left_of self.new ≡ left_of self.old) }
-        ensures fails { IsRefused self.old (file_bytes self.old.entries.items path.now ≡ None) → IsErr result }
-        ensures fault { IfErr result (λ fault. fault ≡ faults.NoMemory ⊎ IsRefused self.old (file_bytes self.old.entries.items path.now ≡ None)) }
+        ensures fails { IsRefused self.old (file_bytes self.old.entries.items path.now ≡ None)
+            → IsErr result }
+        ensures fault { IfErr result (λ fault. fault ≡ faults.NoMemory
+            ⊎ IsRefused self.old (file_bytes self.old.entries.items path.now ≡ None)) }
     {
         self.count_call()?;
         let Some(entry) = self.place_of(path) else {
@@ -183,7 +193,8 @@ impl Folder for MemFolder {
     /// Reads as many bytes as the buffer has room for, as the file has left, and as a read gives at most.
     /// `Unreadable`: the call is to fail, or no file is open. After it the next read gives the same bytes.
     fn read(&mut self, into: &mut [u8]) -> Result<usize, FolderFault>
-        ensures contract { IsFileRead (folder_state self.old) (folder_state self.new) into.new result }
+        ensures contract { IsFileRead (folder_state self.old)
+            (folder_state self.new) into.new result }
         ensures same { HasSameEntries self.old self.new }
         ensures left { IfOk result (ReadsLeft self.old self.new into.new) }
         ensures unchanged { OnErr result (left_of self.new ≡ left_of self.old) }

@@ -20,10 +20,12 @@ pub fn pack_folder<F: Folder, W: Sink>(
     found: Vec<Found>,
     sink: W,
 ) -> (FolderStream<F>, W, Result<(), DrainFault>)
-    ensures packs { OnOk result.2 (PacksFolder F.state W.state folder result.0.folder found.items sink result.1) }
+    ensures packs { OnOk result.2
+        (PacksFolder F.state W.state folder result.0.folder found.items sink result.1) }
     ensures first { result.0.first.value ≡ folder }
     ensures found { result.0.found ≡ found }
-    ensures stops { IfErr result.2 (WritesUntil (CameOf F.state) (IsPacked F.state) EndsBy W.state result.0 sink result.1) }
+    ensures stops { IfErr result.2 (WritesUntil (CameOf F.state)
+        (IsPacked F.state) EndsBy W.state result.0 sink result.1) }
 {
     let mut stream = FolderStream::new(folder, found);
     let (sink, written) = write_dump(&mut stream, sink);

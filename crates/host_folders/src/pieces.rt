@@ -20,7 +20,8 @@ pub(crate) fn read_piece<F: Folder>(
     at: u32,
     into: &mut Command,
 ) -> Result<usize, FolderFault>
-    ensures { ReadsPiece (F.state folder.old) (F.state folder.new) path.now at (command_of into.new) result }
+    ensures { ReadsPiece (F.state folder.old) (F.state folder.new) path.now at
+        (command_of into.new) result }
 {
     let mut piece = [0; DUMP_PIECE as usize];
     let count = fill(folder, &mut piece)?;

@@ -1,6 +1,7 @@
 //! The commands of the dump of a folder.
 
-ghost use Rattle.std.specs.Prelude.{◌≡◌, ◌<◌, ◌+◌, ◌++◌, ◌∷◌, [], take, length, true, false, vec_len, OnOk, IfErr, IsTrue};
+ghost use Rattle.std.specs.Prelude.{◌≡◌, ◌<◌, ◌+◌, ◌++◌, ◌∷◌, [], take, length, true, false, vec_len, OnOk, IfErr};
+ghost use Rattle.std.specs.Prelude.{IsTrue};
 ghost use Rattle.store_model.specs.Trees.{Tree, empty_tree};
 ghost use Rattle.store_model.specs.Paths.{is_attribute_name};
 ghost use Rattle.script_lines.specs.Parsing.{command_of};
@@ -34,8 +35,8 @@ enum Place {
     Mtime(Found),
 }
 
-/// The commands of the dump of the tree that a folder's answers give: what was found in it, and what its files hold when
-/// they are read.
+/// The commands of the dump of the tree that a folder's answers give: what was found in it, and what its files hold
+/// when they are read.
 #[derive(Drop)]
 pub struct FolderStream<F: Folder> {
     folder: F,
@@ -113,7 +114,8 @@ impl<F: Folder> FolderStream<F> {
     /// Begins the next entry, if there is one.
     fn begin(&mut self, into: &mut Command) -> Result<bool, StreamFault>
         requires { self.old.place ≡ Place.Start }
-        ensures next { IsNext (CameOf F.state self.old) (CameOf F.state self.new) (IsPacked F.state self.new) (EndsBy self.new) (command_of into.new) result }
+        ensures next { IsNext (CameOf F.state self.old) (CameOf F.state self.new)
+            (IsPacked F.state self.new) (EndsBy self.new) (command_of into.new) result }
         ensures same { IsOfSame self.old self.new }
     {
         if self.at >= self.found.len() {
@@ -132,8 +134,10 @@ impl<F: Folder> FolderStream<F> {
         requires start { self.old.place ≡ Place.Start }
         requires kind { found.now.kind ≡ Kind.Directory }
         requires more { self.old.at < vec_len self.old.found }
-        requires here { take (self.old.at + 1) self.old.found.items ≡ take self.old.at self.old.found.items ++ found.now ∷ [] }
-        ensures gives { Gives (CameOf F.state self.old) (CameOf F.state self.new) (command_of into.new) result }
+        requires here { take (self.old.at + 1) self.old.found.items
+            ≡ take self.old.at self.old.found.items ++ found.now ∷ [] }
+        ensures gives { Gives (CameOf F.state self.old) (CameOf F.state self.new)
+            (command_of into.new) result }
         ensures failed { (t : Tree) → CameOf F.state self.old t → IfErr result (EndsBy self.new t) }
         ensures same { IsOfSame self.old self.new }
     {
@@ -149,8 +153,10 @@ impl<F: Folder> FolderStream<F> {
         requires start { self.old.place ≡ Place.Start }
         requires kind { IsFile found.now.kind }
         requires more { self.old.at < vec_len self.old.found }
-        requires here { take (self.old.at + 1) self.old.found.items ≡ take self.old.at self.old.found.items ++ found.now ∷ [] }
-        ensures gives { Gives (CameOf F.state self.old) (CameOf F.state self.new) (command_of into.new) result }
+        requires here { take (self.old.at + 1) self.old.found.items
+            ≡ take self.old.at self.old.found.items ++ found.now ∷ [] }
+        ensures gives { Gives (CameOf F.state self.old) (CameOf F.state self.new)
+            (command_of into.new) result }
         ensures failed { (t : Tree) → CameOf F.state self.old t → IfErr result (EndsBy self.new t) }
         ensures same { IsOfSame self.old self.new }
     {
@@ -165,7 +171,8 @@ impl<F: Folder> FolderStream<F> {
     /// Writes the piece of a file that begins at an offset, if one is there, and else what comes behind the file.
     fn piece(&mut self, found: &Found, at: u32, into: &mut Command) -> Result<bool, StreamFault>
         requires { self.old.place ≡ Place.Piece found.now at }
-        ensures next { IsNext (CameOf F.state self.old) (CameOf F.state self.new) (IsPacked F.state self.new) (EndsBy self.new) (command_of into.new) result }
+        ensures next { IsNext (CameOf F.state self.old) (CameOf F.state self.new)
+            (IsPacked F.state self.new) (EndsBy self.new) (command_of into.new) result }
         ensures same { IsOfSame self.old self.new }
     {
         let count = read_piece(&mut self.folder, &found.path, at, into)?;
@@ -181,7 +188,8 @@ impl<F: Folder> FolderStream<F> {
     /// Gives the attribute that says that an entry may be executed, if it is to say so, and else what comes behind it.
     fn mode(&mut self, found: &Found, into: &mut Command) -> Result<bool, StreamFault>
         requires { self.old.place ≡ Place.Mode found.now }
-        ensures next { IsNext (CameOf F.state self.old) (CameOf F.state self.new) (IsPacked F.state self.new) (EndsBy self.new) (command_of into.new) result }
+        ensures next { IsNext (CameOf F.state self.old) (CameOf F.state self.new)
+            (IsPacked F.state self.new) (EndsBy self.new) (command_of into.new) result }
         ensures same { IsOfSame self.old self.new }
     {
         self.place = Place::Mtime(*found);
@@ -196,7 +204,8 @@ impl<F: Folder> FolderStream<F> {
     /// Gives the attribute that says when an entry was changed, if it is to say so, and else what comes behind it.
     fn mtime(&mut self, found: &Found, into: &mut Command) -> Result<bool, StreamFault>
         requires { self.old.place ≡ Place.Mtime found.now }
-        ensures next { IsNext (CameOf F.state self.old) (CameOf F.state self.new) (IsPacked F.state self.new) (EndsBy self.new) (command_of into.new) result }
+        ensures next { IsNext (CameOf F.state self.old) (CameOf F.state self.new)
+            (IsPacked F.state self.new) (EndsBy self.new) (command_of into.new) result }
         ensures same { IsOfSame self.old self.new }
     {
         let Some(seconds) = found.seconds else {
@@ -217,8 +226,10 @@ impl<F: Folder> FolderStream<F> {
 
     /// Takes a command, if some dump goes on with it.
     fn add(&mut self, command: &Command) -> Result<(), StreamFault>
-        ensures added { OnOk result (AddsCommand self.old.reader self.new.reader (command_of command.now) true) }
-        ensures refused { IfErr result (λ fault. AddsCommand self.old.reader self.new.reader (command_of command.now) false) }
+        ensures added { OnOk result
+            (AddsCommand self.old.reader self.new.reader (command_of command.now) true) }
+        ensures refused { IfErr result
+            (λ fault. AddsCommand self.old.reader self.new.reader (command_of command.now) false) }
         ensures fault { IfErr result (λ fault. fault ≡ StreamFault.NoDump) }
         ensures same { self.new ≡ record self.old { reader = self.new.reader } }
     {
@@ -240,7 +251,8 @@ impl<F: Folder> DumpStream for FolderStream<F> {
 
     ghost fails = { EndsBy };
 
-    /// `NoDump`: no dump goes on with what the entry at `path` asks for. `Unreadable`, `NoMemory`: so the folder answered.
+    /// `NoDump`: no dump goes on with what the entry at `path` asks for. `Unreadable`, `NoMemory`: so the folder
+    /// answered.
     fn next(&mut self, into: &mut Command) -> Result<bool, StreamFault> {
         match self.place {
             Place::Start => self.begin(into),

@@ -22,7 +22,8 @@ pub const MAX_FOUND: u32 = 16_777_216;
 /// `TooMany`: more than 16,777,216 entries stand there.
 pub fn find_all<F: Folder>(alloc: Global, folder: &mut F) -> Result<Vec<Found>, FolderFault>
     ensures observable { (F.state folder.new).is_observable ≡ (F.state folder.old).is_observable }
-    ensures told { IsObservable (F.state folder.old) → IfOk result (λ found. ToldAll (F.state folder.old) (F.state folder.new) found.items) }
+    ensures told { IsObservable (F.state folder.old)
+        → IfOk result (λ found. ToldAll (F.state folder.old) (F.state folder.new) found.items) }
     ensures order { IfOk result (λ found. AreInOrder found.items) }
     ensures few { IfOk result (λ found. vec_len found ≤ MAX_FOUND) }
 {
@@ -37,7 +38,9 @@ pub fn find_all<F: Folder>(alloc: Global, folder: &mut F) -> Result<Vec<Found>, 
 /// `TooMany`: more than 16,777,216 entries were found.
 fn list_found<F: Folder>(folder: &mut F, found: &mut Vec<Found>) -> Result<(), FolderFault>
     ensures observable { (F.state folder.new).is_observable ≡ (F.state folder.old).is_observable }
-    ensures told { IsObservable (F.state folder.old) → OnOk result (Walks (F.state folder.old) (F.state folder.new) (folder_paths found.new.items) found.old.items found.new.items) }
+    ensures told { IsObservable (F.state folder.old)
+        → OnOk result (Walks (F.state folder.old) (F.state folder.new)
+        (folder_paths found.new.items) found.old.items found.new.items) }
     ensures few { OnOk result (vec_len found.new ≤ MAX_FOUND) }
 {
     for at in 0..=MAX_FOUND as usize {
@@ -56,7 +59,9 @@ fn list_one<F: Folder>(
     found: &mut Vec<Found>,
 ) -> Result<(), FolderFault>
     ensures observable { (F.state folder.new).is_observable ≡ (F.state folder.old).is_observable }
-    ensures told { IsObservable (F.state folder.old) → OnOk result (Walks (F.state folder.old) (F.state folder.new) (path_of_folder entry.now.path entry.now.kind) found.old.items found.new.items) }
+    ensures told { IsObservable (F.state folder.old)
+        → OnOk result (Walks (F.state folder.old) (F.state folder.new)
+        (path_of_folder entry.now.path entry.now.kind) found.old.items found.new.items) }
 {
     match entry.kind {
         Kind::Directory => folder.list(&entry.path, found),

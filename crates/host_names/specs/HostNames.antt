@@ -1,5 +1,6 @@
 -- Names of a folder of the host, and how they travel as names of a path.
-use Rattle.std.specs.Prelude.{ℕ, ◌+◌, ◌/◌, ◌%◌, List, [], ◌∷◌, length, Bool, not, ◌&&◌, nat_le, nat_lt, ◌==◌, if◌then◌else◌}
+use Rattle.std.specs.Prelude.{ℕ, ◌+◌, ◌/◌, ◌%◌, List, [], ◌∷◌, length, Bool, not, ◌&&◌, nat_le, nat_lt, ◌==◌}
+use Rattle.std.specs.Prelude.{if◌then◌else◌}
 use Rattle.std.specs.List.{flat_map, list_all}
 use Rattle.store_model.specs.Lists.{same_bytes}
 
@@ -25,4 +26,5 @@ is_host_byte c = nat_le 1 c && nat_le c 0xff && not (c == 0x2f)
 
 -- what a folder of the host can name a file: one byte or more, and neither `.` nor `..`
 abbrev pub is_host_name : List ℕ → Bool
-is_host_name n = nat_le 1 (length n) && list_all is_host_byte n && not (same_bytes n (0x2e ∷ [])) && not (same_bytes n (0x2e ∷ 0x2e ∷ []))
+is_host_name n = nat_le 1 (length n) && list_all is_host_byte n && not (same_bytes n (0x2e ∷ []))
+    && not (same_bytes n (0x2e ∷ 0x2e ∷ []))

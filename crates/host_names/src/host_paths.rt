@@ -3,7 +3,8 @@
 ghost use Rattle.std.specs.Prelude.{◌≡◌, ◌≤◌, ◌++◌, length, false, IfOk, OnOk, IsErrOf};
 ghost use Rattle.std.specs.String.{string_bytes};
 ghost use Rattle.store_model.specs.Paths as model;
-ghost use Rattle.host_names.specs.HostPaths.{IsHostPath, HasNoHostPath, HasNoText, HasNoHostName, AppendsHostNames, AppendsHostName};
+ghost use Rattle.host_names.specs.HostPaths.{IsHostPath, HasNoHostPath, HasNoText, HasNoHostName, AppendsHostNames};
+ghost use Rattle.host_names.specs.HostPaths.{AppendsHostName};
 
 use crate::spelling::MAX_NAME;
 use crate::telling::unescape;
@@ -37,10 +38,10 @@ impl From<NoMemory> for HostPathFault {
     }
 }
 
-/// The path on the host of a path below a folder: the folder's bytes, and `/` and the name that is spelled for each name
-/// of the path. So it leads to nothing outside the folder: no name has a `/`, none is `.` or `..`. For a folder without
-/// bytes it begins with `/`, and so at the root of the host.
-/// `NoSpelling`: exactly where some name of the path is no spelling, unless memory ran out. `NotUtf8` does not come.
+/// The path on the host of a path below a folder: the folder's bytes, and `/` and the name that is spelled for each
+/// name of the path. So it leads to nothing outside the folder: no name has a `/`, none is `.` or `..`. For a folder
+/// without bytes it begins with `/`, and so at the root of the host. `NoSpelling`: exactly where some name of the
+/// path is no spelling, unless memory ran out. `NotUtf8` does not come.
 pub fn host_path(alloc: Global, folder: &[u8], path: &Path) -> Result<Vec<u8>, HostPathFault>
     ensures ok { IfOk result (λ bytes. IsHostPath folder.now path.now bytes.items) }
     ensures no_spelling { IsErrOf result HostPathFault.NoSpelling → HasNoHostPath path.now }

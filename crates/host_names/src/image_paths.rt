@@ -28,7 +28,8 @@ pub fn image_path(folder: &Path, name: &[u8]) -> Result<Path, ImagePathFault>
     ensures valid { IfOk result (λ path. IsTrue (is_path path)) }
     ensures named { IfOk result (λ path. IsTrue (model.is_host_name name.now)) }
     ensures no_name { IsErrOf result ImagePathFault.NoName ↔ (model.is_host_name name.now ≡ false) }
-    ensures too_long { IsErrOf result ImagePathFault.TooLong → fits_field (folder.now ++ model.escaped name.now ∷ []) ≡ false }
+    ensures too_long { IsErrOf result ImagePathFault.TooLong
+        → fits_field (folder.now ++ model.escaped name.now ∷ []) ≡ false }
 {
     if !is_host_name(name) {
         return Err(ImagePathFault::NoName);
@@ -46,7 +47,8 @@ fn path_below(folder: &Path, spelled: &[u8]) -> Result<Path, ImagePathFault>
     ensures ok { IfOk result (λ path. path ≡ folder.now ++ spelled.now ∷ []) }
     ensures valid { IfOk result (λ path. IsTrue (is_path path)) }
     ensures no_name { IsErrOf result ImagePathFault.NoName → ⊥ }
-    ensures too_long { IsErrOf result ImagePathFault.TooLong → fits_field (folder.now ++ spelled.now ∷ []) ≡ false }
+    ensures too_long { IsErrOf result ImagePathFault.TooLong
+        → fits_field (folder.now ++ spelled.now ∷ []) ≡ false }
 {
     let _ = folder.is_root();
     let Some(key) = replant(&path_of(spelled).key(0), &Path::root(), folder) else {

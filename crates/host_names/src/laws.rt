@@ -13,10 +13,12 @@ pub fn escaped_names_are_names()
 
 /// Two names of the host with one spelling are the same.
 pub fn names_have_their_own_spelling()
-    ensures { (name other : List ℕ) → IsTrue (is_host_name name) → IsTrue (is_host_name other) → escaped name ≡ escaped other → name ≡ other }
+    ensures { (name other : List ℕ) → IsTrue (is_host_name name) → IsTrue (is_host_name other)
+        → escaped name ≡ escaped other → name ≡ other }
 {}
 
 /// A spelling is the path of one name exactly where it has at most 119 bytes.
 pub fn short_spellings_are_paths()
-    ensures { (name : List ℕ) → IsTrue (is_host_name name) → IsTrue (is_path (escaped name ∷ [])) ↔ (length (escaped name) ≤ MAX_NAME) }
+    ensures { (name : List ℕ) → IsTrue (is_host_name name) → IsTrue (is_path (escaped name ∷ []))
+        ↔ (length (escaped name) ≤ MAX_NAME) }
 {}

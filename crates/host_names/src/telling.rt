@@ -84,7 +84,8 @@ pub fn unescape(text: &[u8]) -> Option<ArrayVec<u8, MAX_NAME>>
     requires { length text.now ≤ MAX_NAME }
     ensures name { IfSome result (λ name. IsTrue (model.is_host_name name.items)) }
     ensures spelled { IfSome result (λ name. model.escaped name.items ≡ text.now) }
-    ensures none { IfNone result ((name : List ℕ) → IsTrue (model.is_host_name name) → model.escaped name ≡ text.now → ⊥) }
+    ensures none { IfNone result ((name : List ℕ) → IsTrue (model.is_host_name name)
+        → model.escaped name ≡ text.now → ⊥) }
 {
     let name = read(text);
     if !is_host_name(name.as_slice()) {

@@ -12,7 +12,8 @@ use Rattle.image_check.specs.SlotCalls.{FindsContents, ChecksSlots, clean_on, co
 use Rattle.image_check.proofs.Layouts.{clean_slots, clean_with}
 
 -- reads with another answer, which says the same of faults
-pub reads_answer : {T U : Type 0} (old new : SlotsState) (before : Result T Fault) (result : Result U Fault) → disk_faults_after old.faults before ≡ disk_faults_after old.faults result
+pub reads_answer : {T U : Type 0} (old new : SlotsState) (before : Result T Fault) (result : Result U Fault)
+    → disk_faults_after old.faults before ≡ disk_faults_after old.faults result
     → (IfErr before (HasCause old) → IfErr result (HasCause old)) → ReadsOnly old new before → ReadsOnly old new result
 reads_answer old new before result same cause reads = record {
   calls = record {
@@ -26,17 +27,20 @@ reads_answer old new before result same cause reads = record {
 }
 
 -- reads of which none failed, whatever they answer
-pub reads_answered : {T U : Type 0} (old new : SlotsState) (before : T) (value : U) → ReadsOnly old new (Ok before) → ReadsOnly old new (Ok value)
+pub reads_answered : {T U : Type 0} (old new : SlotsState) (before : T) (value : U) → ReadsOnly old new (Ok before)
+    → ReadsOnly old new (Ok value)
 reads_answered old new before value = reads_answer old new (Ok before) (Ok value) refl (λ cause. cause)
 
 -- a fault comes for the same cause behind reads of slots that were as they are
-cause_before : {T : Type 0} (old mid : SlotsState) (result : Result T Fault) → mid.takes_none ≡ old.takes_none → IfErr result (HasCause mid) → IfErr result (HasCause old)
+cause_before : {T : Type 0} (old mid : SlotsState) (result : Result T Fault) → mid.takes_none ≡ old.takes_none
+    → IfErr result (HasCause mid) → IfErr result (HasCause old)
 cause_before old mid (Ok value) same cause = tt
 cause_before old mid (Err causes.Disk) same cause = tt
 cause_before old mid (Err causes.NoMemory) same cause = λ none. cause (same ∙ none)
 
 -- reads behind others of which none failed
-pub reads_then : {T U : Type 0} (old mid new : SlotsState) (before : T) (result : Result U Fault) → ReadsOnly old mid (Ok before) → ReadsOnly mid new result → ReadsOnly old new result
+pub reads_then : {T U : Type 0} (old mid new : SlotsState) (before : T) (result : Result U Fault)
+    → ReadsOnly old mid (Ok before) → ReadsOnly mid new result → ReadsOnly old new result
 reads_then old mid new before result first more = record {
   calls = record {
     count = more.calls.count ∙ first.calls.count;
@@ -49,7 +53,8 @@ reads_then old mid new before result first more = record {
 }
 
 -- the verdict by what was found
-pub checks_found : (p : Parameters) (old new : SlotsState) (found : Result (Option Contents) Fault) → FindsContents p old new found → ChecksSlots p old new (verdict_in (contents_in found))
+pub checks_found : (p : Parameters) (old new : SlotsState) (found : Result (Option Contents) Fault)
+    → FindsContents p old new found → ChecksSlots p old new (verdict_in (contents_in found))
 checks_found p old new (Ok (Some contents)) finds = record {
   reads = reads_answered old new (Some contents) (clean_on contents) finds.reads;
   never = λ no. cc;

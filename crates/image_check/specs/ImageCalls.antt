@@ -61,4 +61,5 @@ pub record ChecksImage (old new : DiskState) (result : Result Verdict Fault) : T
   -- the verdict is that on the disk
   pub verdict : IfOk result (IsVerdict old)
   -- and where an observable disk represents a tree it is that on the tree
-  pub clean : IsObservable old → (t : Tree) (p : Parameters) → Represents old.bytes t p → IfOk result (λ verdict. verdict ≡ clean_of t p)
+  pub clean : IsObservable old → (t : Tree) (p : Parameters) → Represents old.bytes t p
+      → IfOk result (λ verdict. verdict ≡ clean_of t p)

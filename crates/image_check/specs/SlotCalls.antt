@@ -20,13 +20,15 @@ pub record AreFound (slots : List (List ℕ)) (p : Parameters) (contents : Conte
   pub meets : MeetConditions slots p
   pub contents_are : AreContents meets.tree p contents
 
--- what is found in slots: what the tree has whose layout they are, and nothing exactly where they don't meet the conditions
+-- what is found in slots: what the tree has whose layout they are, and nothing exactly where they don't meet the
+-- conditions
 abbrev pub IsFoundIn : List (List ℕ) → Parameters → Option Contents → Type 0
 IsFoundIn slots p (Some contents) = AreFound slots p contents
 IsFoundIn slots p None = MeetConditions slots p → ⊥
 
 -- a search for the tree that slots hold
-pub record FindsContents (p : Parameters) (old new : SlotsState) (result : Result (Option Contents) Fault) : Type 0 where
+pub record FindsContents (p : Parameters) (old new : SlotsState)
+    (result : Result (Option Contents) Fault) : Type 0 where
   pub reads : ReadsOnly old new result
   pub params : IfOk result (λ found. IfSome found (λ contents. contents.params ≡ p))
   pub found : IsObservable old → IfOk result (IsFoundIn old.slots p)
@@ -57,4 +59,5 @@ pub record ChecksSlots (p : Parameters) (old new : SlotsState) (result : Result 
   -- the verdict is that on the slots
   pub verdict : IsObservable old → IfOk result (IsSlotsVerdict old.slots p)
   -- and where they meet the conditions it is that on their tree
-  pub clean : IsObservable old → (meets : MeetConditions old.slots p) → IfOk result (λ verdict. verdict ≡ clean_of meets.tree p)
+  pub clean : IsObservable old → (meets : MeetConditions old.slots p)
+      → IfOk result (λ verdict. verdict ≡ clean_of meets.tree p)

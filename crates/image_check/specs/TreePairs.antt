@@ -19,8 +19,10 @@ pub record BeginNoTree (s : List Pair) (p : Parameters) : Type 0 where
 
 -- just these pairs were taken, by a reader of one version
 abbrev pub TookPairs : TreePairs → List Pair → Type 0
-TookPairs pairs s = (p : Parameters) → p.version ≡ pairs.reader.version → MatchBool pairs.is_refused (BeginNoTree s p) (HasSeen pairs.reader s p)
+TookPairs pairs s = (p : Parameters) → p.version ≡ pairs.reader.version
+    → MatchBool pairs.is_refused (BeginNoTree s p) (HasSeen pairs.reader s p)
 
 -- what the tree holds whose pairs were taken, and nothing exactly where they are no tree's under the reader's version
 abbrev pub TellsTree : TreePairs → Option Counts → Type 0
-TellsTree pairs found = (s : List Pair) (p : Parameters) → p.version ≡ pairs.reader.version → TookPairs pairs s → length s ≤ pairs_limit → MatchOption found (AreOfTree s p → ⊥) (AreCounted s p)
+TellsTree pairs found = (s : List Pair) (p : Parameters) → p.version ≡ pairs.reader.version → TookPairs pairs s
+    → length s ≤ pairs_limit → MatchOption found (AreOfTree s p → ⊥) (AreCounted s p)

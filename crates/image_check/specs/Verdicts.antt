@@ -20,10 +20,11 @@ pub record AreCleanSlots (slots : List (List ℕ)) (p : Parameters) (verdict : V
   pub meets : MeetConditions slots p
   pub verdict_is : verdict ≡ clean_of meets.tree p
 
--- the verdict on slots: clean with the tree whose layout they are, and damaged where they don't meet the conditions. It is
--- never that they are no image
+-- the verdict on slots: clean with the tree whose layout they are, and damaged where they don't meet the conditions.
+-- It is never that they are no image
 abbrev pub IsSlotsVerdict : List (List ℕ) → Parameters → Verdict → Type 0
-IsSlotsVerdict slots p (verdicts.Clean pages dirs files bytes) = AreCleanSlots slots p (verdicts.Clean pages dirs files bytes)
+IsSlotsVerdict slots p (verdicts.Clean pages dirs files bytes) =
+    AreCleanSlots slots p (verdicts.Clean pages dirs files bytes)
 IsSlotsVerdict slots p verdicts.NotImage = ⊥
 IsSlotsVerdict slots p verdicts.Damaged = MeetConditions slots p → ⊥
 

@@ -32,15 +32,18 @@ fn count_by<S: ReadSlots, L: Ledger>(
     requires count { (S.state slots.old).count ≡ (any_draw draw.now).slots }
     requires most { (any_draw draw.now).slots ≤ MAX_SLOTS }
     requires room { (any_draw draw.now).slots ≤ length entries.old }
-    ensures call { FindsOrder (any_draw draw.now) height (S.state slots.old) (S.state slots.new) result }
-    ensures index { IfOk result (λ found. IfSome found (λ used. IsIndexOf (any_digest draw.now) (S.state slots.old) (take used entries.new))) }
+    ensures call { FindsOrder (any_draw draw.now) height (S.state slots.old)
+        (S.state slots.new) result }
+    ensures index { IfOk result
+        (λ found. IfSome found
+        (λ used. IsIndexOf (any_digest draw.now) (S.state slots.old) (take used entries.new))) }
     ensures follows { S.follows slots.old slots.new }
 {
     check_order(slots, draw, height, entries, &mut Steps::<L>::new(blank))
 }
 
-/// How many pages slots hold that are a table in order, with pages of levels below the height; `None` exactly where they
-/// are not. Where it counts pages it leaves an index of them in the first entries, one for each page.
+/// How many pages slots hold that are a table in order, with pages of levels below the height; `None` exactly where
+/// they are not. Where it counts pages it leaves an index of them in the first entries, one for each page.
 ///
 /// There has to be an entry for each slot at least. A fault of the slots is handed on.
 fn count_pages<S: ReadSlots>(
@@ -52,8 +55,11 @@ fn count_pages<S: ReadSlots>(
     requires count { (S.state slots.old).count ≡ (any_draw draw.now).slots }
     requires most { (any_draw draw.now).slots ≤ MAX_SLOTS }
     requires room { (any_draw draw.now).slots ≤ length entries.old }
-    ensures call { FindsOrder (any_draw draw.now) height (S.state slots.old) (S.state slots.new) result }
-    ensures index { IfOk result (λ found. IfSome found (λ used. IsIndexOf (any_digest draw.now) (S.state slots.old) (take used entries.new))) }
+    ensures call { FindsOrder (any_draw draw.now) height (S.state slots.old)
+        (S.state slots.new) result }
+    ensures index { IfOk result
+        (λ found. IfSome found
+        (λ used. IsIndexOf (any_digest draw.now) (S.state slots.old) (take used entries.new))) }
     ensures follows { S.follows slots.old slots.new }
 {
     count_by::<S, Brand>(slots, draw, height, entries, Blank::new(1))

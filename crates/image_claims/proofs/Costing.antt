@@ -1,5 +1,6 @@
 -- How many writes and syncs a call makes.
-use Rattle.std.proofs.Common.{◌≡◌, ◌≢◌, ◌+◌, ◌/◌, ◌<◌, ◌==◌, ◌&&◌, ℕ, true, false, not, List, [], ◌∷◌, slice_index, sym, ap, subst, ◌∙◌, inl, inr, ⊎_elim, arith}
+use Rattle.std.proofs.Common.{◌≡◌, ◌≢◌, ◌+◌, ◌/◌, ◌<◌, ◌==◌, ◌&&◌, ℕ, true, false, not, List, [], ◌∷◌, slice_index, sym}
+use Rattle.std.proofs.Common.{ap, subst, ◌∙◌, inl, inr, ⊎_elim, arith}
 use Rattle.std.proofs.lemmas.Bool.{cases_eq, ne_eqb}
 use Rattle.std.specs.Cmp.Lexicographic.{bytes_decides}
 use Rattle.store_model.specs.Lists.{same_bytes, zeros}
@@ -28,7 +29,8 @@ use Rattle.image_subcommands.specs.Outside.{Outside}
 use Rattle.image_subcommands.specs.ScrubCall.{IsScrub}
 use Rattle.image_subcommands.specs.WipeCall.{IsWipe}
 use Rattle.image_claims.specs.Endings.{IsOneOf}
-use Rattle.image_claims.specs.Costs.{MakesJust, MakesAtMost, Costs, CostsOfFormat, CostsOfWipe, CostsNothing, CostsOfScrub}
+use Rattle.image_claims.specs.Costs.{MakesJust, MakesAtMost, Costs, CostsOfFormat, CostsOfWipe, CostsNothing}
+use Rattle.image_claims.specs.Costs.{CostsOfScrub}
 use Rattle.image_claims.proofs.EndingLemmas.{is_judged}
 
 -- ---- counts
@@ -39,7 +41,8 @@ just writes syncs old new made = record {
   syncs_are = λ low. let is = made.sync_count in omega arith;
 }
 
-pub at_most : (writes syncs : ℕ) (old new : DiskState) → MadeAtMost writes syncs old new → MakesAtMost writes syncs old new
+pub at_most : (writes syncs : ℕ) (old new : DiskState) → MadeAtMost writes syncs old new
+    → MakesAtMost writes syncs old new
 at_most writes syncs old new made = record {
   write_limit = λ low. let is = made.write_limit in omega arith;
   sync_limit = λ low. let is = made.sync_limit in omega arith;
@@ -51,28 +54,37 @@ with_one expected status is = ⊎_elim (λ e. e) (λ none. absurd none) is
 
 -- ---- making, wiping and checking
 
-pub format_costs : {D R W : Type 0} (disk_of : D → DiskState) (p : Parameters) (before : Outside D R W) (after : Outcome D R W) → IsFormat disk_of p before after → IsObservable (disk_of before.disk)
-    → (disk_of before.disk).size ≡ image_len p.slots → slice_index (disk_of before.disk).bytes 0 ≢ first_byte → CostsOfFormat p after.status (disk_of before.disk) (disk_of after.disk)
+pub format_costs : {D R W : Type 0} (disk_of : D → DiskState) (p : Parameters) (before : Outside D R W)
+    (after : Outcome D R W) → IsFormat disk_of p before after → IsObservable (disk_of before.disk)
+    → (disk_of before.disk).size ≡ image_len p.slots → slice_index (disk_of before.disk).bytes 0 ≢ first_byte
+    → CostsOfFormat p after.status (disk_of before.disk) (disk_of after.disk)
 format_costs disk_of p before after is told size other =
     let counts = ((is.observed told).blank (record { size_is = size; other_byte = other })).counts in
     record {
-      just = λ so. just (image_len p.slots / block_len + 1) 2 (disk_of before.disk) (disk_of after.disk) (counts.done (with_one Done after.status so));
+      just = λ so. just (image_len p.slots / block_len + 1) 2 (disk_of before.disk) (disk_of after.disk)
+          (counts.done (with_one Done after.status so));
       limit = at_most (image_len p.slots / block_len + 1) 2 (disk_of before.disk) (disk_of after.disk) counts.limit;
     }
 
-pub wipe_costs : {D R W : Type 0} (disk_of : D → DiskState) (before : Outside D R W) (after : Outcome D R W) → IsWipe disk_of before after → IsObservable (disk_of before.disk) → 0 < (disk_of before.disk).size
+pub wipe_costs : {D R W : Type 0} (disk_of : D → DiskState) (before : Outside D R W) (after : Outcome D R W)
+    → IsWipe disk_of before after → IsObservable (disk_of before.disk) → 0 < (disk_of before.disk).size
     → CostsOfWipe after.status (disk_of before.disk) (disk_of after.disk)
 wipe_costs disk_of before after is told some =
     let counts = (is.wipes told).counts some in
     let writes = 1 + block_count (disk_of before.disk).size in
     record {
-      just = λ so. just writes 2 (disk_of before.disk) (disk_of after.disk) (counts.done (with_one Done after.status so));
+      just = λ so. just writes 2 (disk_of before.disk) (disk_of after.disk)
+          (counts.done (with_one Done after.status so));
       limit = at_most writes 2 (disk_of before.disk) (disk_of after.disk) counts.limit;
     }
 
-pub check_costs : {D R W : Type 0} (disk_of : D → DiskState) (sink_of : W → SinkState) (before : Outside D R W) (after : Outcome D R W) → IsCheck disk_of sink_of before after → IsObservable (disk_of before.disk)
+pub check_costs : {D R W : Type 0} (disk_of : D → DiskState) (sink_of : W → SinkState) (before : Outside D R W)
+    (after : Outcome D R W) → IsCheck disk_of sink_of before after → IsObservable (disk_of before.disk)
     → CostsNothing (disk_of before.disk) (disk_of after.disk)
-check_costs disk_of sink_of before after is told = record { writes = (is.observed told).reads.write_count; syncs = (is.observed told).reads.sync_count }
+check_costs disk_of sink_of before after is told = record {
+  writes = (is.observed told).reads.write_count;
+  syncs = (is.observed told).reads.sync_count;
+}
 
 -- ---- scrubbing
 
@@ -93,37 +105,52 @@ module _ (t : Tree) (p : Parameters) (image : List ℕ) (to : ScrubsTo image t p
   layout_clean i below =
       let valid = to.image_is.names.in_range in
       let long = length-layout t p valid to.tree to.fits in
-      let scrubbed_is = sym (slot_of_scrubbed p.slots (layout t p) i long below) ∙ ap (λ (l : List ℕ). bytes_at l (table_at p.slots i) 4096) (scrubbed-layout t p valid to.tree to.fits) in
-      let recovered_is = sym (slot_of_recovered p.slots (layout t p) i long below) ∙ ap (λ (l : List ℕ). bytes_at l (table_at p.slots i) 4096) (recovered-layout t p valid to.tree to.fits) in
+      let scrubbed_is = sym (slot_of_scrubbed p.slots (layout t p) i long below)
+      ∙ ap (λ (l : List ℕ). bytes_at l (table_at p.slots i) 4096) (scrubbed-layout t p valid to.tree to.fits) in
+      let recovered_is = sym (slot_of_recovered p.slots (layout t p) i long below)
+      ∙ ap (λ (l : List ℕ). bytes_at l (table_at p.slots i) 4096) (recovered-layout t p valid to.tree to.fits) in
       clean_slot (recovered_slot p.slots (layout t p) i) (scrubbed_is ∙ sym recovered_is)
 
   no_writes : opening_writes p.slots image + scrub_writes (recovered_slot p.slots image) p.slots ≡ 0
   no_writes =
       let empty = layout-has-empty-journal t p to.image_is.names.in_range to.tree to.fits in
-      let opening : opening_writes p.slots image ≡ 0 = ap (opening_writes p.slots) same ∙ (opening_of_empty p.slots (layout t p) empty).0 in
-      let scrub : scrub_writes (recovered_slot p.slots image) p.slots ≡ 0 = ap (λ (l : List ℕ). scrub_writes (recovered_slot p.slots l) p.slots) same ∙ scrub_writes-clean (recovered_slot p.slots (layout t p)) p.slots layout_clean in
+      let opening : opening_writes p.slots image ≡ 0 =
+      ap (opening_writes p.slots) same ∙ (opening_of_empty p.slots (layout t p) empty).0 in
+      let scrub : scrub_writes (recovered_slot p.slots image) p.slots ≡ 0 =
+      ap (λ (l : List ℕ). scrub_writes (recovered_slot p.slots l) p.slots) same
+      ∙ scrub_writes-clean (recovered_slot p.slots (layout t p)) p.slots layout_clean in
       omega (arith, opening, scrub)
 
   two_syncs : opening_syncs p.slots image ≡ 2
-  two_syncs = ap (opening_syncs p.slots) same ∙ (opening_of_empty p.slots (layout t p) (layout-has-empty-journal t p to.image_is.names.in_range to.tree to.fits)).1
+  two_syncs = ap (opening_syncs p.slots) same
+      ∙ (opening_of_empty p.slots (layout t p)
+      (layout-has-empty-journal t p to.image_is.names.in_range to.tree to.fits)).1
 
-pub scrub_costs : {D R W : Type 0} (disk_of : D → DiskState) (sink_of : W → SinkState) (before : Outside D R W) (after : Outcome D R W) → IsScrub disk_of sink_of before after → IsObservable (disk_of before.disk)
+pub scrub_costs : {D R W : Type 0} (disk_of : D → DiskState) (sink_of : W → SinkState) (before : Outside D R W)
+    (after : Outcome D R W) → IsScrub disk_of sink_of before after → IsObservable (disk_of before.disk)
     → CostsOfScrub after.status (disk_of before.disk) (disk_of after.disk)
 scrub_costs disk_of sink_of before after is told = record {
   scrub = costs;
   clean = λ t p to same.
-      subst (λ (writes : ℕ). Costs writes 2 (Done ∷ SinkFault ∷ []) after.status (disk_of before.disk) (disk_of after.disk)) (no_writes t p (disk_of before.disk).bytes to same)
-      (subst (λ (syncs : ℕ). Costs (opening_writes p.slots (disk_of before.disk).bytes + scrub_writes (recovered_slot p.slots (disk_of before.disk).bytes) p.slots) syncs (Done ∷ SinkFault ∷ []) after.status (disk_of before.disk) (disk_of after.disk))
+      subst (λ (writes : ℕ). Costs writes 2 (Done ∷ SinkFault ∷ []) after.status (disk_of before.disk)
+      (disk_of after.disk)) (no_writes t p (disk_of before.disk).bytes to same)
+      (subst (λ (syncs : ℕ). Costs (opening_writes p.slots (disk_of before.disk).bytes
+      + scrub_writes (recovered_slot p.slots (disk_of before.disk).bytes) p.slots) syncs
+      (Done ∷ SinkFault ∷ []) after.status (disk_of before.disk) (disk_of after.disk))
       (two_syncs t p (disk_of before.disk).bytes to same) (costs t p to));
 }
   where
     costs : (t : Tree) (p : Parameters) → ScrubsTo (disk_of before.disk).bytes t p
-        → Costs (opening_writes p.slots (disk_of before.disk).bytes + scrub_writes (recovered_slot p.slots (disk_of before.disk).bytes) p.slots) (opening_syncs p.slots (disk_of before.disk).bytes) (Done ∷ SinkFault ∷ []) after.status (disk_of before.disk) (disk_of after.disk)
+        → Costs (opening_writes p.slots (disk_of before.disk).bytes
+        + scrub_writes (recovered_slot p.slots (disk_of before.disk).bytes) p.slots)
+        (opening_syncs p.slots (disk_of before.disk).bytes)
+        (Done ∷ SinkFault ∷ []) after.status (disk_of before.disk) (disk_of after.disk)
     costs t p to =
         let old = disk_of before.disk in
         let scrubs = (is.observed told).scrubs t p to in
         let writes = opening_writes p.slots old.bytes + scrub_writes (recovered_slot p.slots old.bytes) p.slots in
         record {
-          just = λ so. just writes (opening_syncs p.slots old.bytes) old (disk_of after.disk) (scrubs.made (is_judged after.status so));
+          just = λ so. just writes (opening_syncs p.slots old.bytes) old (disk_of after.disk)
+              (scrubs.made (is_judged after.status so));
           limit = at_most writes (opening_syncs p.slots old.bytes) old (disk_of after.disk) scrubs.limit;
         }

@@ -4,21 +4,30 @@ use Rattle.std.specs.List.{AllByRecursion}
 use Rattle.std.proofs.lemmas.Bool.{false≢true, cases_Bool}
 use Rattle.store_model.specs.Words.Request.{Run, Session, Check, Scrub, Wipe, Upgrade, Dump, Load}
 use Rattle.image_subcommands.specs.declared.status.Status.{Status}
-use Rattle.image_subcommands.specs.declared.status.Status.TheVariants.{Done, Usage, SourceFault, SinkFault, DiskFault, TooLong, NotImage, Damaged, NoMemory, AlreadyImage, WrongLength, Unequal, NotEmpty, BadListing, TooFull}
-use Rattle.image_subcommands.specs.Statuses.{row, Subcommand as words, IsStatusOf, IsJudged, IsRefusedImage, IsRefusedDisk, SparesSecond, IsMirrored, IsPastHeader, IsSummed, IsBetweenLines, MayComeFirst, one_if, done_of_work, done_of_verdict, done_of_mirror}
+use Rattle.image_subcommands.specs.declared.status.Status.TheVariants.{Done, Usage, SourceFault, SinkFault, DiskFault}
+use Rattle.image_subcommands.specs.declared.status.Status.TheVariants.{TooLong, NotImage, Damaged, NoMemory}
+use Rattle.image_subcommands.specs.declared.status.Status.TheVariants.{AlreadyImage, WrongLength, Unequal, NotEmpty}
+use Rattle.image_subcommands.specs.declared.status.Status.TheVariants.{BadListing, TooFull}
+use Rattle.image_subcommands.specs.Statuses.{row, Subcommand as words, IsStatusOf, IsJudged, IsRefusedImage}
+use Rattle.image_subcommands.specs.Statuses.{IsRefusedDisk, SparesSecond, IsMirrored, IsPastHeader, IsSummed}
+use Rattle.image_subcommands.specs.Statuses.{IsBetweenLines, MayComeFirst, one_if, done_of_work, done_of_verdict}
+use Rattle.image_subcommands.specs.Statuses.{done_of_mirror}
 use Rattle.image_subcommands.specs.Reports.{IsUnreported}
 use Rattle.script_claims.proofs.RunWays.{ends_as_run}
 use Rattle.image_claims.specs.Endings.{IsOneOf, CountsOne, number, endings, mirror_endings}
 
 -- what holds of each status of a list holds of one of them
-pub one_of : (P : Status → Type 0) (statuses : List Status) → AllByRecursion P statuses → (status : Status) → IsOneOf status statuses → P status
+pub one_of : (P : Status → Type 0) (statuses : List Status) → AllByRecursion P statuses → (status : Status)
+    → IsOneOf status statuses → P status
 one_of P [] all status is = absurd is
-one_of P (first ∷ others) all status is = ⊎_elim (λ e. subst P (sym e) all.0) (λ other. one_of P others all.1 status other) is
+one_of P (first ∷ others) all status is =
+    ⊎_elim (λ e. subst P (sym e) all.0) (λ other. one_of P others all.1 status other) is
 
 -- ---- from a column to a list
 
 -- how `format` may end
-pub format_ends : (status : Status) → IsStatusOf words.Format status → IsOneOf status (Done ∷ DiskFault ∷ NoMemory ∷ AlreadyImage ∷ WrongLength ∷ [])
+pub format_ends : (status : Status) → IsStatusOf words.Format status
+    → IsOneOf status (Done ∷ DiskFault ∷ NoMemory ∷ AlreadyImage ∷ WrongLength ∷ [])
 format_ends Done h = inl refl
 format_ends Usage h = absurd (false≢true h)
 format_ends SourceFault h = absurd (false≢true h)
@@ -166,7 +175,8 @@ load_ends BadListing h = inr (inr (inr (inr (inr (inr (inr (inr (inr (inl refl))
 load_ends TooFull h = inr (inr (inr (inr (inr (inr (inr (inr (inr (inr (inl refl))))))))))
 
 -- how `big` may end
-pub big_ends : (status : Status) → IsStatusOf words.Big status → IsOneOf status (Done ∷ SinkFault ∷ DiskFault ∷ NotImage ∷ Damaged ∷ NoMemory ∷ [])
+pub big_ends : (status : Status) → IsStatusOf words.Big status
+    → IsOneOf status (Done ∷ SinkFault ∷ DiskFault ∷ NotImage ∷ Damaged ∷ NoMemory ∷ [])
 big_ends Done h = inl refl
 big_ends Usage h = absurd (false≢true h)
 big_ends SourceFault h = absurd (false≢true h)
@@ -238,50 +248,74 @@ comes_first BadListing h = absurd (false≢true h)
 comes_first TooFull h = absurd (false≢true h)
 
 -- a call ends as is expected, or for what may come before
-pub reported : (expected status : Status) → (status ≡ expected) ⊎ IsUnreported status → IsOneOf status (expected ∷ SinkFault ∷ DiskFault ∷ NoMemory ∷ [])
+pub reported : (expected status : Status) → (status ≡ expected) ⊎ IsUnreported status
+    → IsOneOf status (expected ∷ SinkFault ∷ DiskFault ∷ NoMemory ∷ [])
 reported expected status (inl e) = inl e
 reported expected status (inr (inl e)) = inr (inl e)
 reported expected status (inr (inr first)) = inr (inr (comes_first status first))
 
 -- or, where nothing is printed
-pub found : (expected status : Status) → (status ≡ expected) ⊎ MayComeFirst status → IsOneOf status (expected ∷ DiskFault ∷ NoMemory ∷ [])
+pub found : (expected status : Status) → (status ≡ expected) ⊎ MayComeFirst status
+    → IsOneOf status (expected ∷ DiskFault ∷ NoMemory ∷ [])
 found expected status (inl e) = inl e
 found expected status (inr first) = inr (comes_first status first)
 
 -- ---- from a list to a column
 
-pub may_end_format : (status : Status) → IsOneOf status (Done ∷ DiskFault ∷ NoMemory ∷ AlreadyImage ∷ WrongLength ∷ []) → IsStatusOf words.Format status
-may_end_format status is = one_of (IsStatusOf words.Format) (Done ∷ DiskFault ∷ NoMemory ∷ AlreadyImage ∷ WrongLength ∷ []) (refl, (refl, (refl, (refl, (refl, tt))))) status is
+pub may_end_format : (status : Status) → IsOneOf status (Done ∷ DiskFault ∷ NoMemory ∷ AlreadyImage ∷ WrongLength ∷ [])
+    → IsStatusOf words.Format status
+may_end_format status is = one_of (IsStatusOf words.Format)
+    (Done ∷ DiskFault ∷ NoMemory ∷ AlreadyImage ∷ WrongLength ∷ []) (refl, (refl, (refl, (refl, (refl, tt))))) status is
 
-pub may_end_run : (status : Status) → IsOneOf status (Done ∷ SourceFault ∷ SinkFault ∷ DiskFault ∷ TooLong ∷ NotImage ∷ Damaged ∷ NoMemory ∷ []) → IsStatusOf words.Run status
-may_end_run status is = one_of (IsStatusOf words.Run) (Done ∷ SourceFault ∷ SinkFault ∷ DiskFault ∷ TooLong ∷ NotImage ∷ Damaged ∷ NoMemory ∷ []) (refl, (refl, (refl, (refl, (refl, (refl, (refl, (refl, tt)))))))) status is
+pub may_end_run : (status : Status)
+    → IsOneOf status (Done ∷ SourceFault ∷ SinkFault ∷ DiskFault ∷ TooLong ∷ NotImage ∷ Damaged ∷ NoMemory ∷ [])
+    → IsStatusOf words.Run status
+may_end_run status is = one_of (IsStatusOf words.Run)
+    (Done ∷ SourceFault ∷ SinkFault ∷ DiskFault ∷ TooLong ∷ NotImage ∷ Damaged ∷ NoMemory ∷ [])
+    (refl, (refl, (refl, (refl, (refl, (refl, (refl, (refl, tt)))))))) status is
 
 pub may_end_session : (status : Status) → IsOneOf status (endings Session) → IsStatusOf words.Session status
-may_end_session status is = one_of (IsStatusOf words.Session) (endings Session) (refl, (refl, (refl, (refl, (refl, (refl, (refl, (refl, tt)))))))) status is
+may_end_session status is = one_of (IsStatusOf words.Session) (endings Session)
+    (refl, (refl, (refl, (refl, (refl, (refl, (refl, (refl, tt)))))))) status is
 
-pub may_end_check : (status : Status) → IsOneOf status (Done ∷ SinkFault ∷ DiskFault ∷ NotImage ∷ Damaged ∷ NoMemory ∷ []) → IsStatusOf words.Check status
-may_end_check status is = one_of (IsStatusOf words.Check) (Done ∷ SinkFault ∷ DiskFault ∷ NotImage ∷ Damaged ∷ NoMemory ∷ []) (refl, (refl, (refl, (refl, (refl, (refl, tt)))))) status is
+pub may_end_check : (status : Status)
+    → IsOneOf status (Done ∷ SinkFault ∷ DiskFault ∷ NotImage ∷ Damaged ∷ NoMemory ∷ []) → IsStatusOf words.Check status
+may_end_check status is = one_of (IsStatusOf words.Check)
+    (Done ∷ SinkFault ∷ DiskFault ∷ NotImage ∷ Damaged ∷ NoMemory ∷ [])
+    (refl, (refl, (refl, (refl, (refl, (refl, tt)))))) status is
 
-pub may_end_scrub : (status : Status) → IsOneOf status (Done ∷ SinkFault ∷ DiskFault ∷ NotImage ∷ Damaged ∷ NoMemory ∷ []) → IsStatusOf words.Scrub status
-may_end_scrub status is = one_of (IsStatusOf words.Scrub) (Done ∷ SinkFault ∷ DiskFault ∷ NotImage ∷ Damaged ∷ NoMemory ∷ []) (refl, (refl, (refl, (refl, (refl, (refl, tt)))))) status is
+pub may_end_scrub : (status : Status)
+    → IsOneOf status (Done ∷ SinkFault ∷ DiskFault ∷ NotImage ∷ Damaged ∷ NoMemory ∷ []) → IsStatusOf words.Scrub status
+may_end_scrub status is = one_of (IsStatusOf words.Scrub)
+    (Done ∷ SinkFault ∷ DiskFault ∷ NotImage ∷ Damaged ∷ NoMemory ∷ [])
+    (refl, (refl, (refl, (refl, (refl, (refl, tt)))))) status is
 
 pub may_end_wipe : (status : Status) → IsOneOf status (Done ∷ DiskFault ∷ NoMemory ∷ []) → IsStatusOf words.Wipe status
-may_end_wipe status is = one_of (IsStatusOf words.Wipe) (Done ∷ DiskFault ∷ NoMemory ∷ []) (refl, (refl, (refl, tt))) status is
+may_end_wipe status is = one_of (IsStatusOf words.Wipe) (Done ∷ DiskFault ∷ NoMemory ∷ [])
+    (refl, (refl, (refl, tt))) status is
 
-pub may_end_upgrade : (status : Status) → IsOneOf status (Done ∷ DiskFault ∷ NotImage ∷ Damaged ∷ NoMemory ∷ []) → IsStatusOf words.Upgrade status
-may_end_upgrade status is = one_of (IsStatusOf words.Upgrade) (Done ∷ DiskFault ∷ NotImage ∷ Damaged ∷ NoMemory ∷ []) (refl, (refl, (refl, (refl, (refl, tt))))) status is
+pub may_end_upgrade : (status : Status) → IsOneOf status (Done ∷ DiskFault ∷ NotImage ∷ Damaged ∷ NoMemory ∷ [])
+    → IsStatusOf words.Upgrade status
+may_end_upgrade status is = one_of (IsStatusOf words.Upgrade) (Done ∷ DiskFault ∷ NotImage ∷ Damaged ∷ NoMemory ∷ [])
+    (refl, (refl, (refl, (refl, (refl, tt))))) status is
 
 pub may_end_dump : (status : Status) → IsOneOf status (endings Dump) → IsStatusOf words.Dump status
-may_end_dump status is = one_of (IsStatusOf words.Dump) (endings Dump) (refl, (refl, (refl, (refl, (refl, (refl, tt)))))) status is
+may_end_dump status is = one_of (IsStatusOf words.Dump) (endings Dump)
+    (refl, (refl, (refl, (refl, (refl, (refl, tt)))))) status is
 
 pub may_end_load : (status : Status) → IsOneOf status (endings Load) → IsStatusOf words.Load status
-may_end_load status is = one_of (IsStatusOf words.Load) (endings Load) (refl, (refl, (refl, (refl, (refl, (refl, (refl, (refl, (refl, (refl, (refl, tt))))))))))) status is
+may_end_load status is = one_of (IsStatusOf words.Load) (endings Load)
+    (refl, (refl, (refl, (refl, (refl, (refl, (refl, (refl, (refl, (refl, (refl, tt))))))))))) status is
 
-pub may_end_big : (status : Status) → IsOneOf status (Done ∷ SinkFault ∷ DiskFault ∷ NotImage ∷ Damaged ∷ NoMemory ∷ []) → IsStatusOf words.Big status
-may_end_big status is = one_of (IsStatusOf words.Big) (Done ∷ SinkFault ∷ DiskFault ∷ NotImage ∷ Damaged ∷ NoMemory ∷ []) (refl, (refl, (refl, (refl, (refl, (refl, tt)))))) status is
+pub may_end_big : (status : Status) → IsOneOf status (Done ∷ SinkFault ∷ DiskFault ∷ NotImage ∷ Damaged ∷ NoMemory ∷ [])
+    → IsStatusOf words.Big status
+may_end_big status is = one_of (IsStatusOf words.Big)
+    (Done ∷ SinkFault ∷ DiskFault ∷ NotImage ∷ Damaged ∷ NoMemory ∷ [])
+    (refl, (refl, (refl, (refl, (refl, (refl, tt)))))) status is
 
 pub may_end_mirror : (status : Status) → IsOneOf status mirror_endings → IsStatusOf words.Mirror status
-may_end_mirror status is = one_of (IsStatusOf words.Mirror) mirror_endings (refl, (refl, (refl, (refl, (refl, (refl, (refl, tt))))))) status is
+may_end_mirror status is = one_of (IsStatusOf words.Mirror) mirror_endings
+    (refl, (refl, (refl, (refl, (refl, (refl, (refl, tt))))))) status is
 
 pub may_come_first : (status : Status) → IsOneOf status (DiskFault ∷ NoMemory ∷ []) → MayComeFirst status
 may_come_first status is = one_of MayComeFirst (DiskFault ∷ NoMemory ∷ []) (refl, (refl, tt)) status is
@@ -293,17 +327,22 @@ pub is_verdict : (status : Status) → IsOneOf status (Done ∷ NotImage ∷ Dam
 is_verdict status is = one_of IsJudged (Done ∷ NotImage ∷ Damaged ∷ []) (refl, (refl, (refl, tt))) status is
 
 pub is_unjudged : (status : Status) → IsOneOf status (DiskFault ∷ NoMemory ∷ []) → IsJudged status → ⊥
-is_unjudged status is = one_of (λ (s : Status). IsJudged s → ⊥) (DiskFault ∷ NoMemory ∷ []) ((λ h. false≢true h), ((λ h. false≢true h), tt)) status is
+is_unjudged status is = one_of (λ (s : Status). IsJudged s → ⊥) (DiskFault ∷ NoMemory ∷ [])
+    ((λ h. false≢true h), ((λ h. false≢true h), tt)) status is
 
 pub is_refused_image : (status : Status) → IsOneOf status (NotImage ∷ Damaged ∷ []) → IsRefusedImage status
 is_refused_image status is = one_of IsRefusedImage (NotImage ∷ Damaged ∷ []) (refl, (refl, tt)) status is
 
-pub is_past_header : (status : Status) → IsOneOf status (Done ∷ SourceFault ∷ SinkFault ∷ TooLong ∷ Damaged ∷ NotEmpty ∷ BadListing ∷ TooFull ∷ []) → IsPastHeader status
-is_past_header status is = one_of IsPastHeader (Done ∷ SourceFault ∷ SinkFault ∷ TooLong ∷ Damaged ∷ NotEmpty ∷ BadListing ∷ TooFull ∷ [])
+pub is_past_header : (status : Status)
+    → IsOneOf status (Done ∷ SourceFault ∷ SinkFault ∷ TooLong ∷ Damaged ∷ NotEmpty ∷ BadListing ∷ TooFull ∷ [])
+    → IsPastHeader status
+is_past_header status is = one_of IsPastHeader
+    (Done ∷ SourceFault ∷ SinkFault ∷ TooLong ∷ Damaged ∷ NotEmpty ∷ BadListing ∷ TooFull ∷ [])
     (refl, (refl, (refl, (refl, (refl, (refl, (refl, (refl, tt)))))))) status is
 
 pub is_refused_and_summed : (status : Status) → IsOneOf status (NotImage ∷ Damaged ∷ []) → IsSummed status → ⊥
-is_refused_and_summed status is = one_of (λ (s : Status). IsSummed s → ⊥) (NotImage ∷ Damaged ∷ []) ((λ h. false≢true h), ((λ h. false≢true h), tt)) status is
+is_refused_and_summed status is = one_of (λ (s : Status). IsSummed s → ⊥) (NotImage ∷ Damaged ∷ [])
+    ((λ h. false≢true h), ((λ h. false≢true h), tt)) status is
 
 pub is_refused_disk : (status : Status) → IsOneOf status (AlreadyImage ∷ WrongLength ∷ []) → IsRefusedDisk status
 is_refused_disk status is = one_of IsRefusedDisk (AlreadyImage ∷ WrongLength ∷ []) (refl, (refl, tt)) status is
@@ -311,11 +350,15 @@ is_refused_disk status is = one_of IsRefusedDisk (AlreadyImage ∷ WrongLength �
 pub is_mirrored : (status : Status) → IsOneOf status (Done ∷ SinkFault ∷ []) → IsMirrored status
 is_mirrored status is = one_of IsMirrored (Done ∷ SinkFault ∷ []) (refl, (refl, tt)) status is
 
-pub spares_second : (status : Status) → IsOneOf status (NotImage ∷ Damaged ∷ Unequal ∷ NoMemory ∷ []) → SparesSecond status
-spares_second status is = one_of SparesSecond (NotImage ∷ Damaged ∷ Unequal ∷ NoMemory ∷ []) (refl, (refl, (refl, (refl, tt)))) status is
+pub spares_second : (status : Status) → IsOneOf status (NotImage ∷ Damaged ∷ Unequal ∷ NoMemory ∷ [])
+    → SparesSecond status
+spares_second status is = one_of SparesSecond (NotImage ∷ Damaged ∷ Unequal ∷ NoMemory ∷ [])
+    (refl, (refl, (refl, (refl, tt)))) status is
 
-pub is_between_lines : (status : Status) → IsOneOf status (Done ∷ SourceFault ∷ SinkFault ∷ TooLong ∷ []) → IsBetweenLines status
-is_between_lines status is = one_of IsBetweenLines (Done ∷ SourceFault ∷ SinkFault ∷ TooLong ∷ []) (refl, (refl, (refl, (refl, tt)))) status is
+pub is_between_lines : (status : Status) → IsOneOf status (Done ∷ SourceFault ∷ SinkFault ∷ TooLong ∷ [])
+    → IsBetweenLines status
+is_between_lines status is = one_of IsBetweenLines (Done ∷ SourceFault ∷ SinkFault ∷ TooLong ∷ [])
+    (refl, (refl, (refl, (refl, tt)))) status is
 
 -- ---- the numbers
 
@@ -339,10 +382,14 @@ numbers TooFull = refl
 -- ---- the counts
 
 no_work : (status : Status) → (row status).is_done ≡ false → IsOneOf status (Done ∷ []) → ⊥
-no_work status lacks so = false≢true (sym lacks ∙ one_of (λ (s : Status). IsTrue (row s).is_done) (Done ∷ []) (refl, tt) status so)
+no_work status lacks so =
+    false≢true (sym lacks ∙ one_of (λ (s : Status). IsTrue (row s).is_done) (Done ∷ []) (refl, tt) status so)
 
-no_verdict : (status : Status) → (row status).is_judged ≡ false → IsOneOf status (Done ∷ SinkFault ∷ NotImage ∷ Damaged ∷ []) → ⊥
-no_verdict status lacks so = false≢true (sym lacks ∙ one_of IsJudged (Done ∷ SinkFault ∷ NotImage ∷ Damaged ∷ []) (refl, (refl, (refl, (refl, tt)))) status so)
+no_verdict : (status : Status) → (row status).is_judged ≡ false
+    → IsOneOf status (Done ∷ SinkFault ∷ NotImage ∷ Damaged ∷ []) → ⊥
+no_verdict status lacks so =
+    false≢true (sym lacks ∙ one_of IsJudged (Done ∷ SinkFault ∷ NotImage ∷ Damaged ∷ [])
+    (refl, (refl, (refl, (refl, tt)))) status so)
 
 -- that of `format`, `wipe`, `upgrade`, `dump` and `load`
 pub counts_work : (status : Status) (done : ℕ) → done ≡ done_of_work status → CountsOne (Done ∷ []) status done
@@ -363,7 +410,8 @@ counts_work BadListing done is = record { one = λ so. absurd (no_work BadListin
 counts_work TooFull done is = record { one = λ so. absurd (no_work TooFull refl so); none = λ other. is }
 
 -- that of `check` and `scrub`
-pub counts_verdict : (status : Status) (done : ℕ) → done ≡ done_of_verdict status → CountsOne (Done ∷ SinkFault ∷ NotImage ∷ Damaged ∷ []) status done
+pub counts_verdict : (status : Status) (done : ℕ) → done ≡ done_of_verdict status
+    → CountsOne (Done ∷ SinkFault ∷ NotImage ∷ Damaged ∷ []) status done
 counts_verdict Done done is = record { one = λ so. is; none = λ other. absurd (other (inl refl)) }
 counts_verdict Usage done is = record { one = λ so. absurd (no_verdict Usage refl so); none = λ other. is }
 counts_verdict SourceFault done is = record { one = λ so. absurd (no_verdict SourceFault refl so); none = λ other. is }
@@ -373,7 +421,10 @@ counts_verdict TooLong done is = record { one = λ so. absurd (no_verdict TooLon
 counts_verdict NotImage done is = record { one = λ so. is; none = λ other. absurd (other (inr (inr (inl refl)))) }
 counts_verdict Damaged done is = record { one = λ so. is; none = λ other. absurd (other (inr (inr (inr (inl refl))))) }
 counts_verdict NoMemory done is = record { one = λ so. absurd (no_verdict NoMemory refl so); none = λ other. is }
-counts_verdict AlreadyImage done is = record { one = λ so. absurd (no_verdict AlreadyImage refl so); none = λ other. is }
+counts_verdict AlreadyImage done is = record {
+  one = λ so. absurd (no_verdict AlreadyImage refl so);
+  none = λ other. is;
+}
 counts_verdict WrongLength done is = record { one = λ so. absurd (no_verdict WrongLength refl so); none = λ other. is }
 counts_verdict Unequal done is = record { one = λ so. absurd (no_verdict Unequal refl so); none = λ other. is }
 counts_verdict NotEmpty done is = record { one = λ so. absurd (no_verdict NotEmpty refl so); none = λ other. is }
@@ -381,8 +432,10 @@ counts_verdict BadListing done is = record { one = λ so. absurd (no_verdict Bad
 counts_verdict TooFull done is = record { one = λ so. absurd (no_verdict TooFull refl so); none = λ other. is }
 
 -- that of a mirror
-pub counts_mirror : (status : Status) (done : ℕ) → done ≡ done_of_mirror status → CountsOne (Done ∷ SinkFault ∷ []) status done
+pub counts_mirror : (status : Status) (done : ℕ) → done ≡ done_of_mirror status
+    → CountsOne (Done ∷ SinkFault ∷ []) status done
 counts_mirror status done is = record {
   one = λ so. is ∙ ap one_if (is_mirrored status so);
-  none = λ other. elim (cases_Bool (row status).is_mirrored) [ inl so ↦ absurd (other (mirrored_ends status so)) | inr not ↦ is ∙ ap one_if not ];
+  none = λ other. elim (cases_Bool (row status).is_mirrored)
+      [ inl so ↦ absurd (other (mirrored_ends status so)) | inr not ↦ is ∙ ap one_if not ];
 }

@@ -8,4 +8,5 @@ use Rattle.disk_model.specs.declared.failing.FailingDisk.{FailingDisk}
 use Rattle.script_claims.specs.Machines.{meaning}
 
 pub meaning_sound : (disk : FailingDisk Memory) → IsObservable (meaning disk) → IsSound (meaning disk)
-meaning_sound disk told = counted_is_sound (memory_state (inner disk)) (faults_here disk) (writes_here disk) (syncs_here disk) (memory_is_sound (inner disk))
+meaning_sound disk told = counted_is_sound (memory_state (inner disk)) (faults_here disk) (writes_here disk)
+    (syncs_here disk) (memory_is_sound (inner disk))

@@ -23,7 +23,8 @@ use Rattle.image_claims.proofs.EndingLemmas.{found}
 none_more : (n : ℕ) → n + 0 ≡ n
 none_more n = omega arith
 
-module _ {D R W : Type 0} (disk_of : D → DiskState) (before : Outside D R W) (after : Outcome D R W) (is : IsUpgrade disk_of before after) (told : IsObservable (disk_of before.disk)) where
+module _ {D R W : Type 0} (disk_of : D → DiskState) (before : Outside D R W) (after : Outcome D R W)
+    (is : IsUpgrade disk_of before after) (told : IsObservable (disk_of before.disk)) where
   abbrev old : DiskState
   old = disk_of before.disk
 
@@ -36,7 +37,11 @@ module _ {D R W : Type 0} (disk_of : D → DiskState) (before : Outside D R W) (
   tree_kept : (t : Tree) (p : Parameters) → Represents old.bytes t p → KeepsVersion t p old new → KeepsTree t p old new
   tree_kept t p represents keeps = record {
     reads = ⊎_elim
-        (λ stands. standing_represents t p new.bytes (record { in_range = represents.names.in_range; tree = represents.tree; fits = represents.fits }) stands.layout_is)
+        (λ stands. standing_represents t p new.bytes (record {
+          in_range = represents.names.in_range;
+          tree = represents.tree;
+          fits = represents.fits;
+        }) stands.layout_is)
         (λ leaves. subst (λ (bytes : List ℕ). Represents bytes t p) (sym leaves.synced.bytes) represents) keeps.stands;
     stands = ⊎_elim (λ stands. inl stands) (λ leaves. inr (as_it_was leaves)) keeps.stands;
     crash = keeps.crash.each;
@@ -46,7 +51,10 @@ module _ {D R W : Type 0} (disk_of : D → DiskState) (before : Outside D R W) (
   upgrade_exact sound =
       let on_disk = is.observed told in
       record {
-        not_image = record { only = λ e. on_disk.not_image.only e told; always = λ none. found NotImage after.status (on_disk.not_image.always (λ observable. none)) };
+        not_image = record {
+          only = λ e. on_disk.not_image.only e told;
+          always = λ none. found NotImage after.status (on_disk.not_image.always (λ observable. none));
+        };
         damaged = record {
           only = λ e. to_broken old told sound (on_disk.damaged.only e);
           always = λ broken. found Damaged after.status (on_disk.damaged.always (from_broken old told sound broken));
@@ -62,11 +70,13 @@ module _ {D R W : Type 0} (disk_of : D → DiskState) (before : Outside D R W) (
       let upgrades = (is.observed told).upgrades t p represents in
       record {
         reads = upgrades.reads;
-        crash = λ may image left. ⊎_elim (λ first. inl (may image first)) (λ either. either) (upgrades.crash.each image left);
+        crash = λ may image left. ⊎_elim (λ first. inl (may image first)) (λ either. either)
+            (upgrades.crash.each image left);
       }
 
   costs_by : (t : Tree) (p : Parameters) (version : Version) → Represents old.bytes t p → p.version ≡ version
-      → Costs (opening_writes p.slots old.bytes + writes_behind version (slots_upgraded p t)) (opening_syncs p.slots old.bytes + syncs_behind version) (Done ∷ []) after.status old new
+      → Costs (opening_writes p.slots old.bytes + writes_behind version (slots_upgraded p t))
+      (opening_syncs p.slots old.bytes + syncs_behind version) (Done ∷ []) after.status old new
   costs_by t p version represents e =
       let counts = ((is.observed told).upgrades t p represents).counts in
       let writes = λ (v : Version). opening_writes p.slots old.bytes + writes_behind v (slots_upgraded p t) in
@@ -83,9 +93,11 @@ module _ {D R W : Type 0} (disk_of : D → DiskState) (before : Outside D R W) (
         let writes = opening_writes p.slots old.bytes in
         let syncs = opening_syncs p.slots old.bytes in
         subst (λ (n : ℕ). Costs n syncs (Done ∷ []) after.status old new) (none_more writes)
-        (subst (λ (n : ℕ). Costs (writes + 0) n (Done ∷ []) after.status old new) (none_more syncs) (costs_by t p Two represents e));
+        (subst (λ (n : ℕ). Costs (writes + 0) n (Done ∷ []) after.status old new) (none_more syncs)
+        (costs_by t p Two represents e));
     no_memory = λ t p represents e.
-        ⊎_elim (λ made. inl (just (opening_writes p.slots old.bytes) (opening_syncs p.slots old.bytes) old new made)) (λ synced. inr synced)
+        ⊎_elim (λ made. inl (just (opening_writes p.slots old.bytes) (opening_syncs p.slots old.bytes) old new made))
+        (λ synced. inr synced)
         (((is.observed told).upgrades t p represents).counts.no_memory e);
     unwritten = λ t p represents. ((is.observed told).upgrades t p represents).quiet;
   }

@@ -5,7 +5,8 @@ use Rattle.image_subcommands.specs.declared.status.Status.TheVariants.{Usage, No
 use Rattle.image_subcommands.specs.Outside.{Outside, CallsNothing}
 use Rattle.image_claims.specs.Endings.{DoesNothing}
 
-pub unserved_words : {D R W : Type 0} (before : Outside D R W) (after : Outcome D R W) → CallsNothing before after → (after.status ≡ Usage) ⊎ (after.status ≡ NoMemory)
+pub unserved_words : {D R W : Type 0} (before : Outside D R W) (after : Outcome D R W) → CallsNothing before after
+    → (after.status ≡ Usage) ⊎ (after.status ≡ NoMemory)
     → DoesNothing after.status after.done before.disk after.disk before.source after.source before.sink after.sink
 unserved_words before after is ends = record {
   ends = ⊎_elim inl (λ e. inr (inl e)) ends;

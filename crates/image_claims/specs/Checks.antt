@@ -13,13 +13,15 @@ use Rattle.tree_reader.specs.Counts.{count_dirs, count_files, count_bytes}
 use Rattle.gate_journal.specs.Headers.{IsImageWith}
 use Rattle.script_lines.specs.SinkState.{SinkState, AppendsPrefix}
 use Rattle.image_subcommands.specs.declared.status.Status.{Status}
-use Rattle.image_subcommands.specs.declared.status.Status.TheVariants.{Done, SourceFault, SinkFault, DiskFault, TooLong, NotImage, Damaged, NoMemory}
+use Rattle.image_subcommands.specs.declared.status.Status.TheVariants.{Done, SourceFault, SinkFault, DiskFault, TooLong}
+use Rattle.image_subcommands.specs.declared.status.Status.TheVariants.{NotImage, Damaged, NoMemory}
 use Rattle.image_claims.specs.Crashes.{MightLeave}
 use Rattle.image_claims.specs.Endings.{IsOneOf, EndsExactly}
 
 -- the line that tells a tree's numbers: its pages, directories without the root, files and bytes
 unfoldable pub clean_line : Tree → Parameters → List ℕ
-clean_line t p = line (codes "clean " ++ decimal (page_count t p) ++ codes " " ++ decimal (count_dirs t) ++ codes " " ++ decimal (count_files t) ++ codes " " ++ decimal (count_bytes t))
+clean_line t p = line (codes "clean " ++ decimal (page_count t p) ++ codes " " ++ decimal (count_dirs t) ++ codes " "
+    ++ decimal (count_files t) ++ codes " " ++ decimal (count_bytes t))
 
 -- the bytes are no image: their header, as recovery would leave it, is that of no image of their length
 abbrev pub IsNone : List ℕ → Type 0
@@ -41,16 +43,20 @@ IsLineOn Holds bytes text =
     ⊎ ((IsNone bytes × (text ≡ line (codes "not-image"))) ⊎ (IsBroken Holds bytes × (text ≡ line (codes "damaged"))))
 
 -- The bytes of a disk were judged by the tree that they hold in this sense, and the line on them was printed.
-pub record JudgesExactly (Holds : Tree → Parameters → Type 0) (bytes : List ℕ) (status : Status) (sink sink_new : SinkState) : Type 0 where
+pub record JudgesExactly (Holds : Tree → Parameters → Type 0) (bytes : List ℕ) (status : Status)
+    (sink sink_new : SinkState) : Type 0 where
   -- it says that they hold a tree, or are no image, or a damaged one, exactly where it is so
   pub clean : EndsExactly Done (IsSome Holds) (SinkFault ∷ DiskFault ∷ NoMemory ∷ []) status
   pub not_image : EndsExactly NotImage (IsNone bytes) (SinkFault ∷ DiskFault ∷ NoMemory ∷ []) status
   pub damaged : EndsExactly Damaged (IsBroken Holds bytes) (SinkFault ∷ DiskFault ∷ NoMemory ∷ []) status
   -- it prints the numbers of the tree
-  pub numbers : status ≡ Done → (t : Tree) (p : Parameters) → Holds t p → sink_new.written ≡ sink.written ++ clean_line t p
+  pub numbers : status ≡ Done → (t : Tree) (p : Parameters) → Holds t p
+      → sink_new.written ≡ sink.written ++ clean_line t p
   -- it prints the line on the bytes, or a front of it, or nothing
-  pub line : IsOneOf status (Done ∷ NotImage ∷ Damaged ∷ []) → (text : List ℕ) × IsLineOn Holds bytes text × (sink_new.written ≡ sink.written ++ text)
-  pub in_part : status ≡ SinkFault → (text : List ℕ) × IsLineOn Holds bytes text × AppendsPrefix sink.written sink_new.written text
+  pub line : IsOneOf status (Done ∷ NotImage ∷ Damaged ∷ [])
+      → (text : List ℕ) × IsLineOn Holds bytes text × (sink_new.written ≡ sink.written ++ text)
+  pub in_part : status ≡ SinkFault → (text : List ℕ) × IsLineOn Holds bytes text
+      × AppendsPrefix sink.written sink_new.written text
   pub silent : IsOneOf status (DiskFault ∷ NoMemory ∷ []) → sink_new ≡ sink
 
 -- A check of the bytes on a disk: it writes nothing to it, and syncs nothing.
@@ -65,11 +71,13 @@ pub record AgreesWithRun (check run : Status) : Type 0 where
   pub damaged : check ≡ Damaged → IsOneOf run (Damaged ∷ DiskFault ∷ NoMemory ∷ [])
   pub damaged_run : run ≡ Damaged → IsOneOf check (Damaged ∷ SinkFault ∷ DiskFault ∷ NoMemory ∷ [])
   pub clean : check ≡ Done → IsOneOf run (Done ∷ SourceFault ∷ SinkFault ∷ DiskFault ∷ TooLong ∷ NoMemory ∷ [])
-  pub clean_run : IsOneOf run (Done ∷ SourceFault ∷ SinkFault ∷ TooLong ∷ []) → IsOneOf check (Done ∷ SinkFault ∷ DiskFault ∷ NoMemory ∷ [])
+  pub clean_run : IsOneOf run (Done ∷ SourceFault ∷ SinkFault ∷ TooLong ∷ [])
+      → IsOneOf check (Done ∷ SinkFault ∷ DiskFault ∷ NoMemory ∷ [])
 
--- The bytes hold one tree, and a run that is done answers the script from it: its replies were written, and the image is
--- that of the tree after its lines.
-pub record AnswersByOneTree (bytes script written : List ℕ) (run : Status) (written_new bytes_new : List ℕ) : Type 0 where
+-- The bytes hold one tree, and a run that is done answers the script from it: its replies were written, and the image
+-- is that of the tree after its lines.
+pub record AnswersByOneTree (bytes script written : List ℕ) (run : Status)
+    (written_new bytes_new : List ℕ) : Type 0 where
   pub tree : Tree
   pub params : Parameters
   pub represents : Represents bytes tree params
@@ -77,9 +85,11 @@ pub record AnswersByOneTree (bytes script written : List ℕ) (run : Status) (wr
   pub replied : run ≡ Done → written_new ≡ written ++ replies_text (replies tree (lines script) params)
   pub left : run ≡ Done → bytes_new ≡ layout (tree_after tree (lines script) params) params
 
--- A run of bytes that hold no tree, behind a check: nothing is written to the disk, one sync is made at most, no line is answered,
--- nothing is taken from the source or written to the sink, and a crash meanwhile leaves what one before might have.
-pub record LeavesAlone {R W : Type 0} (done : ℕ) (old new : DiskState) (source source_new : R) (sink sink_new : W) : Type 0 where
+-- A run of bytes that hold no tree, behind a check: nothing is written to the disk, one sync is made at most, no line
+-- is answered, nothing is taken from the source or written to the sink, and a crash meanwhile leaves what one before
+-- might have.
+pub record LeavesAlone {R W : Type 0} (done : ℕ) (old new : DiskState) (source source_new : R)
+    (sink sink_new : W) : Type 0 where
   pub bytes : new.bytes ≡ old.bytes
   pub writes : new.writes ≡ old.writes
   pub one_sync : old.syncs + 1 < 2 ^ 64 - 1 → new.syncs ≤ old.syncs + 1
@@ -88,7 +98,8 @@ pub record LeavesAlone {R W : Type 0} (done : ℕ) (old new : DiskState) (source
   pub source_is : source_new ≡ source
   pub sink_is : sink_new ≡ sink
 
--- A check of the image of a tree ends clean, unless a call fails or memory runs out, and prints the numbers of the tree.
+-- A check of the image of a tree ends clean, unless a call fails or memory runs out, and prints the numbers of the
+-- tree.
 pub record ChecksTree (t : Tree) (p : Parameters) (status : Status) (written written_new : List ℕ) : Type 0 where
   pub ends : IsOneOf status (Done ∷ SinkFault ∷ DiskFault ∷ NoMemory ∷ [])
   pub numbers : status ≡ Done → written_new ≡ written ++ clean_line t p

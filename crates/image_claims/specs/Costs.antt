@@ -40,9 +40,11 @@ pub record CostsNothing (old new : DiskState) : Type 0 where
   pub writes : new.writes ≡ old.writes
   pub syncs : new.syncs ≡ old.syncs
 
--- A scrub of an image makes the writes and syncs that opening it takes, and a write for each slot that is free then and not
--- zero. So it makes two syncs and no write where the image is that of a tree already.
+-- A scrub of an image makes the writes and syncs that opening it takes, and a write for each slot that is free then
+-- and not zero. So it makes two syncs and no write where the image is that of a tree already.
 pub record CostsOfScrub (status : Status) (old new : DiskState) : Type 0 where
   pub scrub : (t : Tree) (p : Parameters) → ScrubsTo old.bytes t p
-      → Costs (opening_writes p.slots old.bytes + scrub_writes (recovered_slot p.slots old.bytes) p.slots) (opening_syncs p.slots old.bytes) (Done ∷ SinkFault ∷ []) status old new
-  pub clean : (t : Tree) (p : Parameters) → ScrubsTo old.bytes t p → old.bytes ≡ layout t p → Costs 0 2 (Done ∷ SinkFault ∷ []) status old new
+      → Costs (opening_writes p.slots old.bytes + scrub_writes (recovered_slot p.slots old.bytes) p.slots)
+      (opening_syncs p.slots old.bytes) (Done ∷ SinkFault ∷ []) status old new
+  pub clean : (t : Tree) (p : Parameters) → ScrubsTo old.bytes t p → old.bytes ≡ layout t p
+      → Costs 0 2 (Done ∷ SinkFault ∷ []) status old new

@@ -11,8 +11,8 @@ use Rattle.image_claims.specs.Endings.{IsOneOf}
 abbrev pub MightLeave : DiskState → DiskState → List ℕ → Type 0
 MightLeave old new image = new.crash_images_since old.clock image
 
--- An image is made: what is read at the end, whatever failed, is no image or that of the empty tree. So is, where nothing
--- was pending, each image that a crash might have left.
+-- An image is made: what is read at the end, whatever failed, is no image or that of the empty tree. So is, where
+-- nothing was pending, each image that a crash might have left.
 pub record MakesAllOrNone (p : Parameters) (old new : DiskState) : Type 0 where
   pub reads : IsEmptyOrNone p new.bytes
   pub crash : IsDurable old → (image : List ℕ) → MightLeave old new image → IsEmptyOrNone p image

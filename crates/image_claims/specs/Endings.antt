@@ -3,7 +3,10 @@ use Rattle.std.specs.Prelude.{◌≡◌, ◌⊎◌, ℕ, List, [], ◌∷◌}
 use Rattle.store_model.specs.Words.{Request}
 use Rattle.store_model.specs.Words.Request.{Format, Run, Session, Check, Scrub, Wipe, Upgrade, Dump, Load, Big}
 use Rattle.image_subcommands.specs.declared.status.Status.{Status}
-use Rattle.image_subcommands.specs.declared.status.Status.TheVariants.{Done, Usage, SourceFault, SinkFault, DiskFault, TooLong, NotImage, Damaged, NoMemory, AlreadyImage, WrongLength, Unequal, NotEmpty, BadListing, TooFull}
+use Rattle.image_subcommands.specs.declared.status.Status.TheVariants.{Done, Usage, SourceFault, SinkFault, DiskFault}
+use Rattle.image_subcommands.specs.declared.status.Status.TheVariants.{TooLong, NotImage, Damaged, NoMemory}
+use Rattle.image_subcommands.specs.declared.status.Status.TheVariants.{AlreadyImage, WrongLength, Unequal, NotEmpty}
+use Rattle.image_subcommands.specs.declared.status.Status.TheVariants.{BadListing, TooFull}
 
 -- the status is one of these
 abbrev pub IsOneOf : Status → List Status → Type 0
@@ -43,7 +46,8 @@ endings Scrub = Done ∷ SinkFault ∷ DiskFault ∷ NotImage ∷ Damaged ∷ No
 endings Wipe = Done ∷ DiskFault ∷ NoMemory ∷ []
 endings Upgrade = Done ∷ DiskFault ∷ NotImage ∷ Damaged ∷ NoMemory ∷ []
 endings Dump = Done ∷ SinkFault ∷ DiskFault ∷ NotImage ∷ Damaged ∷ NoMemory ∷ []
-endings Load = Done ∷ SourceFault ∷ SinkFault ∷ DiskFault ∷ TooLong ∷ NotImage ∷ Damaged ∷ NoMemory ∷ NotEmpty ∷ BadListing ∷ TooFull ∷ []
+endings Load = Done ∷ SourceFault ∷ SinkFault ∷ DiskFault ∷ TooLong ∷ NotImage ∷ Damaged ∷ NoMemory ∷ NotEmpty
+    ∷ BadListing ∷ TooFull ∷ []
 endings (Big number count) = Done ∷ SinkFault ∷ DiskFault ∷ NotImage ∷ Damaged ∷ NoMemory ∷ []
 
 -- those by which a mirror may end
@@ -69,7 +73,8 @@ CountsWork Load status done = CountsOne (Done ∷ []) status done
 CountsWork (Big number count) status done = Unit {0}
 
 -- Words that are not well formed do nothing: nothing is called, and the call says so, or that memory ran out.
-pub record DoesNothing {D R W : Type 0} (status : Status) (done : ℕ) (disk disk_new : D) (source source_new : R) (sink sink_new : W) : Type 0 where
+pub record DoesNothing {D R W : Type 0} (status : Status) (done : ℕ) (disk disk_new : D) (source source_new : R)
+    (sink sink_new : W) : Type 0 where
   pub ends : IsOneOf status (Usage ∷ NoMemory ∷ [])
   pub done_is : done ≡ 0
   pub disk_is : disk_new ≡ disk

@@ -16,7 +16,9 @@ use Rattle.script_lines.specs.SourceState.{SourceState}
 use Rattle.script_lines.specs.SourceState as sources
 use Rattle.script_lines.specs.SinkState.{SinkState}
 use Rattle.image_subcommands.specs.declared.status.Status.{Status}
-use Rattle.image_subcommands.specs.declared.status.Status.TheVariants.{Done, SourceFault, SinkFault, DiskFault, TooLong, NotImage, Damaged, NoMemory, AlreadyImage, WrongLength, NotEmpty, BadListing, TooFull}
+use Rattle.image_subcommands.specs.declared.status.Status.TheVariants.{Done, SourceFault, SinkFault, DiskFault, TooLong}
+use Rattle.image_subcommands.specs.declared.status.Status.TheVariants.{NotImage, Damaged, NoMemory, AlreadyImage}
+use Rattle.image_subcommands.specs.declared.status.Status.TheVariants.{WrongLength, NotEmpty, BadListing, TooFull}
 use Rattle.tree_listing.specs.Dumps.{IsListing}
 use Rattle.image_claims.specs.Endings.{IsOneOf, EndsExactly}
 
@@ -25,9 +27,10 @@ pub record CountsFault (status fault : Status) (old new : ℕ) : Type 0 where
   pub raised_so : status ≡ fault → new ≡ raised old
   pub same : (status ≡ fault → ⊥) → new ≡ old
 
--- Each failed call is the status, and no other: one call failed at most. Besides, the disk has its size, and each of the three
--- tells its bytes where it did, so that another call can follow.
-pub record FailsByStatus (status : Status) (disk disk_new : DiskState) (source source_new : SourceState) (sink sink_new : SinkState) : Type 0 where
+-- Each failed call is the status, and no other: one call failed at most. Besides, the disk has its size, and each of
+-- the three tells its bytes where it did, so that another call can follow.
+pub record FailsByStatus (status : Status) (disk disk_new : DiskState) (source source_new : SourceState)
+    (sink sink_new : SinkState) : Type 0 where
   pub disk_faults : CountsFault status DiskFault disk.faults disk_new.faults
   pub source_faults : CountsFault status SourceFault source.faults source_new.faults
   pub sink_faults : CountsFault status SinkFault sink.faults sink_new.faults
@@ -40,7 +43,8 @@ pub record FailsByStatus (status : Status) (disk disk_new : DiskState) (source s
   pub syncs : disk.syncs ≤ disk_new.syncs
 
 -- no call of the disk, the source or the sink failed
-pub record NoneFailed (disk disk_new : DiskState) (source source_new : SourceState) (sink sink_new : SinkState) : Type 0 where
+pub record NoneFailed (disk disk_new : DiskState) (source source_new : SourceState)
+    (sink sink_new : SinkState) : Type 0 where
   pub disk_well : Rose disk.faults disk_new.faults → ⊥
   pub source_well : Rose source.faults source_new.faults → ⊥
   pub sink_well : Rose sink.faults sink_new.faults → ⊥
@@ -51,22 +55,28 @@ IsDoneOrLacks status = IsOneOf status (Done ∷ NoMemory ∷ [])
 
 -- a tree whose listing the script is can be loaded: the image is that of the empty tree, and it fits
 abbrev pub CanBeLoaded : DiskState → List ℕ → Type 0
-CanBeLoaded disk script = (p : Parameters) × Represents disk.bytes empty_tree p × ((t : Tree) × IsTreeUnder t p × IsListing t script × (page_count t p ≤ p.slots))
+CanBeLoaded disk script = (p : Parameters) × Represents disk.bytes empty_tree p
+    × ((t : Tree) × IsTreeUnder t p × IsListing t script × (page_count t p ≤ p.slots))
 
--- What is asked for can be done: a disk of the image's length that does not begin as one is formatted, an image that represents
--- a tree is run, checked, upgraded and dumped, and answers a script of sessions, one of which scrubbing leaves a tree's is scrubbed,
--- and into one of the empty tree a listing is loaded. Each disk is wiped.
+-- What is asked for can be done: a disk of the image's length that does not begin as one is formatted, an image that
+-- represents a tree is run, checked, upgraded and dumped, and answers a script of sessions, one of which scrubbing
+-- leaves a tree's is scrubbed, and into one of the empty tree a listing is loaded. Each disk is wiped.
 abbrev pub CanBeDone : Request → DiskState → SourceState → Type 0
-CanBeDone (Format p) disk source = disks.IsObservable disk × (disk.size ≡ image_len p.slots) × (slice_index disk.bytes 0 ≢ first_byte)
-CanBeDone Run disk source = disks.IsObservable disk × sources.IsObservable source × (length source.left ≤ script_limit) × ((t : Tree) × (p : Parameters) × Represents disk.bytes t p)
-CanBeDone Session disk source = disks.IsObservable disk × sources.IsObservable source × (length source.left ≤ script_limit) × ((t : Tree) × (p : Parameters) × Represents disk.bytes t p)
+CanBeDone (Format p) disk source = disks.IsObservable disk × (disk.size ≡ image_len p.slots)
+    × (slice_index disk.bytes 0 ≢ first_byte)
+CanBeDone Run disk source = disks.IsObservable disk × sources.IsObservable source × (length source.left ≤ script_limit)
+    × ((t : Tree) × (p : Parameters) × Represents disk.bytes t p)
+CanBeDone Session disk source = disks.IsObservable disk × sources.IsObservable source
+    × (length source.left ≤ script_limit) × ((t : Tree) × (p : Parameters) × Represents disk.bytes t p)
 CanBeDone Check disk source = disks.IsObservable disk × ((t : Tree) × (p : Parameters) × Represents disk.bytes t p)
 CanBeDone Scrub disk source = disks.IsObservable disk × ((t : Tree) × (p : Parameters) × ScrubsTo disk.bytes t p)
 CanBeDone Wipe disk source = Unit {0}
 CanBeDone Upgrade disk source = disks.IsObservable disk × ((t : Tree) × (p : Parameters) × Represents disk.bytes t p)
 CanBeDone Dump disk source = disks.IsObservable disk × ((t : Tree) × (p : Parameters) × Represents disk.bytes t p)
-CanBeDone Load disk source = disks.IsObservable disk × sources.IsObservable source × (length source.left ≤ script_limit) × CanBeLoaded disk source.left
-CanBeDone (Big number count) disk source = disks.IsObservable disk × ((t : Tree) × (p : Parameters) × Represents disk.bytes t p)
+CanBeDone Load disk source = disks.IsObservable disk × sources.IsObservable source × (length source.left ≤ script_limit)
+    × CanBeLoaded disk source.left
+CanBeDone (Big number count) disk source = disks.IsObservable disk
+    × ((t : Tree) × (p : Parameters) × Represents disk.bytes t p)
 
 -- the count `done` of a run and of sessions that are done: each line was carried out
 abbrev pub CountsLines : Request → Status → ℕ → SourceState → Type 0
@@ -82,12 +92,15 @@ CountsLines Load status done source = Unit {0}
 CountsLines (Big number count) status done source = Unit {0}
 
 -- Where no call failed and memory was there, what can be done is done.
-pub record DoesWhatCanBeDone (request : Request) (status : Status) (done : ℕ) (disk disk_new : DiskState) (source source_new : SourceState) (sink sink_new : SinkState) : Type 0 where
-  pub done_or_lacks : CanBeDone request disk source → NoneFailed disk disk_new source source_new sink sink_new → IsDoneOrLacks status
-  pub lines : CanBeDone request disk source → NoneFailed disk disk_new source source_new sink sink_new → CountsLines request status done source
+pub record DoesWhatCanBeDone (request : Request) (status : Status) (done : ℕ) (disk disk_new : DiskState)
+    (source source_new : SourceState) (sink sink_new : SinkState) : Type 0 where
+  pub done_or_lacks : CanBeDone request disk source
+      → NoneFailed disk disk_new source source_new sink sink_new → IsDoneOrLacks status
+  pub lines : CanBeDone request disk source → NoneFailed disk disk_new source source_new sink sink_new
+      → CountsLines request status done source
 
--- What a format says of the length of a disk: it refuses exactly a length that is not the image's, and finds an image only on one
--- that is.
+-- What a format says of the length of a disk: it refuses exactly a length that is not the image's, and finds an image
+-- only on one that is.
 pub record RefusesLength (p : Parameters) (status : Status) (disk : DiskState) : Type 0 where
   pub wrong_length : EndsExactly WrongLength (disk.size ≢ image_len p.slots) (NoMemory ∷ []) status
   pub already_image : status ≡ AlreadyImage → disk.size ≡ image_len p.slots
@@ -105,12 +118,14 @@ OpensStore Dump = Unit {0}
 OpensStore Load = Unit {0}
 OpensStore (Big number count) = Unit {0}
 
--- What `run`, `session`, `upgrade`, `dump`, `load` and `big` do with a disk that is no image, or a damaged one: no command is carried out, nothing
--- taken and nothing printed, and of a disk that tells its bytes nothing is written. They come past its header only where it has the
--- length of an image.
-pub record RefusesImage {R W : Type 0} (status : Status) (done : ℕ) (disk disk_new : DiskState) (source source_new : R) (sink sink_new : W) : Type 0 where
+-- What `run`, `session`, `upgrade`, `dump`, `load` and `big` do with a disk that is no image, or a damaged one: no
+-- command is carried out, nothing taken and nothing printed, and of a disk that tells its bytes nothing is written.
+-- They come past its header only where it has the length of an image.
+pub record RefusesImage {R W : Type 0} (status : Status) (done : ℕ) (disk disk_new : DiskState) (source source_new : R)
+    (sink sink_new : W) : Type 0 where
   pub done_is : IsOneOf status (NotImage ∷ Damaged ∷ []) → done ≡ 0
   pub source_is : IsOneOf status (NotImage ∷ Damaged ∷ []) → source_new ≡ source
   pub sink_is : IsOneOf status (NotImage ∷ Damaged ∷ []) → sink_new ≡ sink
   pub unwritten : IsOneOf status (NotImage ∷ Damaged ∷ []) → disks.IsObservable disk → IsOnlySynced disk disk_new
-  pub length_is : IsOneOf status (Done ∷ SourceFault ∷ SinkFault ∷ TooLong ∷ Damaged ∷ NotEmpty ∷ BadListing ∷ TooFull ∷ []) → (p : Parameters) × IsParameters p × (disk.size ≡ image_len p.slots)
+  pub length_is : IsOneOf status (Done ∷ SourceFault ∷ SinkFault ∷ TooLong ∷ Damaged ∷ NotEmpty ∷ BadListing ∷ TooFull
+      ∷ []) → (p : Parameters) × IsParameters p × (disk.size ≡ image_len p.slots)

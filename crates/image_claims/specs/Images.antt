@@ -12,12 +12,14 @@ use Rattle.scrub_free.specs.ScrubCalls.{ScrubsTo}
 use Rattle.image_check.specs.Standing.{Stands}
 use Rattle.script_lines.specs.SinkState.{SinkState}
 use Rattle.image_subcommands.specs.declared.status.Status.{Status}
-use Rattle.image_subcommands.specs.declared.status.Status.TheVariants.{Done, SinkFault, DiskFault, NoMemory, AlreadyImage, WrongLength}
+use Rattle.image_subcommands.specs.declared.status.Status.TheVariants.{Done, SinkFault, DiskFault, NoMemory}
+use Rattle.image_subcommands.specs.declared.status.Status.TheVariants.{AlreadyImage, WrongLength}
 use Rattle.image_claims.specs.Endings.{IsOneOf, EndsExactly}
 use Rattle.image_claims.specs.Checks.{JudgesExactly}
 
 -- Nothing was taken from the source or written to the sink; and where memory ran out, the disk was not called either.
-pub record SparesAllElse {D R W : Type 0} (status : Status) (disk disk_new : D) (source source_new : R) (sink sink_new : W) : Type 0 where
+pub record SparesAllElse {D R W : Type 0} (status : Status) (disk disk_new : D) (source source_new : R)
+    (sink sink_new : W) : Type 0 where
   pub source_is : source_new ≡ source
   pub sink_is : sink_new ≡ sink
   pub disk_is : status ≡ NoMemory → disk_new ≡ disk
@@ -42,10 +44,12 @@ pub record MakesImage (p : Parameters) (status : Status) (old new : DiskState) :
 pub record ScrubsExactly (status : Status) (old new : DiskState) (sink sink_new : SinkState) : Type 0 where
   pub judges : JudgesExactly (ScrubsTo old.bytes) old.bytes status sink sink_new
   -- the image of that tree is left, durably, whether or not the line was printed; after a fault too scrubbing leaves it
-  pub scrubbed : IsOneOf status (Done ∷ SinkFault ∷ []) → (t : Tree) (p : Parameters) → ScrubsTo old.bytes t p → Stands new t p
+  pub scrubbed : IsOneOf status (Done ∷ SinkFault ∷ []) → (t : Tree) (p : Parameters)
+      → ScrubsTo old.bytes t p → Stands new t p
   pub still : (t : Tree) (p : Parameters) → ScrubsTo old.bytes t p → ScrubsTo new.bytes t p
   -- an image keeps the tree that it represents
-  pub tree : IsOneOf status (Done ∷ SinkFault ∷ []) → (t : Tree) (p : Parameters) → Represents old.bytes t p → Stands new t p
+  pub tree : IsOneOf status (Done ∷ SinkFault ∷ []) → (t : Tree) (p : Parameters)
+      → Represents old.bytes t p → Stands new t p
   -- where it would leave none nothing is written
   pub untouched : ((t : Tree) (p : Parameters) → ScrubsTo old.bytes t p → ⊥) → ReadsOnly old new
 
@@ -64,4 +68,5 @@ pub record MakesBehindWipe (p : Parameters) (wipe format : Status) (old new : Di
   -- where memory ran out before the wipe, it is made as on the disk that was not wiped
   pub unwiped : wipe ≡ NoMemory → MakesImage p format old new
   -- it is made where no call failed and memory was there
-  pub made : old.size ≡ image_len p.slots → (Rose old.faults new.faults → ⊥) → IsOneOf format (Done ∷ NoMemory ∷ []) ⊎ (wipe ≡ NoMemory)
+  pub made : old.size ≡ image_len p.slots → (Rose old.faults new.faults → ⊥)
+      → IsOneOf format (Done ∷ NoMemory ∷ []) ⊎ (wipe ≡ NoMemory)

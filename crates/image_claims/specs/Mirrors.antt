@@ -14,7 +14,8 @@ use Rattle.image_check.specs.Standing.{Stands}
 use Rattle.mirror_copy.specs.Differing.{slots_differing, rewrite_writes, rewrite_syncs}
 use Rattle.script_lines.specs.SinkState.{SinkState, AppendsPrefix}
 use Rattle.image_subcommands.specs.declared.status.Status.{Status}
-use Rattle.image_subcommands.specs.declared.status.Status.TheVariants.{Done, SinkFault, DiskFault, NotImage, Damaged, NoMemory, Unequal}
+use Rattle.image_subcommands.specs.declared.status.Status.TheVariants.{Done, SinkFault, DiskFault, NotImage, Damaged}
+use Rattle.image_subcommands.specs.declared.status.Status.TheVariants.{NoMemory, Unequal}
 use Rattle.image_claims.specs.Checks.{IsNone, IsBroken, IsSome}
 use Rattle.image_claims.specs.Costs.{Costs}
 use Rattle.image_claims.specs.Crashes.{MightLeave}
@@ -27,16 +28,18 @@ LacksOne first second = IsNone first ⊎ (IsSome (Represents first) × IsNone se
 
 -- the first holds a tree, and the second is an image of other parameters or of the other version
 abbrev pub AreOfOther : List ℕ → List ℕ → Type 0
-AreOfOther first second = (t : Tree) × (p : Parameters) × (q : Parameters) × Represents first t p × IsImageWith second q × (p ≢ q)
+AreOfOther first second = (t : Tree) × (p : Parameters) × (q : Parameters) × Represents first t p
+    × IsImageWith second q × (p ≢ q)
 
 -- the line that tells in how many slots the images differed, each as recovery leaves it
 unfoldable pub mirror_line : Parameters → List ℕ → List ℕ → List ℕ
 mirror_line p first second = line (codes "mirror " ++ decimal (slots_differing p.slots second first))
 
 -- The first image is mirrored onto the second.
-pub record MirrorsImage (status : Status) (done : ℕ) (from from_new to to_new : DiskState) (sink sink_new : SinkState) : Type 0 where
-  -- exactly what is no image is refused as such, exactly a first image of no tree as a damaged one, and exactly images of other
-  -- parameters or versions as that. The first is judged whole before the second
+pub record MirrorsImage (status : Status) (done : ℕ) (from from_new to to_new : DiskState)
+    (sink sink_new : SinkState) : Type 0 where
+  -- exactly what is no image is refused as such, exactly a first image of no tree as a damaged one, and exactly
+  -- images of other parameters or versions as that. The first is judged whole before the second
   pub not_image : EndsExactly NotImage (LacksOne from.bytes to.bytes) (DiskFault ∷ []) status
   pub damaged : EndsExactly Damaged (IsBroken (Represents from.bytes) from.bytes) (DiskFault ∷ []) status
   pub unequal : EndsExactly Unequal (AreOfOther from.bytes to.bytes) (DiskFault ∷ []) status
@@ -44,21 +47,27 @@ pub record MirrorsImage (status : Status) (done : ℕ) (from from_new to to_new 
   pub refused : IsOneOf status (NotImage ∷ Damaged ∷ Unequal ∷ NoMemory ∷ []) → ReadsOnly to to_new
   pub spares_first : ReadsOnly from from_new
   -- so it is where they are no pair, also where a call of it failed, and where a call of the first failed
-  pub apart : ((t : Tree) (p : Parameters) → Represents from.bytes t p → IsImageWith to.bytes p → ⊥) → ReadsOnly to to_new
+  pub apart : ((t : Tree) (p : Parameters) → Represents from.bytes t p → IsImageWith to.bytes p → ⊥)
+      → ReadsOnly to to_new
   pub first_failed : from.faults < from_new.faults → ReadsOnly to to_new
   -- it ends by one of these
   pub ends : IsOneOf status mirror_endings
   -- done, or not printed: the second is the image of the first's tree, durably, whatever it held
-  pub represents : IsOneOf status (Done ∷ SinkFault ∷ []) → (t : Tree) × (p : Parameters) × Represents from.bytes t p × IsImageWith to.bytes p
-  pub equal : IsOneOf status (Done ∷ SinkFault ∷ []) → (t : Tree) (p : Parameters) → Represents from.bytes t p → (to_new.bytes ≡ recovered p.slots from.bytes) × Stands to_new t p
+  pub represents : IsOneOf status (Done ∷ SinkFault ∷ [])
+      → (t : Tree) × (p : Parameters) × Represents from.bytes t p × IsImageWith to.bytes p
+  pub equal : IsOneOf status (Done ∷ SinkFault ∷ []) → (t : Tree) (p : Parameters) → Represents from.bytes t p
+      → (to_new.bytes ≡ recovered p.slots from.bytes) × Stands to_new t p
   pub one : IsOneOf status (Done ∷ SinkFault ∷ []) → done ≡ 1
   pub none : (IsOneOf status (Done ∷ SinkFault ∷ []) → ⊥) → done ≡ 0
   -- what is printed
-  pub line : status ≡ Done → (t : Tree) (p : Parameters) → Represents from.bytes t p → sink_new.written ≡ sink.written ++ mirror_line p from.bytes to.bytes
-  pub in_part : status ≡ SinkFault → (t : Tree) (p : Parameters) → Represents from.bytes t p → AppendsPrefix sink.written sink_new.written (mirror_line p from.bytes to.bytes)
+  pub line : status ≡ Done → (t : Tree) (p : Parameters) → Represents from.bytes t p
+      → sink_new.written ≡ sink.written ++ mirror_line p from.bytes to.bytes
+  pub in_part : status ≡ SinkFault → (t : Tree) (p : Parameters) → Represents from.bytes t p
+      → AppendsPrefix sink.written sink_new.written (mirror_line p from.bytes to.bytes)
   pub silent : (IsOneOf status (Done ∷ SinkFault ∷ []) → ⊥) → sink_new ≡ sink
 
--- the count of the one disk is one more where the call ended by a fault of a disk, and else as it was; that of the other is as it was
+-- the count of the one disk is one more where the call ended by a fault of a disk, and else as it was; that of the
+-- other is as it was
 pub record FailsAlone (status : Status) (one one_new other other_new : ℕ) : Type 0 where
   pub counts : CountsFault status DiskFault one one_new
   pub spared : other_new ≡ other
@@ -69,12 +78,15 @@ pub record NoneOfPairFailed (from from_new to to_new : DiskState) (sink sink_new
   pub to_well : Rose to.faults to_new.faults → ⊥
   pub sink_well : Rose sink.faults sink_new.faults → ⊥
 
--- Each failed call of a mirror is the status, and no other: one of the one disk, of the other or of the sink. Where none failed and
--- memory was there, it is done for a first image of a tree and a second one of the same parameters.
-pub record MirrorFails (status : Status) (from from_new to to_new : DiskState) (sink sink_new : SinkState) : Type 0 where
-  pub disk_faults : FailsAlone status from.faults from_new.faults to.faults to_new.faults ⊎ FailsAlone status to.faults to_new.faults from.faults from_new.faults
+-- Each failed call of a mirror is the status, and no other: one of the one disk, of the other or of the sink. Where
+-- none failed and memory was there, it is done for a first image of a tree and a second one of the same parameters.
+pub record MirrorFails (status : Status) (from from_new to to_new : DiskState)
+    (sink sink_new : SinkState) : Type 0 where
+  pub disk_faults : FailsAlone status from.faults from_new.faults to.faults to_new.faults
+      ⊎ FailsAlone status to.faults to_new.faults from.faults from_new.faults
   pub sink_faults : CountsFault status SinkFault sink.faults sink_new.faults
-  pub done_or_lacks : (t : Tree) (p : Parameters) → Represents from.bytes t p → IsImageWith to.bytes p → NoneOfPairFailed from from_new to to_new sink sink_new → IsDoneOrLacks status
+  pub done_or_lacks : (t : Tree) (p : Parameters) → Represents from.bytes t p → IsImageWith to.bytes p
+      → NoneOfPairFailed from from_new to to_new sink sink_new → IsDoneOrLacks status
 
 -- the image is as long as the second and recovers to what that does
 pub record RecoversAlike (p : Parameters) (second image : List ℕ) : Type 0 where
@@ -85,8 +97,9 @@ pub record RecoversAlike (p : Parameters) (second image : List ℕ) : Type 0 whe
 abbrev pub IsOldOrFirst : Tree → Parameters → List ℕ → List ℕ → Type 0
 IsOldOrFirst t p second image = RecoversAlike p second image ⊎ Represents image t p
 
--- The image of a tree is mirrored onto one of the same parameters. What is read at the end, whatever failed, recovers to what the
--- second did, or is an image of the tree. So is each image that a crash might have left, but for those that one before might have.
+-- The image of a tree is mirrored onto one of the same parameters. What is read at the end, whatever failed, recovers
+-- to what the second did, or is an image of the tree. So is each image that a crash might have left, but for those
+-- that one before might have.
 pub record MirrorsAllOrNone (t : Tree) (p : Parameters) (old new : DiskState) : Type 0 where
   pub reads : IsOldOrFirst t p old.bytes new.bytes
   pub crash : (image : List ℕ) → MightLeave old new image → old.crash_images image ⊎ IsOldOrFirst t p old.bytes image
@@ -94,11 +107,16 @@ pub record MirrorsAllOrNone (t : Tree) (p : Parameters) (old new : DiskState) : 
 -- and where the second was an image of a tree, each of them is an image of that tree or of the first's
 pub record MirrorsEither (t u : Tree) (p : Parameters) (old new : DiskState) : Type 0 where
   pub reads : Represents new.bytes u p ⊎ Represents new.bytes t p
-  pub crash : MayLeaveOnly old (λ image. Represents image u p) → (image : List ℕ) → MightLeave old new image → Represents image u p ⊎ Represents image t p
+  pub crash : MayLeaveOnly old (λ image. Represents image u p) → (image : List ℕ) → MightLeave old new image
+      → Represents image u p ⊎ Represents image t p
 
--- A mirror makes the writes and syncs of recovering the second image and those of a commit of the slots that differ. So with an empty
--- journal it makes 5d + 2 writes and 6 syncs where d slots differ, and where none does no write and one sync.
+-- A mirror makes the writes and syncs of recovering the second image and those of a commit of the slots that differ.
+-- So with an empty journal it makes 5d + 2 writes and 6 syncs where d slots differ, and where none does no write and
+-- one sync.
 pub record CostsOfMirror (p : Parameters) (first : List ℕ) (status : Status) (old new : DiskState) : Type 0 where
-  pub mirror : Costs (rewrite_writes p.slots old.bytes (slots_differing p.slots old.bytes first)) (rewrite_syncs p.slots old.bytes (slots_differing p.slots old.bytes first)) (Done ∷ SinkFault ∷ []) status old new
-  pub some : HasEmptyJournal p.slots old.bytes → 0 < slots_differing p.slots old.bytes first → Costs (5 * slots_differing p.slots old.bytes first + 2) 6 (Done ∷ SinkFault ∷ []) status old new
-  pub none : HasEmptyJournal p.slots old.bytes → slots_differing p.slots old.bytes first ≡ 0 → Costs 0 1 (Done ∷ SinkFault ∷ []) status old new
+  pub mirror : Costs (rewrite_writes p.slots old.bytes (slots_differing p.slots old.bytes first))
+      (rewrite_syncs p.slots old.bytes (slots_differing p.slots old.bytes first)) (Done ∷ SinkFault ∷ []) status old new
+  pub some : HasEmptyJournal p.slots old.bytes → 0 < slots_differing p.slots old.bytes first
+      → Costs (5 * slots_differing p.slots old.bytes first + 2) 6 (Done ∷ SinkFault ∷ []) status old new
+  pub none : HasEmptyJournal p.slots old.bytes → slots_differing p.slots old.bytes first ≡ 0
+      → Costs 0 1 (Done ∷ SinkFault ∷ []) status old new

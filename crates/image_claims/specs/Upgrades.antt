@@ -40,23 +40,31 @@ pub record UpgradesImage (status : Status) (old new : DiskState) : Type 0 where
   pub damaged : EndsExactly Damaged (IsBroken (Represents old.bytes) old.bytes) (DiskFault ∷ NoMemory ∷ []) status
   -- it is done for an image of a tree alone, and leaves that of the same tree, of version 2, durably
   pub represents : status ≡ Done → (t : Tree) × (p : Parameters) × Represents old.bytes t p
-  pub upgraded : status ≡ Done → (t : Tree) (p : Parameters) → Represents old.bytes t p → Stands new t (with_version p Two)
+  pub upgraded : status ≡ Done → (t : Tree) (p : Parameters) → Represents old.bytes t p
+      → Stands new t (with_version p Two)
   -- where memory ran out the tree is there under the version that it had, behind a crash too
   pub kept : status ≡ NoMemory → (t : Tree) (p : Parameters) → Represents old.bytes t p → KeepsTree t p old new
   -- what represents no tree is not written, and a crash leaves what one before might have
   pub untouched : ((t : Tree) (p : Parameters) → Represents old.bytes t p → ⊥) → StaysAsItWas old new
 
--- An image of a tree is upgraded: what is read at the end, whatever failed, is of the tree, under the one version or the other. So
--- is, where this was so of each image that a crash before might have left, each image that a crash might have left.
+-- An image of a tree is upgraded: what is read at the end, whatever failed, is of the tree, under the one version or
+-- the other. So is, where this was so of each image that a crash before might have left, each image that a crash
+-- might have left.
 pub record UpgradesAllOrNone (t : Tree) (p : Parameters) (old new : DiskState) : Type 0 where
   pub reads : IsOfEither t p new.bytes
-  pub crash : MayLeaveOnly old (λ image. Represents image t p) → (image : List ℕ) → MightLeave old new image → IsOfEither t p image
+  pub crash : MayLeaveOnly old (λ image. Represents image t p) → (image : List ℕ)
+      → MightLeave old new image → IsOfEither t p image
 
--- An upgrade makes the writes and syncs that opening the image takes, and for one of version 1, with d slots that differ between the
--- images of the two versions, 5d + 5 writes and 5 syncs. So one of version 2, with nothing to be recovered, is not written.
+-- An upgrade makes the writes and syncs that opening the image takes, and for one of version 1, with d slots that
+-- differ between the images of the two versions, 5d + 5 writes and 5 syncs. So one of version 2, with nothing to be
+-- recovered, is not written.
 pub record CostsOfUpgrade (status : Status) (old new : DiskState) : Type 0 where
   pub one : (t : Tree) (p : Parameters) → Represents old.bytes t p → p.version ≡ One
-      → Costs (opening_writes p.slots old.bytes + (5 * slots_upgraded p t + 5)) (opening_syncs p.slots old.bytes + 5) (Done ∷ []) status old new
-  pub two : (t : Tree) (p : Parameters) → Represents old.bytes t p → p.version ≡ Two → Costs (opening_writes p.slots old.bytes) (opening_syncs p.slots old.bytes) (Done ∷ []) status old new
-  pub no_memory : (t : Tree) (p : Parameters) → Represents old.bytes t p → status ≡ NoMemory → MakesJust (opening_writes p.slots old.bytes) (opening_syncs p.slots old.bytes) old new ⊎ IsOnlySynced old new
-  pub unwritten : (t : Tree) (p : Parameters) → Represents old.bytes t p → p.version ≡ Two → HasEmptyJournal p.slots old.bytes → (status ≡ DiskFault → ⊥) → IsUnwritten old new
+      → Costs (opening_writes p.slots old.bytes + (5 * slots_upgraded p t + 5)) (opening_syncs p.slots old.bytes + 5)
+      (Done ∷ []) status old new
+  pub two : (t : Tree) (p : Parameters) → Represents old.bytes t p → p.version ≡ Two
+      → Costs (opening_writes p.slots old.bytes) (opening_syncs p.slots old.bytes) (Done ∷ []) status old new
+  pub no_memory : (t : Tree) (p : Parameters) → Represents old.bytes t p → status ≡ NoMemory
+      → MakesJust (opening_writes p.slots old.bytes) (opening_syncs p.slots old.bytes) old new ⊎ IsOnlySynced old new
+  pub unwritten : (t : Tree) (p : Parameters) → Represents old.bytes t p → p.version ≡ Two
+      → HasEmptyJournal p.slots old.bytes → (status ≡ DiskFault → ⊥) → IsUnwritten old new

@@ -11,7 +11,8 @@ use store_top::Words;
 
 /// Carries out the words on the machine, whatever its disk holds, what is pending on it and which of its calls fail.
 pub fn call(alloc: Global, words: &Words, machine: Machine) -> Ended
-    ensures { Serves meaning source_state sink_state words.now (outside_of machine.disk machine.source machine.sink) result }
+    ensures { Serves meaning source_state sink_state
+        words.now (outside_of machine.disk machine.source machine.sink) result }
 {
     let Machine { disk, source, sink } = machine;
     serve(alloc, words, disk, source, sink)

@@ -22,11 +22,17 @@ pub type Mirrored = PairOutcome<Disk, Disk, MemSink>;
 /// was pending on it did so too. Each failed call is the status, and no other; where none failed and memory was there,
 /// what can be mirrored is.
 pub fn mirror(alloc: Global, from: Disk, to: Disk, sink: MemSink) -> Mirrored
-    ensures mirrors { MirrorsImage result.status result.done (meaning from) (meaning result.from) (meaning to) (meaning result.to) (sink_state sink) (sink_state result.sink) }
-    ensures fails { MirrorFails result.status (meaning from) (meaning result.from) (meaning to) (meaning result.to) (sink_state sink) (sink_state result.sink) }
-    ensures cut_short { (t : Tree) (p : Parameters) → Represents (meaning from).bytes t p → IsImageWith (meaning to).bytes p → MirrorsAllOrNone t p (meaning to) (meaning result.to) }
-    ensures either { (t u : Tree) (p : Parameters) → Represents (meaning from).bytes t p → Represents (meaning to).bytes u p → MirrorsEither t u p (meaning to) (meaning result.to) }
-    ensures costs { (p : Parameters) → IsImageWith (meaning from).bytes p → IsImageWith (meaning to).bytes p → CostsOfMirror p (meaning from).bytes result.status (meaning to) (meaning result.to) }
+    ensures mirrors { MirrorsImage result.status result.done (meaning from) (meaning result.from)
+        (meaning to) (meaning result.to) (sink_state sink) (sink_state result.sink) }
+    ensures fails { MirrorFails result.status (meaning from) (meaning result.from) (meaning to)
+        (meaning result.to) (sink_state sink) (sink_state result.sink) }
+    ensures cut_short { (t : Tree) (p : Parameters) → Represents (meaning from).bytes t p
+        → IsImageWith (meaning to).bytes p → MirrorsAllOrNone t p (meaning to) (meaning result.to) }
+    ensures either { (t u : Tree) (p : Parameters) → Represents (meaning from).bytes t p
+        → Represents (meaning to).bytes u p → MirrorsEither t u p (meaning to) (meaning result.to) }
+    ensures costs { (p : Parameters) → IsImageWith (meaning from).bytes p
+        → IsImageWith (meaning to).bytes p
+        → CostsOfMirror p (meaning from).bytes result.status (meaning to) (meaning result.to) }
 {
     top_pair(alloc, from, to, sink)
 }

@@ -13,11 +13,11 @@ use script_lines::{MemSink, MemSource};
 use std::alloc::Global;
 use store_top::{Status, Words};
 
-/// An image is made, any number of scripts are run on it, one behind another, and it is checked. The check says `clean`, with the
-/// numbers of the tree after all their lines, and prints that into this sink.
+/// An image is made, any number of scripts are run on it, one behind another, and it is checked. The check says
+/// `clean`, with the numbers of the tree after all their lines, and prints that into this sink.
 ///
-/// `Err` has the first call before the check that did not end with 0: the format refused the disk, a call of the disk, the
-/// sink or a script failed, a script was too long, or memory ran out. No call is made behind it.
+/// `Err` has the first call before the check that did not end with 0: the format refused the disk, a call of the
+/// disk, the sink or a script failed, a script was too long, or memory ran out. No call is made behind it.
 pub fn check_behind_runs(
     alloc: Global,
     format: &Words,
@@ -25,10 +25,13 @@ pub fn check_behind_runs(
     making: Making,
     line: MemSink,
 ) -> Result<Ended, Ended>
-    ensures checks { (p : Parameters) → request_of format.now ≡ Some (Format p) → request_of check.now ≡ Some Check →
-        IfOk result (λ ended. ChecksTree (made_tree making.scripts.items p) p ended.status line.written ended.sink.written) }
+    ensures checks { (p : Parameters) → request_of format.now ≡ Some (Format p)
+        → request_of check.now ≡ Some Check →
+        IfOk result (λ ended. ChecksTree (made_tree making.scripts.items p) p
+        ended.status line.written ended.sink.written) }
     ensures ended { IfErr result (λ ended. ended.status ≢ Status.Done) }
-    ensures stops { (p : Parameters) → request_of format.now ≡ Some (Format p) → IfErr result (StopsMaking p making.disk making.scripts.items making.sink) }
+    ensures stops { (p : Parameters) → request_of format.now ≡ Some (Format p)
+        → IfErr result (StopsMaking p making.disk making.scripts.items making.sink) }
 {
     let disk = make_image(alloc, format, making)?;
     let source = MemSource::new(Vec::new(alloc), Vec::new(alloc), Vec::new(alloc));

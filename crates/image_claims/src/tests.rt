@@ -1,9 +1,9 @@
-//! Each sentence is called once with ample memory, on the smallest images: one slot, one level, a seed of zeros. What they come to
-//! was worked out by hand from the format.
+//! Each sentence is called once with ample memory, on the smallest images: one slot, one level, a seed of zeros. What
+//! they come to was worked out by hand from the format.
 //!
-//! Such an image has five blocks: header, gate, marks, the shadow and the slot. That of the tree with the one directory `/a` has in
-//! its slot, which begins at 16,384: 1 for a page, at 131 that it has one cell, at 132 the name, at 257 that the value has one byte,
-//! at 258 that it is a directory.
+//! Such an image has five blocks: header, gate, marks, the shadow and the slot. That of the tree with the one
+//! directory `/a` has in its slot, which begins at 16,384: 1 for a page, at 131 that it has one cell, at 132 the
+//! name, at 257 that the value has one byte, at 258 that it is a directory.
 
 use crate::{
     Judged, Remade, Scrubs, call_anything, call_counted, call_unserved, check, check_at_cost,

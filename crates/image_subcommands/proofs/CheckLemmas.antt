@@ -21,11 +21,13 @@ use Rattle.image_check.specs.Standing.{RepresentsSome}
 use Rattle.image_subcommands.specs.Reports.{verdict_status, PrintsVerdict, PrintsReport}
 use Rattle.image_subcommands.specs.ScrubCall.{ScrubsToSome, ScrubsTree, IsScrub}
 use Rattle.image_subcommands.specs.Statuses.{Subcommand as words, IsStatusOf, IsJudged, done_of_verdict}
-use Rattle.image_subcommands.proofs.ReportLemmas.{is_no_verdict, ends_in, is_reported, is_silent, Found, ends_by_verdict}
+use Rattle.image_subcommands.proofs.ReportLemmas.{is_no_verdict, ends_in, is_reported, is_silent, Found}
+use Rattle.image_subcommands.proofs.ReportLemmas.{ends_by_verdict}
 
 -- ---- memory
 
-wants_memory : (fault : Fault) → fault_status fault ≡ statuses.NoMemory → IsErrOf {T = Verdict} {E = Fault} (Err fault) causes.NoMemory
+wants_memory : (fault : Fault) → fault_status fault ≡ statuses.NoMemory
+    → IsErrOf {T = Verdict} {E = Fault} (Err fault) causes.NoMemory
 wants_memory causes.Disk e = absurd (cc)
 wants_memory causes.NoMemory e = refl
 
@@ -38,18 +40,31 @@ no_sink_fault : statuses.SinkFault ≡ statuses.NoMemory → ⊥
 no_sink_fault e = cc
 
 -- printing takes no memory
-printed_in_memory : (verdict : Verdict) (old new : SinkState) (status : Status) → PrintsVerdict verdict old new status → status ≡ statuses.NoMemory → ⊥
-printed_in_memory verdict old new status prints e = ⊎_elim (λ s. no_sink_fault (sym s ∙ e)) (λ s. no_verdict verdict (sym s ∙ e)) prints.status_is
+printed_in_memory : (verdict : Verdict) (old new : SinkState) (status : Status) → PrintsVerdict verdict old new status
+    → status ≡ statuses.NoMemory → ⊥
+printed_in_memory verdict old new status prints e =
+    ⊎_elim (λ s. no_sink_fault (sym s ∙ e)) (λ s. no_verdict verdict (sym s ∙ e)) prints.status_is
 
 -- nor does what came to a verdict without
-pub reported_in_memory : {W : Type 0} (sink_of : W → SinkState) (result : Result Verdict Fault) (sink sink_new : W) (status : Status)
-    → (IsErrOf result causes.NoMemory → ⊥) → PrintsReport sink_of result sink sink_new status → status ≡ statuses.NoMemory → ⊥
-reported_in_memory sink_of (Ok verdict) sink sink_new status memory prints e = printed_in_memory verdict (sink_of sink) (sink_of sink_new) status prints e
-reported_in_memory sink_of (Err fault) sink sink_new status memory prints e = memory (wants_memory fault (sym prints.status_is ∙ e))
+pub reported_in_memory : {W : Type 0} (sink_of : W → SinkState) (result : Result Verdict Fault)
+    (sink sink_new : W) (status : Status)
+    → (IsErrOf result causes.NoMemory → ⊥) → PrintsReport sink_of result sink sink_new status
+    → status ≡ statuses.NoMemory → ⊥
+reported_in_memory sink_of (Ok verdict) sink sink_new status memory prints e =
+    printed_in_memory verdict (sink_of sink) (sink_of sink_new) status prints e
+reported_in_memory sink_of (Err fault) sink sink_new status memory prints e =
+    memory (wants_memory fault (sym prints.status_is ∙ e))
 
 -- what reads keep of a disk
-pub read_keeps : {T : Type 0} (old new : DiskState) (result : Result T Fault) → ReadsDisk old new result → KeepsDisk old new
-read_keeps old new result reads = record { size = reads.size; observable = reads.observable; faults = reads.rise; writes = reads.writes; syncs = reads.syncs }
+pub read_keeps : {T : Type 0} (old new : DiskState) (result : Result T Fault)
+    → ReadsDisk old new result → KeepsDisk old new
+read_keeps old new result reads = record {
+  size = reads.size;
+  observable = reads.observable;
+  faults = reads.rise;
+  writes = reads.writes;
+  syncs = reads.syncs;
+}
 
 -- ---- check
 
@@ -64,16 +79,24 @@ judges_check verdicts.Damaged = refl
 
 module _ (old : DiskState) (observable : IsObservable old) where
   found_by_check : (verdict : Verdict) → IsVerdict old verdict → Found (RepresentsSome old) (IsDamaged old) old verdict
-  found_by_check (verdicts.Clean pages dirs files bytes) is = record { tree = (is.image observable).tree; params = is.params; represents = (is.image observable).represents }
+  found_by_check (verdicts.Clean pages dirs files bytes) is = record {
+    tree = (is.image observable).tree;
+    params = is.params;
+    represents = (is.image observable).represents;
+  }
   found_by_check verdicts.NotImage is = is
   found_by_check verdicts.Damaged is = is
 
-  found_by_check_of : (result : Result Verdict Fault) → IfOk result (IsVerdict old) → IfOk result (Found (RepresentsSome old) (IsDamaged old) old)
+  found_by_check_of : (result : Result Verdict Fault) → IfOk result (IsVerdict old)
+      → IfOk result (Found (RepresentsSome old) (IsDamaged old) old)
   found_by_check_of (Ok verdict) is = found_by_check verdict is
   found_by_check_of (Err fault) is = is
 
   image_represents : RepresentsSome old → IsNoImage old → ⊥
-  image_represents some none = none observable some.params (record { names = some.represents.names; length_is = some.represents.length_is })
+  image_represents some none = none observable some.params (record {
+    names = some.represents.names;
+    length_is = some.represents.length_is;
+  })
 
   whole_represents : RepresentsSome old → IsDamaged old → ⊥
   whole_represents some broken = broken.no_tree observable some.tree some.params some.represents
@@ -82,16 +105,26 @@ module _ (old : DiskState) (observable : IsObservable old) where
   image_damaged none broken = none observable broken.params (broken.has_parameters.named observable)
 
 module _ {D R W : Type 0} (disk_of : D → DiskState) (sink_of : W → SinkState) (before : Outside D R W) where
-  pub check_ends : (disk : D) (result : Result Verdict Fault) (sink : W) (status : Status) → ChecksImage (disk_of before.disk) (disk_of disk) result → PrintsReport sink_of result before.sink sink status
-      → IsCheck disk_of sink_of before (record { status = status; done = done_of_verdict status; disk = disk; source = before.source; sink = sink })
+  pub check_ends : (disk : D) (result : Result Verdict Fault) (sink : W) (status : Status)
+      → ChecksImage (disk_of before.disk) (disk_of disk) result → PrintsReport sink_of result before.sink sink status
+      → IsCheck disk_of sink_of before (record {
+        status = status;
+        done = done_of_verdict status;
+        disk = disk;
+        source = before.source;
+        sink = sink;
+      })
   check_ends disk result sink status checks prints =
       let old = disk_of before.disk in
       record {
-        ends = ends_in sink_of (IsStatusOf words.Check) fails_check refl judges_check result before.sink sink status prints;
+        ends = ends_in sink_of (IsStatusOf words.Check) fails_check refl judges_check result
+            before.sink sink status prints;
         done = refl;
         observed = λ observable. record {
-          ends = ends_by_verdict (RepresentsSome old) (IsDamaged old) old (disk_of disk) (image_represents old observable) (whole_represents old observable) (image_damaged old observable)
-              sink_of result before.sink sink status (found_by_check_of old observable result checks.verdict) checks.reads.faults prints;
+          ends = ends_by_verdict (RepresentsSome old) (IsDamaged old) old (disk_of disk)
+              (image_represents old observable) (whole_represents old observable) (image_damaged old observable)
+              sink_of result before.sink sink status (found_by_check_of old observable result checks.verdict)
+              checks.reads.faults prints;
           reads = checks.reads.reads observable;
         };
         source = refl;
@@ -112,12 +145,18 @@ judges_scrub verdicts.NotImage = refl
 judges_scrub verdicts.Damaged = refl
 
 module _ (old : DiskState) (observable : IsObservable old) where
-  found_by_scrub : (verdict : Verdict) → IsScrubVerdict old verdict → Found (ScrubsToSome old) (IsBeyondScrubbing old) old verdict
-  found_by_scrub (verdicts.Clean pages dirs files bytes) is = record { tree = (is.scrubs observable).tree; params = is.params; scrubs = (is.scrubs observable).scrubs }
+  found_by_scrub : (verdict : Verdict) → IsScrubVerdict old verdict
+      → Found (ScrubsToSome old) (IsBeyondScrubbing old) old verdict
+  found_by_scrub (verdicts.Clean pages dirs files bytes) is = record {
+    tree = (is.scrubs observable).tree;
+    params = is.params;
+    scrubs = (is.scrubs observable).scrubs;
+  }
   found_by_scrub verdicts.NotImage is = is
   found_by_scrub verdicts.Damaged is = is
 
-  found_by_scrub_of : (result : Result Verdict Fault) → IfOk result (IsScrubVerdict old) → IfOk result (Found (ScrubsToSome old) (IsBeyondScrubbing old) old)
+  found_by_scrub_of : (result : Result Verdict Fault) → IfOk result (IsScrubVerdict old)
+      → IfOk result (Found (ScrubsToSome old) (IsBeyondScrubbing old) old)
   found_by_scrub_of (Ok verdict) is = found_by_scrub verdict is
   found_by_scrub_of (Err fault) is = is
 
@@ -131,8 +170,10 @@ module _ (old : DiskState) (observable : IsObservable old) where
   image_beyond none broken = none observable broken.params (broken.has_parameters.named observable)
 
 -- what a scrub does to an image of which it leaves the layout of a tree
-scrubs_tree : {W : Type 0} (sink_of : W → SinkState) (t : Tree) (p : Parameters) (old new : DiskState) (result : Result Verdict Fault) (sink sink_new : W) (status : Status)
-    → IsObservable old → Scrubs old new result → PrintsReport sink_of result sink sink_new status → ScrubsTo old.bytes t p → ScrubsTree t p status old new
+scrubs_tree : {W : Type 0} (sink_of : W → SinkState) (t : Tree) (p : Parameters) (old new : DiskState)
+    (result : Result Verdict Fault) (sink sink_new : W) (status : Status)
+    → IsObservable old → Scrubs old new result → PrintsReport sink_of result sink sink_new status
+    → ScrubsTo old.bytes t p → ScrubsTree t p status old new
 scrubs_tree sink_of t p old new (Ok verdict) sink sink_new status observable call prints to =
     let scrubs = call.scrubs observable t p to in
     let counts = call.counts observable t p to in
@@ -155,17 +196,28 @@ scrubs_tree sink_of t p old new (Err fault) sink sink_new status observable call
     }
 
 module _ {D R W : Type 0} (disk_of : D → DiskState) (sink_of : W → SinkState) (before : Outside D R W) where
-  pub scrub_ends : (disk : D) (result : Result Verdict Fault) (sink : W) (status : Status) → Scrubs (disk_of before.disk) (disk_of disk) result → PrintsReport sink_of result before.sink sink status
-      → IsScrub disk_of sink_of before (record { status = status; done = done_of_verdict status; disk = disk; source = before.source; sink = sink })
+  pub scrub_ends : (disk : D) (result : Result Verdict Fault) (sink : W) (status : Status)
+      → Scrubs (disk_of before.disk) (disk_of disk) result → PrintsReport sink_of result before.sink sink status
+      → IsScrub disk_of sink_of before (record {
+        status = status;
+        done = done_of_verdict status;
+        disk = disk;
+        source = before.source;
+        sink = sink;
+      })
   scrub_ends disk result sink status call prints =
       let old = disk_of before.disk in
       record {
-        ends = ends_in sink_of (IsStatusOf words.Scrub) fails_scrub refl judges_scrub result before.sink sink status prints;
+        ends = ends_in sink_of (IsStatusOf words.Scrub) fails_scrub refl judges_scrub result
+            before.sink sink status prints;
         done = refl;
         observed = λ observable. record {
-          ends = ends_by_verdict (ScrubsToSome old) (IsBeyondScrubbing old) old (disk_of disk) (image_scrubs old observable) (whole_scrubs old observable) (image_beyond old observable)
-              sink_of result before.sink sink status (found_by_scrub_of old observable result call.verdict) call.faults prints;
-          scrubs = λ t p to. scrubs_tree sink_of t p old (disk_of disk) result before.sink sink status observable call prints to;
+          ends = ends_by_verdict (ScrubsToSome old) (IsBeyondScrubbing old) old (disk_of disk)
+              (image_scrubs old observable) (whole_scrubs old observable) (image_beyond old observable)
+              sink_of result before.sink sink status
+              (found_by_scrub_of old observable result call.verdict) call.faults prints;
+          scrubs = λ t p to. scrubs_tree sink_of t p old
+              (disk_of disk) result before.sink sink status observable call prints to;
           nothing = call.only_read observable;
         };
         source = refl;

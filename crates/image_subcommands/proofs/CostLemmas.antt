@@ -14,26 +14,37 @@ use Rattle.image_subcommands.specs.WipeCall.{CountsWipe}
 
 -- ---- formatting
 
-pub counts_format : (p : Parameters) (old new : DiskState) (result : Result (Unit {0}) JournalFault) → Makes (image_len p.slots / block_len + 1) 2 old new result → CountsFormat (status_of journal_status result) p old new
+pub counts_format : (p : Parameters) (old new : DiskState) (result : Result (Unit {0}) JournalFault)
+    → Makes (image_len p.slots / block_len + 1) 2 old new result
+    → CountsFormat (status_of journal_status result) p old new
 counts_format p old new result makes = record {
   done = λ e. made result makes e;
   limit = record { write_limit = omega (arith, makes.write_limit); sync_limit = omega (arith, makes.sync_limit) };
 }
   where
-    made : (result : Result (Unit {0}) JournalFault) → Makes (image_len p.slots / block_len + 1) 2 old new result → status_of journal_status result ≡ statuses.Done → Made (image_len p.slots / block_len + 1) 2 old new
-    made (Ok value) makes e = record { write_count = omega (arith, makes.write_count); sync_count = omega (arith, makes.sync_count) }
+    made : (result : Result (Unit {0}) JournalFault) → Makes (image_len p.slots / block_len + 1) 2 old new result
+        → status_of journal_status result ≡ statuses.Done → Made (image_len p.slots / block_len + 1) 2 old new
+    made (Ok value) makes e = record {
+      write_count = omega (arith, makes.write_count);
+      sync_count = omega (arith, makes.sync_count);
+    }
     made (Err journal.Disk) makes e = absurd (cc)
     made (Err journal.AlreadyImage) makes e = absurd (cc)
     made (Err journal.WrongLength) makes e = absurd (cc)
 
 -- ---- wiping
 
-pub counts_wipe : (old new : DiskState) (result : Result (Unit {0}) DiskFault) → Makes (1 + block_count old.size) 2 old new result → CountsWipe (status_of disk_status result) old new
+pub counts_wipe : (old new : DiskState) (result : Result (Unit {0}) DiskFault)
+    → Makes (1 + block_count old.size) 2 old new result → CountsWipe (status_of disk_status result) old new
 counts_wipe old new result makes = record {
   done = λ e. made result makes e;
   limit = record { write_limit = omega (arith, makes.write_limit); sync_limit = omega (arith, makes.sync_limit) };
 }
   where
-    made : (result : Result (Unit {0}) DiskFault) → Makes (1 + block_count old.size) 2 old new result → status_of disk_status result ≡ statuses.Done → Made (1 + block_count old.size) 2 old new
-    made (Ok value) makes e = record { write_count = omega (arith, makes.write_count); sync_count = omega (arith, makes.sync_count) }
+    made : (result : Result (Unit {0}) DiskFault) → Makes (1 + block_count old.size) 2 old new result
+        → status_of disk_status result ≡ statuses.Done → Made (1 + block_count old.size) 2 old new
+    made (Ok value) makes e = record {
+      write_count = omega (arith, makes.write_count);
+      sync_count = omega (arith, makes.sync_count);
+    }
     made (Err fault) makes e = absurd (cc)

@@ -16,22 +16,96 @@ use Rattle.image_subcommands.specs.Endings.{status_of, journal_status, disk_stat
 use Rattle.image_subcommands.specs.Outside.{KeepsOutside}
 
 -- the image could not be opened
-pub outside_refused : (fault : AttachFault) (old new : DiskState) (source : SourceState) (sink : SinkState) → KeepsDisk old new → new.faults ≡ attach_faults_by fault old.faults → KeepsOutside (attach_status fault) old new source source sink sink
-outside_refused faults.Disk old new source sink kept count = record { disk_kept = kept; source_observable = refl; sink_observable = refl; disk_faults = count; source_faults = refl; sink_faults = refl }
-outside_refused faults.NoMemory old new source sink kept count = record { disk_kept = kept; source_observable = refl; sink_observable = refl; disk_faults = count; source_faults = refl; sink_faults = refl }
-outside_refused faults.NotImage old new source sink kept count = record { disk_kept = kept; source_observable = refl; sink_observable = refl; disk_faults = count; source_faults = refl; sink_faults = refl }
-outside_refused faults.Damaged old new source sink kept count = record { disk_kept = kept; source_observable = refl; sink_observable = refl; disk_faults = count; source_faults = refl; sink_faults = refl }
+pub outside_refused : (fault : AttachFault) (old new : DiskState) (source : SourceState) (sink : SinkState)
+    → KeepsDisk old new → new.faults ≡ attach_faults_by fault old.faults
+    → KeepsOutside (attach_status fault) old new source source sink sink
+outside_refused faults.Disk old new source sink kept count = record {
+  disk_kept = kept;
+  source_observable = refl;
+  sink_observable = refl;
+  disk_faults = count;
+  source_faults = refl;
+  sink_faults = refl;
+}
+outside_refused faults.NoMemory old new source sink kept count = record {
+  disk_kept = kept;
+  source_observable = refl;
+  sink_observable = refl;
+  disk_faults = count;
+  source_faults = refl;
+  sink_faults = refl;
+}
+outside_refused faults.NotImage old new source sink kept count = record {
+  disk_kept = kept;
+  source_observable = refl;
+  sink_observable = refl;
+  disk_faults = count;
+  source_faults = refl;
+  sink_faults = refl;
+}
+outside_refused faults.Damaged old new source sink kept count = record {
+  disk_kept = kept;
+  source_observable = refl;
+  sink_observable = refl;
+  disk_faults = count;
+  source_faults = refl;
+  sink_faults = refl;
+}
 
 -- a disk was formatted, or not
-pub outside_format : (result : Result (Unit {0}) JournalFault) (old new : DiskState) (source : SourceState) (sink : SinkState) → KeepsDisk old new → new.faults ≡ faults_after_format old.faults result
+pub outside_format : (result : Result (Unit {0}) JournalFault) (old new : DiskState) (source : SourceState)
+    (sink : SinkState) → KeepsDisk old new → new.faults ≡ faults_after_format old.faults result
     → KeepsOutside (status_of journal_status result) old new source source sink sink
-outside_format (Ok value) old new source sink kept count = record { disk_kept = kept; source_observable = refl; sink_observable = refl; disk_faults = count; source_faults = refl; sink_faults = refl }
-outside_format (Err journal.Disk) old new source sink kept count = record { disk_kept = kept; source_observable = refl; sink_observable = refl; disk_faults = count; source_faults = refl; sink_faults = refl }
-outside_format (Err journal.AlreadyImage) old new source sink kept count = record { disk_kept = kept; source_observable = refl; sink_observable = refl; disk_faults = count; source_faults = refl; sink_faults = refl }
-outside_format (Err journal.WrongLength) old new source sink kept count = record { disk_kept = kept; source_observable = refl; sink_observable = refl; disk_faults = count; source_faults = refl; sink_faults = refl }
+outside_format (Ok value) old new source sink kept count = record {
+  disk_kept = kept;
+  source_observable = refl;
+  sink_observable = refl;
+  disk_faults = count;
+  source_faults = refl;
+  sink_faults = refl;
+}
+outside_format (Err journal.Disk) old new source sink kept count = record {
+  disk_kept = kept;
+  source_observable = refl;
+  sink_observable = refl;
+  disk_faults = count;
+  source_faults = refl;
+  sink_faults = refl;
+}
+outside_format (Err journal.AlreadyImage) old new source sink kept count = record {
+  disk_kept = kept;
+  source_observable = refl;
+  sink_observable = refl;
+  disk_faults = count;
+  source_faults = refl;
+  sink_faults = refl;
+}
+outside_format (Err journal.WrongLength) old new source sink kept count = record {
+  disk_kept = kept;
+  source_observable = refl;
+  sink_observable = refl;
+  disk_faults = count;
+  source_faults = refl;
+  sink_faults = refl;
+}
 
 -- a disk was wiped, or not
-pub outside_wipe : (result : Result (Unit {0}) DiskFault) (old new : DiskState) (source : SourceState) (sink : SinkState) → KeepsDisk old new → new.faults ≡ faults_after old.faults result
+pub outside_wipe : (result : Result (Unit {0}) DiskFault) (old new : DiskState) (source : SourceState)
+    (sink : SinkState) → KeepsDisk old new → new.faults ≡ faults_after old.faults result
     → KeepsOutside (status_of disk_status result) old new source source sink sink
-outside_wipe (Ok value) old new source sink kept count = record { disk_kept = kept; source_observable = refl; sink_observable = refl; disk_faults = count; source_faults = refl; sink_faults = refl }
-outside_wipe (Err fault) old new source sink kept count = record { disk_kept = kept; source_observable = refl; sink_observable = refl; disk_faults = count; source_faults = refl; sink_faults = refl }
+outside_wipe (Ok value) old new source sink kept count = record {
+  disk_kept = kept;
+  source_observable = refl;
+  sink_observable = refl;
+  disk_faults = count;
+  source_faults = refl;
+  sink_faults = refl;
+}
+outside_wipe (Err fault) old new source sink kept count = record {
+  disk_kept = kept;
+  source_observable = refl;
+  sink_observable = refl;
+  disk_faults = count;
+  source_faults = refl;
+  sink_faults = refl;
+}

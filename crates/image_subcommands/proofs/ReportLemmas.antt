@@ -35,15 +35,19 @@ is_no_verdict causes.Disk h = false≢true h
 is_no_verdict causes.NoMemory h = false≢true h
 
 -- what holds of each status of a fault, of a sink's fault and of each verdict holds of that by which a call ends
-pub ends_in : {W : Type 0} (sink_of : W → SinkState) (P : Status → Type 0) → ((fault : Fault) → P (fault_status fault)) → P statuses.SinkFault → ((verdict : Verdict) → P (verdict_status verdict))
-    → (result : Result Verdict Fault) (old new : W) (status : Status) → PrintsReport sink_of result old new status → P status
-ends_in sink_of P fails sinks judges (Ok verdict) old new status prints = ⊎_elim (λ e. subst P (sym e) sinks) (λ e. subst P (sym e) (judges verdict)) prints.status_is
+pub ends_in : {W : Type 0} (sink_of : W → SinkState) (P : Status → Type 0) → ((fault : Fault) → P (fault_status fault))
+    → P statuses.SinkFault → ((verdict : Verdict) → P (verdict_status verdict))
+    → (result : Result Verdict Fault) (old new : W) (status : Status)
+    → PrintsReport sink_of result old new status → P status
+ends_in sink_of P fails sinks judges (Ok verdict) old new status prints =
+    ⊎_elim (λ e. subst P (sym e) sinks) (λ e. subst P (sym e) (judges verdict)) prints.status_is
 ends_in sink_of P fails sinks judges (Err fault) old new status prints = subst P (sym prints.status_is) (fails fault)
 
 -- ---- the report
 
 module _ {W : Type 0} (sink_of : W → SinkState) (P : Verdict → Type 0) where
-  pub is_reported : (result : Result Verdict Fault) (old new : W) (status : Status) → IfOk result P → PrintsReport sink_of result old new status → IsJudged status → Reports P status (sink_of old) (sink_of new)
+  pub is_reported : (result : Result Verdict Fault) (old new : W) (status : Status) → IfOk result P
+      → PrintsReport sink_of result old new status → IsJudged status → Reports P status (sink_of old) (sink_of new)
   is_reported (Ok verdict) old new status judged prints reported = record {
     verdict = verdict;
     verdict_is = judged;
@@ -51,10 +55,14 @@ module _ {W : Type 0} (sink_of : W → SinkState) (P : Verdict → Type 0) where
     whole = λ observable other. prints.whole observable (⊎_elim (λ e. absurd (other e)) (λ e. e) prints.status_is);
     in_part = prints.in_part;
   }
-  is_reported (Err fault) old new status judged prints reported = absurd (is_no_verdict fault (subst IsJudged prints.status_is reported))
+  is_reported (Err fault) old new status judged prints reported =
+      absurd (is_no_verdict fault (subst IsJudged prints.status_is reported))
 
-pub is_silent : {W : Type 0} (sink_of : W → SinkState) (result : Result Verdict Fault) (old new : W) (status : Status) → PrintsReport sink_of result old new status → (IsJudged status → ⊥) → new ≡ old
-is_silent sink_of (Ok verdict) old new status prints silent = absurd (silent (⊎_elim (λ e. subst IsJudged (sym e) refl) (λ e. subst IsJudged (sym e) (is_verdict verdict)) prints.status_is))
+pub is_silent : {W : Type 0} (sink_of : W → SinkState) (result : Result Verdict Fault) (old new : W) (status : Status)
+    → PrintsReport sink_of result old new status → (IsJudged status → ⊥) → new ≡ old
+is_silent sink_of (Ok verdict) old new status prints silent =
+    absurd (silent (⊎_elim (λ e. subst IsJudged (sym e) refl)
+    (λ e. subst IsJudged (sym e) (is_verdict verdict)) prints.status_is))
 is_silent sink_of (Err fault) old new status prints silent = prints.same
 
 -- ---- how the call ends
@@ -67,7 +75,9 @@ Found IsWhole IsBroken old verdicts.Damaged = IsBroken
 
 module _ (IsWhole IsBroken : Type 0) (old new : DiskState) where
   -- by a fault before the verdict
-  ends_by_fault : (fault : Fault) (sink sink_new : SinkState) → new.faults ≡ disk_faults_after {T = Verdict} old.faults (Err fault) → EndsByVerdict IsWhole IsBroken (fault_status fault) old new sink sink_new
+  ends_by_fault : (fault : Fault) (sink sink_new : SinkState)
+      → new.faults ≡ disk_faults_after {T = Verdict} old.faults (Err fault)
+      → EndsByVerdict IsWhole IsBroken (fault_status fault) old new sink sink_new
   ends_by_fault causes.Disk sink sink_new faults = record {
     clean = record { only = λ e. absurd (cc); always = λ whole. inr (inr refl) };
     not_image = record { only = λ e. absurd (cc); always = λ none. inr (inr refl) };
@@ -82,7 +92,8 @@ module _ (IsWhole IsBroken : Type 0) (old new : DiskState) where
   }
 
   -- by one of the sink
-  ends_by_sink : (sink sink_new : SinkState) → sink_new.faults ≡ raised sink.faults → EndsByVerdict IsWhole IsBroken statuses.SinkFault old new sink sink_new
+  ends_by_sink : (sink sink_new : SinkState) → sink_new.faults ≡ raised sink.faults
+      → EndsByVerdict IsWhole IsBroken statuses.SinkFault old new sink sink_new
   ends_by_sink sink sink_new faults = record {
     clean = record { only = λ e. absurd (cc); always = λ whole. inr (inl refl) };
     not_image = record { only = λ e. absurd (cc); always = λ none. inr (inl refl) };
@@ -90,9 +101,11 @@ module _ (IsWhole IsBroken : Type 0) (old new : DiskState) where
     complete = λ whole disk_well sink_well. absurd (sink_well (rose sink.faults sink_new.faults faults));
   }
 
-  module _ (whole_image : IsWhole → IsNoImage old → ⊥) (whole_broken : IsWhole → IsBroken → ⊥) (image_broken : IsNoImage old → IsBroken → ⊥) where
+  module _ (whole_image : IsWhole → IsNoImage old → ⊥) (whole_broken : IsWhole → IsBroken → ⊥)
+      (image_broken : IsNoImage old → IsBroken → ⊥) where
     -- by the verdict
-    ends_so : (verdict : Verdict) (sink sink_new : SinkState) → Found IsWhole IsBroken old verdict → EndsByVerdict IsWhole IsBroken (verdict_status verdict) old new sink sink_new
+    ends_so : (verdict : Verdict) (sink sink_new : SinkState) → Found IsWhole IsBroken old verdict
+        → EndsByVerdict IsWhole IsBroken (verdict_status verdict) old new sink sink_new
     ends_so (verdicts.Clean pages dirs files bytes) sink sink_new found = record {
       clean = record { only = λ e. found; always = λ whole. inl refl };
       not_image = record { only = λ e. absurd (cc); always = λ none. absurd (whole_image found none) };
@@ -112,12 +125,16 @@ module _ (IsWhole IsBroken : Type 0) (old new : DiskState) where
       complete = λ whole disk_well sink_well. absurd (whole_broken whole found);
     }
 
-    pub ends_by_verdict : {W : Type 0} (sink_of : W → SinkState) (result : Result Verdict Fault) (sink sink_new : W) (status : Status) → IfOk result (Found IsWhole IsBroken old) → new.faults ≡ disk_faults_after old.faults result
-        → PrintsReport sink_of result sink sink_new status → EndsByVerdict IsWhole IsBroken status old new (sink_of sink) (sink_of sink_new)
+    pub ends_by_verdict : {W : Type 0} (sink_of : W → SinkState) (result : Result Verdict Fault) (sink sink_new : W)
+        (status : Status) → IfOk result (Found IsWhole IsBroken old) → new.faults ≡ disk_faults_after old.faults result
+        → PrintsReport sink_of result sink sink_new status
+        → EndsByVerdict IsWhole IsBroken status old new (sink_of sink) (sink_of sink_new)
     ends_by_verdict sink_of (Ok verdict) sink sink_new status found faults prints =
         let P : Status → Type 0 = λ s. EndsByVerdict IsWhole IsBroken s old new (sink_of sink) (sink_of sink_new) in
         ⊎_elim
-        (λ e. subst P (sym e) (ends_by_sink (sink_of sink) (sink_of sink_new) (subst (λ (s : Status). (sink_of sink_new).faults ≡ sink_faults_by s (sink_of sink).faults) e prints.faults)))
+        (λ e. subst P (sym e) (ends_by_sink (sink_of sink) (sink_of sink_new)
+        (subst (λ (s : Status). (sink_of sink_new).faults ≡ sink_faults_by s (sink_of sink).faults) e
+        prints.faults)))
         (λ e. subst P (sym e) (ends_so verdict (sink_of sink) (sink_of sink_new) found)) prints.status_is
     ends_by_verdict sink_of (Err fault) sink sink_new status found faults prints =
         let P : Status → Type 0 = λ s. EndsByVerdict IsWhole IsBroken s old new (sink_of sink) (sink_of sink_new) in
@@ -136,19 +153,42 @@ spares_source verdicts.NotImage count = refl
 spares_source verdicts.Damaged count = refl
 
 -- a disk was judged, and the report printed, or not
-pub outside_report : {W : Type 0} (sink_of : W → SinkState) (result : Result Verdict Fault) (old new : DiskState) (source : SourceState) (sink sink_new : W) (status : Status)
-    → KeepsDisk old new → new.faults ≡ disk_faults_after old.faults result → PrintsReport sink_of result sink sink_new status → KeepsOutside status old new source source (sink_of sink) (sink_of sink_new)
+pub outside_report : {W : Type 0} (sink_of : W → SinkState) (result : Result Verdict Fault) (old new : DiskState)
+    (source : SourceState) (sink sink_new : W) (status : Status)
+    → KeepsDisk old new → new.faults ≡ disk_faults_after old.faults result
+    → PrintsReport sink_of result sink sink_new status
+    → KeepsOutside status old new source source (sink_of sink) (sink_of sink_new)
 outside_report sink_of (Ok verdict) old new source sink sink_new status kept faults prints = record {
   disk_kept = kept;
   source_observable = refl;
   sink_observable = prints.observable;
-  disk_faults = faults ∙ ⊎_elim (λ e. ap (λ (s : Status). disk_faults_by s old.faults) (sym e)) (λ e. sym (spares_disk verdict old.faults) ∙ ap (λ (s : Status). disk_faults_by s old.faults) (sym e)) prints.status_is;
-  source_faults = ⊎_elim (λ e. ap (λ (s : Status). source_faults_by s source.faults) (sym e)) (λ e. sym (spares_source verdict source.faults) ∙ ap (λ (s : Status). source_faults_by s source.faults) (sym e)) prints.status_is;
+  disk_faults = faults ∙ ⊎_elim (λ e. ap (λ (s : Status). disk_faults_by s old.faults) (sym e))
+      (λ e. sym (spares_disk verdict old.faults) ∙ ap (λ (s : Status). disk_faults_by s old.faults) (sym e))
+      prints.status_is;
+  source_faults = ⊎_elim (λ e. ap (λ (s : Status). source_faults_by s source.faults) (sym e))
+      (λ e. sym (spares_source verdict source.faults) ∙ ap (λ (s : Status). source_faults_by s source.faults) (sym e))
+      prints.status_is;
   sink_faults = prints.faults;
 }
 outside_report {W} sink_of (Err causes.Disk) old new source sink sink_new status kept faults prints =
-    subst (λ (s : Status). KeepsOutside s old new source source (sink_of sink) (sink_of sink_new)) (sym prints.status_is)
-    (record { disk_kept = kept; source_observable = refl; sink_observable = ap (λ (w : W). (sink_of w).is_observable) prints.same; disk_faults = faults; source_faults = refl; sink_faults = ap (λ (w : W). (sink_of w).faults) prints.same })
+    subst (λ (s : Status). KeepsOutside s old new source source (sink_of sink) (sink_of sink_new))
+    (sym prints.status_is)
+    (record {
+      disk_kept = kept;
+      source_observable = refl;
+      sink_observable = ap (λ (w : W). (sink_of w).is_observable) prints.same;
+      disk_faults = faults;
+      source_faults = refl;
+      sink_faults = ap (λ (w : W). (sink_of w).faults) prints.same;
+    })
 outside_report {W} sink_of (Err causes.NoMemory) old new source sink sink_new status kept faults prints =
-    subst (λ (s : Status). KeepsOutside s old new source source (sink_of sink) (sink_of sink_new)) (sym prints.status_is)
-    (record { disk_kept = kept; source_observable = refl; sink_observable = ap (λ (w : W). (sink_of w).is_observable) prints.same; disk_faults = faults; source_faults = refl; sink_faults = ap (λ (w : W). (sink_of w).faults) prints.same })
+    subst (λ (s : Status). KeepsOutside s old new source source (sink_of sink) (sink_of sink_new))
+    (sym prints.status_is)
+    (record {
+      disk_kept = kept;
+      source_observable = refl;
+      sink_observable = ap (λ (w : W). (sink_of w).is_observable) prints.same;
+      disk_faults = faults;
+      source_faults = refl;
+      sink_faults = ap (λ (w : W). (sink_of w).faults) prints.same;
+    })

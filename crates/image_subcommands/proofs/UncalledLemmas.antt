@@ -26,10 +26,12 @@ none_made : (disk : DiskState) (writes syncs : ℕ) → MadeAtMost writes syncs 
 none_made disk writes syncs = record { write_limit = omega arith; sync_limit = omega arith }
 
 -- another status does not come for want of memory
-comes_not : (status : Status) (P : Type 0) → (statuses.NoMemory ≡ status → ⊥) → ComesExactly status P IsUnreported statuses.NoMemory
+comes_not : (status : Status) (P : Type 0) → (statuses.NoMemory ≡ status → ⊥)
+    → ComesExactly status P IsUnreported statuses.NoMemory
 comes_not status P other = record { only = λ e. absurd (other e); always = λ holds. inr (inr refl) }
 
-ends_by_none : (IsWhole IsBroken : Type 0) (disk : DiskState) (sink : SinkState) → EndsByVerdict IsWhole IsBroken statuses.NoMemory disk disk sink sink
+ends_by_none : (IsWhole IsBroken : Type 0) (disk : DiskState) (sink : SinkState)
+    → EndsByVerdict IsWhole IsBroken statuses.NoMemory disk disk sink sink
 ends_by_none IsWhole IsBroken disk sink = record {
   clean = comes_not statuses.Done IsWhole (λ e. cc);
   not_image = comes_not statuses.NotImage _ (λ e. cc);
@@ -42,7 +44,8 @@ scrubs_none disk sink sound = record {
   ends = ends_by_none _ _ disk sink;
   scrubs = λ t p scrubs. record {
     scrubbed = λ judged. absurd (false≢true judged);
-    crash = LeavesOnly-refl disk (λ image. disk.crash_images image ⊎ ScrubsAs p.slots disk.bytes image) sound (λ image left. inl left);
+    crash = LeavesOnly-refl disk (λ image. disk.crash_images image ⊎ ScrubsAs p.slots disk.bytes image) sound
+        (λ image left. inl left);
     reads = record { same_length = refl; scrubs = refl };
     made = λ judged. absurd (false≢true judged);
     limit = none_made disk (writes_to_scrub p.slots disk.bytes) (opening_syncs p.slots disk.bytes);
@@ -58,7 +61,8 @@ wipes_none : (disk : DiskState) → IsSound disk → WipesDisk statuses.NoMemory
 wipes_none disk sound = record {
   wiped = λ e. absurd (cc);
   reads = wipes_itself disk.bytes;
-  crash = λ durable. LeavesOnly-refl disk (IsWiping disk.bytes) sound (λ image left. subst (IsWiping disk.bytes) (sym (durable image left)) (wipes_itself disk.bytes));
+  crash = λ durable. LeavesOnly-refl disk (IsWiping disk.bytes) sound
+      (λ image left. subst (IsWiping disk.bytes) (sym (durable image left)) (wipes_itself disk.bytes));
   counts = λ some. record { done = λ e. absurd (cc); limit = none_made disk (1 + block_count disk.size) 2 };
 }
 
@@ -80,9 +84,16 @@ formats_none p disk sound =
 
 -- how such a call ends
 abbrev pub without_memory : {D R W : Type 0} → Outside D R W → Outcome D R W
-without_memory before = record { status = statuses.NoMemory; done = 0; disk = before.disk; source = before.source; sink = before.sink }
+without_memory before = record {
+  status = statuses.NoMemory;
+  done = 0;
+  disk = before.disk;
+  source = before.source;
+  sink = before.sink;
+}
 
-module _ {D R W : Type 0} (disk_of : D → DiskState) (sink_of : W → SinkState) (sound : (disk : D) → IsObservable (disk_of disk) → IsSound (disk_of disk)) (before : Outside D R W) where
+module _ {D R W : Type 0} (disk_of : D → DiskState) (sink_of : W → SinkState)
+    (sound : (disk : D) → IsObservable (disk_of disk) → IsSound (disk_of disk)) (before : Outside D R W) where
   pub format_uncalled : (p : Parameters) → IsFormat disk_of p before (without_memory before)
   format_uncalled p = record {
     ends = refl;
@@ -99,7 +110,10 @@ module _ {D R W : Type 0} (disk_of : D → DiskState) (sink_of : W → SinkState
   check_uncalled = record {
     ends = refl;
     done = refl;
-    observed = λ observable. record { ends = ends_by_none _ _ (disk_of before.disk) (sink_of before.sink); reads = ReadsOnly-refl (disk_of before.disk) (sound before.disk observable) };
+    observed = λ observable. record {
+      ends = ends_by_none _ _ (disk_of before.disk) (sink_of before.sink);
+      reads = ReadsOnly-refl (disk_of before.disk) (sound before.disk observable);
+    };
     source = refl;
     no_memory = λ e. refl;
     report = λ judged. absurd (false≢true judged);

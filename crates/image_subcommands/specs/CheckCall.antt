@@ -23,10 +23,12 @@ module _ {D R W : Type 0} (disk_of : D → DiskState) (sink_of : W → SinkState
     -- how it ends
     pub ends : IsStatusOf words.Check after.status
     pub done : after.done ≡ done_of_verdict after.status
-    pub observed : IsObservable (disk_of before.disk) → ChecksDisk after.status (disk_of before.disk) (disk_of after.disk) (sink_of before.sink) (sink_of after.sink)
+    pub observed : IsObservable (disk_of before.disk)
+        → ChecksDisk after.status (disk_of before.disk) (disk_of after.disk) (sink_of before.sink) (sink_of after.sink)
     -- what stands then
     pub source : after.source ≡ before.source
     -- it takes no memory itself: where it was wanting while the words were read, nothing was called
     pub no_memory : after.status ≡ statuses.NoMemory → after.disk ≡ before.disk
-    pub report : IsJudged after.status → Reports (IsVerdict (disk_of before.disk)) after.status (sink_of before.sink) (sink_of after.sink)
+    pub report : IsJudged after.status
+        → Reports (IsVerdict (disk_of before.disk)) after.status (sink_of before.sink) (sink_of after.sink)
     pub silent : (IsJudged after.status → ⊥) → after.sink ≡ before.sink

@@ -12,8 +12,8 @@ pub record HasTaken (count : ℕ) (old new : SourceState) : Type 0 where
   pub taken_is : old.left ≡ taken ++ new.left
   pub count_is : length taken ≡ count
 
--- the call says that the script is too long where as many bytes were taken as it may have, and one more; else no more were
--- taken than that, and a script that was read to its end has no more
+-- the call says that the script is too long where as many bytes were taken as it may have, and one more; else no more
+-- were taken than that, and a script that was read to its end has no more
 pub record KeepsLimit (status : Status) (old new : SourceState) : Type 0 where
   pub too_long : status ≡ statuses.TooLong → HasTaken (script_limit + 1) old new
   pub within : (status ≡ statuses.TooLong → ⊥) → (count : ℕ) × (count ≤ script_limit) × HasTaken count old new

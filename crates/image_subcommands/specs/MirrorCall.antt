@@ -22,7 +22,8 @@ use Rattle.image_subcommands.specs.declared.mirror.PairOutcome.{PairOutcome}
 use Rattle.image_subcommands.specs.declared.status.Status.{Status}
 use Rattle.image_subcommands.specs.declared.status.Status.TheVariants as statuses
 use Rattle.image_subcommands.specs.Endings.{mirror_status}
-use Rattle.image_subcommands.specs.Statuses.{Subcommand as words, IsStatusOf, IsMirrored, SparesSecond, ComesExactly, done_of_mirror, disk_faults_by, sink_faults_by}
+use Rattle.image_subcommands.specs.Statuses.{Subcommand as words, IsStatusOf, IsMirrored, SparesSecond, ComesExactly}
+use Rattle.image_subcommands.specs.Statuses.{done_of_mirror, disk_faults_by, sink_faults_by}
 
 -- the line that a mirror prints, by the number of slots that differed
 unfoldable pub mirror_text : ℕ → List ℕ
@@ -42,7 +43,8 @@ pair_of from to sink = record { from = from; to = to; sink = sink }
 -- The line of a mirror was printed, or where the sink failed a front of it.
 pub record PrintsMirror (count : ℕ) (status : Status) (sink sink_new : SinkState) : Type 0 where
   pub whole : sinks.IsObservable sink → status ≡ statuses.Done → sink_new.written ≡ sink.written ++ mirror_text count
-  pub in_part : sinks.IsObservable sink → status ≡ statuses.SinkFault → AppendsPrefix sink.written sink_new.written (mirror_text count)
+  pub in_part : sinks.IsObservable sink → status ≡ statuses.SinkFault
+      → AppendsPrefix sink.written sink_new.written (mirror_text count)
 
 -- that of some number of slots
 pub record PrintsSome (status : Status) (sink sink_new : SinkState) : Type 0 where
@@ -82,26 +84,32 @@ pub record EndsByFirst (status : Status) (from : DiskState) : Type 0 where
   pub no_image : IsNoImage from → (status ≡ statuses.NotImage) ⊎ (status ≡ statuses.DiskFault)
   pub damaged : ComesExactly statuses.Damaged (IsDamaged from) (λ status. status ≡ statuses.DiskFault) status
 
--- The call ends by what two observable disks hold, unless a disk failed before: a fault of the sink and want of memory come
--- only for a pair.
+-- The call ends by what two observable disks hold, unless a disk failed before: a fault of the sink and want of
+-- memory come only for a pair.
 pub record EndsByPair (status : Status) (from from_new to to_new : DiskState) (sink sink_new : SinkState) : Type 0 where
   pub not_image : ComesExactly statuses.NotImage (LacksImage from to) (λ status. status ≡ statuses.DiskFault) status
   pub unequal : ComesExactly statuses.Unequal (AreUnequalOfSome from to) (λ status. status ≡ statuses.DiskFault) status
   pub mirrored : IsMirrored status → ArePairOfSome from to
   pub no_memory : status ≡ statuses.NoMemory → ArePairOfSome from to
   -- it is done where they are a pair, no call failed and memory was there
-  pub complete : ArePairOfSome from to → NothingFails from from_new to to_new sink sink_new → (status ≡ statuses.Done) ⊎ (status ≡ statuses.NoMemory)
+  pub complete : ArePairOfSome from to → NothingFails from from_new to to_new sink sink_new
+      → (status ≡ statuses.Done) ⊎ (status ≡ statuses.NoMemory)
 
--- The call makes the second image the first, each under the same parameters. Each image that a crash at any moment of it may
--- leave is one that a crash before it might have left, or recovers to what the second did or to what the first does; and so
--- does what the disk reads, however it ended. It makes just the writes and syncs that this takes, and with a fault no more.
-pub record MirrorsDisk (p : Parameters) (first : List ℕ) (status : Status) (to to_new : DiskState) (sink sink_new : SinkState) : Type 0 where
+-- The call makes the second image the first, each under the same parameters. Each image that a crash at any moment of
+-- it may leave is one that a crash before it might have left, or recovers to what the second did or to what the first
+-- does; and so does what the disk reads, however it ended. It makes just the writes and syncs that this takes, and
+-- with a fault no more.
+pub record MirrorsDisk (p : Parameters) (first : List ℕ) (status : Status) (to to_new : DiskState)
+    (sink sink_new : SinkState) : Type 0 where
   pub bytes : IsMirrored status → to_new.bytes ≡ recovered p.slots first
   pub durable : IsMirrored status → IsDurable to_new
-  pub crash : LeavesOnly to to_new (λ image. to.crash_images image ⊎ RecoversToEither p.slots (recovered p.slots to.bytes) (recovered p.slots first) image)
+  pub crash : LeavesOnly to to_new (λ image. to.crash_images image
+      ⊎ RecoversToEither p.slots (recovered p.slots to.bytes) (recovered p.slots first) image)
   pub reads : RecoversToEither p.slots (recovered p.slots to.bytes) (recovered p.slots first) to_new.bytes
-  pub made : IsMirrored status → Made (rewrite_writes p.slots to.bytes (slots_differing p.slots to.bytes first)) (rewrite_syncs p.slots to.bytes (slots_differing p.slots to.bytes first)) to to_new
-  pub limit : MadeAtMost (rewrite_writes p.slots to.bytes (slots_differing p.slots to.bytes first)) (rewrite_syncs p.slots to.bytes (slots_differing p.slots to.bytes first)) to to_new
+  pub made : IsMirrored status → Made (rewrite_writes p.slots to.bytes (slots_differing p.slots to.bytes first))
+      (rewrite_syncs p.slots to.bytes (slots_differing p.slots to.bytes first)) to to_new
+  pub limit : MadeAtMost (rewrite_writes p.slots to.bytes (slots_differing p.slots to.bytes first))
+      (rewrite_syncs p.slots to.bytes (slots_differing p.slots to.bytes first)) to to_new
   -- the number that is printed is that of the slots that differed, each as recovery leaves it
   pub prints : IsMirrored status → PrintsMirror (slots_differing p.slots to.bytes first) status sink sink_new
 
@@ -119,7 +127,8 @@ pub record FailsSecond (status : Status) (from from_new to to_new : DiskState) :
 
 -- A call that ended by the fault of a disk had it of one of the two, and any other of none.
 abbrev pub FailsOne : Status → DiskState → DiskState → DiskState → DiskState → Type 0
-FailsOne status from from_new to to_new = FailsFirst status from from_new to to_new ⊎ FailsSecond status from from_new to to_new
+FailsOne status from from_new to to_new = FailsFirst status from from_new to to_new
+    ⊎ FailsSecond status from from_new to to_new
 
 module _ {A B W : Type 0} (from_of : A → DiskState) (to_of : B → DiskState) (sink_of : W → SinkState) where
   pub record IsMirror (before : OutsidePair A B W) (after : PairOutcome A B W) : Type 0 where
@@ -128,20 +137,27 @@ module _ {A B W : Type 0} (from_of : A → DiskState) (to_of : B → DiskState) 
     pub done : after.done ≡ done_of_mirror after.status
     pub judged_first : IsObservable (from_of before.from) → EndsByFirst after.status (from_of before.from)
     pub judged : IsObservable (from_of before.from) → IsObservable (to_of before.to)
-        → EndsByPair after.status (from_of before.from) (from_of after.from) (to_of before.to) (to_of after.to) (sink_of before.sink) (sink_of after.sink)
+        → EndsByPair after.status (from_of before.from) (from_of after.from) (to_of before.to) (to_of after.to)
+        (sink_of before.sink) (sink_of after.sink)
     -- what stands then of any disks and sink
     pub from_kept : KeepsDisk (from_of before.from) (from_of after.from)
     pub to_kept : KeepsDisk (to_of before.to) (to_of after.to)
-    pub disk_faults : FailsOne after.status (from_of before.from) (from_of after.from) (to_of before.to) (to_of after.to)
+    pub disk_faults : FailsOne after.status (from_of before.from) (from_of after.from)
+        (to_of before.to) (to_of after.to)
     pub sink_observable : (sink_of after.sink).is_observable ≡ (sink_of before.sink).is_observable
     pub sink_faults : (sink_of after.sink).faults ≡ sink_faults_by after.status (sink_of before.sink).faults
-    -- the first disk is only read, and the second too where the call was refused or memory was wanting, and where they are no pair
+    -- the first disk is only read, and the second too where the call was refused or memory was wanting, and where
+    -- they are no pair
     pub from_reads : IsObservable (from_of before.from) → ReadsOnly (from_of before.from) (from_of after.from)
-    pub refused : IsObservable (to_of before.to) → SparesSecond after.status → ReadsOnly (to_of before.to) (to_of after.to)
-    pub apart : IsObservable (to_of before.to) → (ArePairOfSome (from_of before.from) (to_of before.to) → ⊥) → ReadsOnly (to_of before.to) (to_of after.to)
+    pub refused : IsObservable (to_of before.to) → SparesSecond after.status
+        → ReadsOnly (to_of before.to) (to_of after.to)
+    pub apart : IsObservable (to_of before.to) → (ArePairOfSome (from_of before.from) (to_of before.to) → ⊥)
+        → ReadsOnly (to_of before.to) (to_of after.to)
     -- the second becomes the first
-    pub mirrors : IsObservable (from_of before.from) → IsObservable (to_of before.to) → (p : Parameters) → IsImageWith (from_of before.from).bytes p → IsImageWith (to_of before.to).bytes p
-        → MirrorsDisk p (from_of before.from).bytes after.status (to_of before.to) (to_of after.to) (sink_of before.sink) (sink_of after.sink)
+    pub mirrors : IsObservable (from_of before.from) → IsObservable (to_of before.to) → (p : Parameters)
+        → IsImageWith (from_of before.from).bytes p → IsImageWith (to_of before.to).bytes p
+        → MirrorsDisk p (from_of before.from).bytes after.status (to_of before.to) (to_of after.to)
+        (sink_of before.sink) (sink_of after.sink)
     -- what is printed
     pub prints : IsMirrored after.status → PrintsSome after.status (sink_of before.sink) (sink_of after.sink)
     pub silent : (IsMirrored after.status → ⊥) → after.sink ≡ before.sink

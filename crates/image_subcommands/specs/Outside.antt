@@ -17,9 +17,10 @@ pub record Outside (D R W : Type 0) : Type 0 where
 abbrev pub outside_of : {D R W : Type 0} → D → R → W → Outside D R W
 outside_of disk source sink = record { disk = disk; source = source; sink = sink }
 
--- What a call that ended so leaves of the disk, the source and the sink, whatever they are: each tells its bytes where it
--- did, the disk has its size, no count of it fell, and one call failed at most, which the status tells.
-pub record KeepsOutside (status : Status) (disk disk_new : DiskState) (source source_new : SourceState) (sink sink_new : SinkState) : Type 0 where
+-- What a call that ended so leaves of the disk, the source and the sink, whatever they are: each tells its bytes
+-- where it did, the disk has its size, no count of it fell, and one call failed at most, which the status tells.
+pub record KeepsOutside (status : Status) (disk disk_new : DiskState) (source source_new : SourceState)
+    (sink sink_new : SinkState) : Type 0 where
   pub disk_kept : KeepsDisk disk disk_new
   pub source_observable : source_new.is_observable ≡ source.is_observable
   pub sink_observable : sink_new.is_observable ≡ sink.is_observable

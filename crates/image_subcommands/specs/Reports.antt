@@ -16,7 +16,9 @@ use Rattle.image_subcommands.specs.Statuses.{MayComeFirst, ComesExactly, sink_fa
 
 -- the line that a verdict prints: of a clean image its pages, directories, files and bytes
 unfoldable pub report_text : Verdict → List ℕ
-report_text (Clean pages dirs files bytes) = line (codes "clean " ++ decimal pages ++ codes " " ++ decimal dirs ++ codes " " ++ decimal files ++ codes " " ++ decimal bytes)
+report_text (Clean pages dirs files bytes) =
+    line (codes "clean " ++ decimal pages ++ codes " " ++ decimal dirs ++ codes " " ++ decimal files
+    ++ codes " " ++ decimal bytes)
 report_text NotImage = line (codes "not-image")
 report_text Damaged = line (codes "damaged")
 
@@ -34,7 +36,8 @@ pub record PrintsVerdict (verdict : Verdict) (old new : SinkState) (status : Sta
   pub faults : new.faults ≡ sink_faults_by status old.faults
   pub status_is : (status ≡ statuses.SinkFault) ⊎ (status ≡ verdict_status verdict)
   pub whole : IsObservable old → status ≡ verdict_status verdict → new.written ≡ old.written ++ report_text verdict
-  pub in_part : IsObservable old → status ≡ statuses.SinkFault → AppendsPrefix old.written new.written (report_text verdict)
+  pub in_part : IsObservable old → status ≡ statuses.SinkFault
+      → AppendsPrefix old.written new.written (report_text verdict)
 
 -- Nothing was printed, and the call ends by a fault that came in place of a verdict.
 pub record PrintsNothing {W : Type 0} (fault : Fault) (old new : W) (status : Status) : Type 0 where
@@ -53,7 +56,8 @@ pub record Reports (P : Verdict → Type 0) (status : Status) (sink sink_new : S
   pub verdict_is : P verdict
   pub status_is : (status ≡ statuses.SinkFault) ⊎ (status ≡ verdict_status verdict)
   pub whole : IsObservable sink → status ≢ statuses.SinkFault → sink_new.written ≡ sink.written ++ report_text verdict
-  pub in_part : IsObservable sink → status ≡ statuses.SinkFault → AppendsPrefix sink.written sink_new.written (report_text verdict)
+  pub in_part : IsObservable sink → status ≡ statuses.SinkFault
+      → AppendsPrefix sink.written sink_new.written (report_text verdict)
 
 -- ---- how the call ends
 
@@ -62,9 +66,11 @@ abbrev pub IsUnreported : Status → Type 0
 IsUnreported status = (status ≡ statuses.SinkFault) ⊎ MayComeFirst status
 
 -- The call ends by the verdict on an observable disk, which may be clean or beyond repair in this sense.
-pub record EndsByVerdict (IsWhole IsBroken : Type 0) (status : Status) (disk disk_new : DiskState) (sink sink_new : SinkState) : Type 0 where
+pub record EndsByVerdict (IsWhole IsBroken : Type 0) (status : Status) (disk disk_new : DiskState)
+    (sink sink_new : SinkState) : Type 0 where
   pub clean : ComesExactly statuses.Done IsWhole IsUnreported status
   pub not_image : ComesExactly statuses.NotImage (IsNoImage disk) IsUnreported status
   pub damaged : ComesExactly statuses.Damaged IsBroken IsUnreported status
   -- it is done where the disk is clean, no call failed and memory was there
-  pub complete : IsWhole → (Rose disk.faults disk_new.faults → ⊥) → (Rose sink.faults sink_new.faults → ⊥) → (status ≡ statuses.Done) ⊎ (status ≡ statuses.NoMemory)
+  pub complete : IsWhole → (Rose disk.faults disk_new.faults → ⊥) → (Rose sink.faults sink_new.faults → ⊥)
+      → (status ≡ statuses.Done) ⊎ (status ≡ statuses.NoMemory)

@@ -23,8 +23,8 @@ pub record ScrubsToSome (disk : DiskState) : Type 0 where
   pub params : Parameters
   pub scrubs : ScrubsTo disk.bytes tree params
 
--- Scrubbing leaves the layout of the tree. An image that a crash at any moment of the call may leave is one that a crash
--- before it might have left, or scrubs to the same; and so does what the disk reads, after a fault too.
+-- Scrubbing leaves the layout of the tree. An image that a crash at any moment of the call may leave is one that a
+-- crash before it might have left, or scrubs to the same; and so does what the disk reads, after a fault too.
 pub record ScrubsTree (t : Tree) (p : Parameters) (status : Status) (old new : DiskState) : Type 0 where
   -- where the call came to its verdict the disk is scrubbed, whether or not the report was printed
   pub scrubbed : IsJudged status → Stands new t p
@@ -47,10 +47,12 @@ module _ {D R W : Type 0} (disk_of : D → DiskState) (sink_of : W → SinkState
     -- how it ends
     pub ends : IsStatusOf words.Scrub after.status
     pub done : after.done ≡ done_of_verdict after.status
-    pub observed : IsObservable (disk_of before.disk) → ScrubsDisk after.status (disk_of before.disk) (disk_of after.disk) (sink_of before.sink) (sink_of after.sink)
+    pub observed : IsObservable (disk_of before.disk)
+        → ScrubsDisk after.status (disk_of before.disk) (disk_of after.disk) (sink_of before.sink) (sink_of after.sink)
     -- what stands then
     pub source : after.source ≡ before.source
     -- it takes no memory itself: where it was wanting while the words were read, nothing was called
     pub no_memory : after.status ≡ statuses.NoMemory → after.disk ≡ before.disk
-    pub report : IsJudged after.status → Reports (IsScrubVerdict (disk_of before.disk)) after.status (sink_of before.sink) (sink_of after.sink)
+    pub report : IsJudged after.status
+        → Reports (IsScrubVerdict (disk_of before.disk)) after.status (sink_of before.sink) (sink_of after.sink)
     pub silent : (IsJudged after.status → ⊥) → after.sink ≡ before.sink

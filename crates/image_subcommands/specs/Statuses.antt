@@ -1,9 +1,13 @@
--- The statuses of a call, in one table. What other records ask of a status follows from it, so a new status is one line here.
+-- The statuses of a call, in one table. What other records ask of a status follows from it, so a new status is one
+-- line here.
 use Rattle.std.specs.Prelude.{◌≡◌, ◌⊎◌, ℕ, ◌==◌, List, [], ◌∷◌, Bool, true, false, IsTrue, not, ◌&&◌, if◌then◌else◌}
 use Rattle.std.specs.List.{list_any}
 use Rattle.store_base.specs.Counts.{raised}
 use Rattle.image_subcommands.specs.declared.status.Status.{Status}
-use Rattle.image_subcommands.specs.declared.status.Status.TheVariants.{Done, Usage, SourceFault, SinkFault, DiskFault, TooLong, NotImage, Damaged, NoMemory, AlreadyImage, WrongLength, Unequal, NotEmpty, BadListing, TooFull}
+use Rattle.image_subcommands.specs.declared.status.Status.TheVariants.{Done, Usage, SourceFault, SinkFault, DiskFault}
+use Rattle.image_subcommands.specs.declared.status.Status.TheVariants.{TooLong, NotImage, Damaged, NoMemory}
+use Rattle.image_subcommands.specs.declared.status.Status.TheVariants.{AlreadyImage, WrongLength, Unequal, NotEmpty}
+use Rattle.image_subcommands.specs.declared.status.Status.TheVariants.{BadListing, TooFull}
 
 -- what a call is asked for: a subcommand of `top`, or a mirror
 pub data Subcommand : Type 0 where
@@ -100,15 +104,61 @@ with_code code = record {
 }
 
 abbrev pub row : Status → Row
-row Done = record (with_code 0) { words = every_word; is_done = true; is_judged = true; is_past_header = true; is_between_lines = true; is_mirrored = true }
+row Done = record (with_code 0) {
+  words = every_word;
+  is_done = true;
+  is_judged = true;
+  is_past_header = true;
+  is_between_lines = true;
+  is_mirrored = true;
+}
 row Usage = with_code 2
-row SourceFault = record (with_code 3) { words = Run ∷ Session ∷ Load ∷ []; failed = TheSource; is_past_header = true; is_between_lines = true; is_cut_short = true }
-row SinkFault = record (with_code 4) { words = Run ∷ Session ∷ Check ∷ Scrub ∷ Big ∷ Mirror ∷ Dump ∷ Load ∷ []; failed = TheSink; is_judged = true; is_past_header = true; is_between_lines = true; is_mirrored = true }
-row DiskFault = record (with_code 5) { words = every_word; failed = TheDisk; is_cut_short = true; may_come_first = true }
-row TooLong = record (with_code 6) { words = Run ∷ Session ∷ Load ∷ []; is_past_header = true; is_between_lines = true; is_cut_short = true }
-row NotImage = record (with_code 7) { words = words_on_image; is_judged = true; refuses_image = true; spares_second = true }
-row Damaged = record (with_code 8) { words = words_on_image; is_judged = true; refuses_image = true; is_past_header = true; spares_second = true }
-row NoMemory = record (with_code 9) { words = every_word; is_cut_short = true; may_come_first = true; spares_second = true }
+row SourceFault = record (with_code 3) {
+  words = Run ∷ Session ∷ Load ∷ [];
+  failed = TheSource;
+  is_past_header = true;
+  is_between_lines = true;
+  is_cut_short = true;
+}
+row SinkFault = record (with_code 4) {
+  words = Run ∷ Session ∷ Check ∷ Scrub ∷ Big ∷ Mirror ∷ Dump ∷ Load ∷ [];
+  failed = TheSink;
+  is_judged = true;
+  is_past_header = true;
+  is_between_lines = true;
+  is_mirrored = true;
+}
+row DiskFault = record (with_code 5) {
+  words = every_word;
+  failed = TheDisk;
+  is_cut_short = true;
+  may_come_first = true;
+}
+row TooLong = record (with_code 6) {
+  words = Run ∷ Session ∷ Load ∷ [];
+  is_past_header = true;
+  is_between_lines = true;
+  is_cut_short = true;
+}
+row NotImage = record (with_code 7) {
+  words = words_on_image;
+  is_judged = true;
+  refuses_image = true;
+  spares_second = true;
+}
+row Damaged = record (with_code 8) {
+  words = words_on_image;
+  is_judged = true;
+  refuses_image = true;
+  is_past_header = true;
+  spares_second = true;
+}
+row NoMemory = record (with_code 9) {
+  words = every_word;
+  is_cut_short = true;
+  may_come_first = true;
+  spares_second = true;
+}
 row AlreadyImage = record (with_code 10) { words = Format ∷ []; refuses_disk = true }
 row WrongLength = record (with_code 11) { words = Format ∷ []; refuses_disk = true }
 row Unequal = record (with_code 13) { words = Mirror ∷ []; spares_second = true }
@@ -201,7 +251,8 @@ source_faults_by status count = source_faults_where (row status).failed count
 abbrev pub sink_faults_by : Status → ℕ → ℕ
 sink_faults_by status count = sink_faults_where (row status).failed count
 
--- A status comes only where this holds. And where it holds it comes, unless the call ended before, in one of these ways.
+-- A status comes only where this holds. And where it holds it comes, unless the call ended before, in one of these
+-- ways.
 pub record ComesExactly (expected : Status) (P : Type 0) (Before : Status → Type 0) (status : Status) : Type 0 where
   pub only : status ≡ expected → P
   pub always : P → (status ≡ expected) ⊎ Before status

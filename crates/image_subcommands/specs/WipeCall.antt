@@ -23,8 +23,9 @@ pub record CountsWipe (status : Status) (old new : DiskState) : Type 0 where
   pub done : status ≡ statuses.Done → Made (1 + block_count old.size) 2 old new
   pub limit : MadeAtMost (1 + block_count old.size) 2 old new
 
--- What a wipe does to an observable disk. An image on its way has the old bytes with any first byte, or begins with zero: so
--- is what the disk reads, after a fault too, and each image that a crash may leave, if nothing was pending before.
+-- What a wipe does to an observable disk. An image on its way has the old bytes with any first byte, or begins with
+-- zero: so is what the disk reads, after a fault too, and each image that a crash may leave, if nothing was pending
+-- before.
 pub record WipesDisk (status : Status) (old new : DiskState) : Type 0 where
   pub wiped : status ≡ statuses.Done → IsWiped old new
   pub reads : IsWiping old.bytes new.bytes
@@ -37,7 +38,8 @@ module _ {D R W : Type 0} (disk_of : D → DiskState) where
     pub ends : IsStatusOf words.Wipe after.status
     pub done : after.done ≡ done_of_work after.status
     -- it is done where no call failed and memory was there
-    pub complete : (Rose (disk_of before.disk).faults (disk_of after.disk).faults → ⊥) → (after.status ≡ statuses.Done) ⊎ (after.status ≡ statuses.NoMemory)
+    pub complete : (Rose (disk_of before.disk).faults (disk_of after.disk).faults → ⊥)
+        → (after.status ≡ statuses.Done) ⊎ (after.status ≡ statuses.NoMemory)
     -- what stands then
     pub source : after.source ≡ before.source
     pub sink : after.sink ≡ before.sink

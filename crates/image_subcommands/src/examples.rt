@@ -10,7 +10,8 @@ ghost use Rattle.image_subcommands.specs.Reports.{report_text};
 /// The lines that a check prints.
 pub fn reports()
     ensures clean { report_text (Clean 2 1 0 0) ≡ codes "clean 2 1 0 0" ++ 10 ∷ [] }
-    ensures bytes { report_text (Clean 16384 0 10 4294967296) ≡ codes "clean 16384 0 10 4294967296" ++ 10 ∷ [] }
+    ensures bytes { report_text (Clean 16384 0 10 4294967296)
+        ≡ codes "clean 16384 0 10 4294967296" ++ 10 ∷ [] }
     ensures none { report_text NotImage ≡ codes "not-image" ++ 10 ∷ [] }
     ensures damaged { report_text Damaged ≡ codes "damaged" ++ 10 ∷ [] }
 {}

@@ -24,7 +24,13 @@ pub struct Outcome<D, R, W> {
 impl<D, R, W> Outcome<D, R, W> {
     /// A call that ended so before any work was done.
     pub fn idle(status: Status, disk: D, source: R, sink: W) -> Self
-        ensures { result ≡ record { status = status; done = 0; disk = disk; source = source; sink = sink } }
+        ensures { result ≡ record {
+          status = status;
+          done = 0;
+          disk = disk;
+          source = source;
+          sink = sink;
+        } }
     {
         Outcome {
             status,

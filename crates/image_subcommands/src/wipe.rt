@@ -26,7 +26,8 @@ fn wipe_status(wiped: Result<(), DiskFault>) -> Status
 /// Wipes a disk of any length.
 pub fn wipe_disk<D: Disk, R: Source, W: Sink>(disk: D, source: R, sink: W) -> Outcome<D, R, W>
     ensures wipe { IsWipe D.state (outside_of disk source sink) result }
-    ensures outside { KeepsOutside result.status (D.state disk) (D.state result.disk) (R.state source) (R.state result.source) (W.state sink) (W.state result.sink) }
+    ensures outside { KeepsOutside result.status (D.state disk) (D.state result.disk)
+        (R.state source) (R.state result.source) (W.state sink) (W.state result.sink) }
 {
     let mut disk = disk;
     let status = wipe_status(Journal::wipe(&mut disk));

@@ -19,7 +19,8 @@ pub record LiesIn (slots : List (List ℕ)) (at : ℕ) (page : Page) : Type 0 wh
 
 -- each page that lies in a slot has its entry among these, under the digest that its label has
 abbrev pub TellsPages : (Label → ℕ) → List (List ℕ) → List Entry → Type 0
-TellsPages digests slots entries = (at : ℕ) (page : Page) → LiesIn slots at page → Contains entries (entry_of (digests page.label) at)
+TellsPages digests slots entries = (at : ℕ) (page : Page) → LiesIn slots at page
+    → Contains entries (entry_of (digests page.label) at)
 
 -- the digests of the entries don't fall
 abbrev pub AreRising : List Entry → Type 0
@@ -51,4 +52,6 @@ pub record IsSortOf (old new : List Entry) : Type 0 where
 
 -- before this number the digests are below the given one, and from there on they are not
 abbrev pub IsPast : List Entry → ℕ → ℕ → Type 0
-IsPast entries digest past = AreRising entries → ((k : ℕ) (e : Entry) → k < past → (slice_index_or entries k e).digest < digest) × ((k : ℕ) (e : Entry) → past ≤ k → k < length entries → digest ≤ (slice_index_or entries k e).digest)
+IsPast entries digest past = AreRising entries
+    → ((k : ℕ) (e : Entry) → k < past → (slice_index_or entries k e).digest < digest)
+    × ((k : ℕ) (e : Entry) → past ≤ k → k < length entries → digest ≤ (slice_index_or entries k e).digest)

@@ -17,7 +17,8 @@ pub record ReadsPage (old new : SlotsState) (at : ℕ) (l : Label) (result : Res
   pub reads : ReadsOnly old new result
   pub label : IfOk result (λ found. IfSome found (λ page. page.label ≡ l))
   pub lies : IsObservable old → IfOk result (λ found. IfSome found (LiesIn old.slots at))
-  pub found : (page : Page) → IsObservable old → LiesIn old.slots at page → page.label ≡ l → IfOk result (λ found. found ≡ Some page)
+  pub found : (page : Page) → IsObservable old → LiesIn old.slots at page → page.label ≡ l
+      → IfOk result (λ found. found ≡ Some page)
 
 -- what slots tell of a label: a page of it lies in one of them, or in none
 abbrev pub TellsPage : List (List ℕ) → Label → Option Page → Type 0
@@ -25,7 +26,9 @@ TellsPage slots l (Some page) = (at : ℕ) × LiesIn slots at page
 TellsPage slots l None = (at : ℕ) (page : Page) → LiesIn slots at page → page.label ≡ l → ⊥
 
 -- a lookup of the page of a label, by these entries and this digest, which is to be the label's
-pub record LooksUp (old new : SlotsState) (entries : List Entry) (l : Label) (digest : ℕ) (result : Result (Option Page) Fault) : Type 0 where
+pub record LooksUp (old new : SlotsState) (entries : List Entry) (l : Label) (digest : ℕ)
+    (result : Result (Option Page) Fault) : Type 0 where
   pub reads : ReadsOnly old new result
   pub label : IfOk result (λ found. IfSome found (λ page. page.label ≡ l))
-  pub found : (digests : Label → ℕ) → digest ≡ digests l → IsObservable old → Indexes digests old.slots entries → IfOk result (TellsPage old.slots l)
+  pub found : (digests : Label → ℕ) → digest ≡ digests l → IsObservable old → Indexes digests old.slots entries
+      → IfOk result (TellsPage old.slots l)

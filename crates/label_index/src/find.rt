@@ -20,8 +20,8 @@ fn first_of(entries: &[Entry], digest: u64) -> usize
 /// The page of the label, which has this digest, read from the slots by an index of them; `None` exactly where no slot
 /// holds such a page. The digest has to be the one that the index was made with.
 ///
-/// It reads the slots of the entries that have this digest, one after another, until one holds the page. The
-/// slots that entries name have to be there. A fault of the slots ends the call; it writes nothing, and takes no memory.
+/// It reads the slots of the entries that have this digest, one after another, until one holds the page. The slots
+/// that entries name have to be there. A fault of the slots ends the call; it writes nothing, and takes no memory.
 pub fn find_page<S: ReadSlots>(
     slots: &mut S,
     entries: &[Entry],
@@ -29,7 +29,8 @@ pub fn find_page<S: ReadSlots>(
     digest: u64,
 ) -> Result<Option<Page>, Fault>
     requires { AreThere (S.state slots.old).count entries.now }
-    ensures call { LooksUp (S.state slots.old) (S.state slots.new) entries.now label.now digest result }
+    ensures call { LooksUp (S.state slots.old)
+        (S.state slots.new) entries.now label.now digest result }
     ensures follows { S.follows slots.old slots.new }
 {
     let first = first_of(entries, digest);

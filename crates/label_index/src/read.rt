@@ -14,7 +14,8 @@ use store_model::{BLOCK, Slot};
 fn page_of_label(slot: &Slot, label: &Label) -> Option<Page>
     ensures label { IfSome result (λ page. page.label ≡ label.now) }
     ensures found { IfSome result (λ page. IsPage page × (slot.now ≡ slot_bytes (Some page))) }
-    ensures only { (page : model.Page) → IsPage page → slot.now ≡ slot_bytes (Some page) → page.label ≡ label.now → result ≡ Some page }
+    ensures only { (page : model.Page) → IsPage page → slot.now ≡ slot_bytes (Some page)
+        → page.label ≡ label.now → result ≡ Some page }
 {
     match label_in(slot) {
         Some(found) if found == *label => decode_page(slot),

@@ -8,7 +8,8 @@ use Rattle.store_model.specs.Draws.{Draw, draw_of}
 use Rattle.store_model.specs.Pages.{Page, IsBare, cell_on}
 use Rattle.store_model.specs.Placement.{Table, HoldsPage, IsOrderedTable}
 use Rattle.store_model.specs.Images.{slots_of}
-use Rattle.layout_conditions.specs.Pages.{KeysRise, LeadsBefore, AreRunOf, LeadsGroup, HasCell, HasKey, FollowsFull, IsLed}
+use Rattle.layout_conditions.specs.Pages.{KeysRise, LeadsBefore, AreRunOf, LeadsGroup, HasCell, HasKey, FollowsFull}
+use Rattle.layout_conditions.specs.Pages.{IsLed}
 
 -- the page stands in some slot of the table
 abbrev pub StandsIn : Table → Page → Type 0
@@ -32,7 +33,8 @@ module _ (There : Page → Type 0) where
   -- first.
   pub record AreGroups : Type 0 where
     pub leads : (level : ℕ) (key : List ℕ) → HasKey There (level + 1) key → LeadsGroup There level key
-    pub rise : (a b : Page) → There a → There b → a.label.level ≡ b.label.level → LeadsBefore a.label.lead b.label.lead → KeysRise a.cells b.cells
+    pub rise : (a b : Page) → There a → There b → a.label.level ≡ b.label.level → LeadsBefore a.label.lead b.label.lead
+        → KeysRise a.cells b.cells
 
   -- Every page is met on the way down: the start leads its group, or a key of the level above does.
   abbrev pub AreMet : Type 0

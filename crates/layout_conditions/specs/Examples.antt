@@ -19,11 +19,17 @@ example_key = zero_filled key_len (codes "Ua")
 
 -- on level 1 it is the group of the start
 abbrev pub upper_page : Page
-upper_page = record { label = record { level = 1; lead = Start; index = 0 }; cells = record { key = example_key; value = None } ∷ [] }
+upper_page = record {
+  label = record { level = 1; lead = Start; index = 0 };
+  cells = record { key = example_key; value = None } ∷ [];
+}
 
 -- on level 0 it leads a group, and has its value
 abbrev pub lower_page : Page
-lower_page = record { label = record { level = 0; lead = Leader example_key; index = 0 }; cells = record { key = example_key; value = Some (1 ∷ []) } ∷ [] }
+lower_page = record {
+  label = record { level = 0; lead = Leader example_key; index = 0 };
+  cells = record { key = example_key; value = Some (1 ∷ []) } ∷ [];
+}
 
 -- both pages start at slot 1; the smaller label, that of level 0, has it
 abbrev pub both_pages : Table

@@ -10,13 +10,16 @@ ghost use Rattle.layout_conditions.specs.Layouts.{table_of_tree, HaveLayout};
 /// They are the layout of no other tree.
 pub fn local_conditions_are_the_layout()
     // A layout meets them, with its tree.
-    ensures layout { (slots : List (List ℕ)) (p : Parameters) (t : Tree) → IsParameters p → HaveLayout slots t p →
+    ensures layout { (slots : List (List ℕ)) (p : Parameters) (t : Tree) → IsParameters p
+        → HaveLayout slots t p →
         (c : MeetConditions slots p) × (c.tree ≡ t) }
     // Slots that meet them are the layout of their tree, which fits.
-    ensures conditions { (slots : List (List ℕ)) (p : Parameters) → IsParameters p → (c : MeetConditions slots p) →
+    ensures conditions { (slots : List (List ℕ)) (p : Parameters) → IsParameters p
+        → (c : MeetConditions slots p) →
         HaveLayout slots c.tree p }
     // The table that the conditions speak of is that tree's.
-    ensures table { (slots : List (List ℕ)) (p : Parameters) → IsParameters p → (c : MeetConditions slots p) →
+    ensures table { (slots : List (List ℕ)) (p : Parameters) → IsParameters p
+        → (c : MeetConditions slots p) →
         c.table ≡ table_of_tree c.tree p }
     // No slots are the layouts of two trees.
     ensures one_tree { (slots : List (List ℕ)) (p : Parameters) (t u : Tree) → IsParameters p →

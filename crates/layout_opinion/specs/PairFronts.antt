@@ -5,7 +5,8 @@ use Rattle.store_model.specs.declared.version.Version.{Version}
 use Rattle.store_model.specs.Lists.{IsBytes, run_count}
 use Rattle.store_model.specs.Parameters.{Parameters}
 use Rattle.store_model.specs.Paths.{Path, Name, is_path, is_root, attribute_key}
-use Rattle.store_model.specs.Pairs.{Pair, file_block, is_inline, node_pairs, has_attributes, attribute_value, entry_pairs}
+use Rattle.store_model.specs.Pairs.{Pair, file_block, is_inline, node_pairs, has_attributes, attribute_value}
+use Rattle.store_model.specs.Pairs.{entry_pairs}
 use Rattle.store_model.specs.Trees.{Node, Entry, IsNode, IsAttribute}
 use Rattle.tree_pairs.specs.declared.kind.Kind.{Kind}
 use Rattle.tree_pairs.specs.declared.kind.Kind.TheVariants as kinds
@@ -39,7 +40,8 @@ pub record StandsFirst (version : Version) (s : List Pair) (path : Path) (kind :
 
 -- the pair is that of an attribute of the path, and the version has attributes
 abbrev pub IsAttributePair : Version → Path → Pair → Type 0
-IsAttributePair version path pair = IsTrue (has_attributes version) × (attribute : Name × List ℕ) × IsAttribute path attribute × (pair ≡ (attribute_key path attribute.0, attribute_value attribute.1))
+IsAttributePair version path pair = IsTrue (has_attributes version) × (attribute : Name × List ℕ)
+    × IsAttribute path attribute × (pair ≡ (attribute_key path attribute.0, attribute_value attribute.1))
 
 -- so many pairs from the front on are those of attributes of the path, and the next one is not
 pub record HasAttributes (version : Version) (path : Path) (s : List Pair) (count : ℕ) : Type 0 where
@@ -47,8 +49,8 @@ pub record HasAttributes (version : Version) (path : Path) (s : List Pair) (coun
   pub each : AllByRecursion (IsAttributePair version path) (take count s)
   pub ends : (pair : Pair) → slice_get s count ≡ Some pair → IsAttributePair version path pair → ⊥
 
--- so many pairs from the front on are those of an entry at the path under a version, its attributes among them. Their order
--- is not looked at
+-- so many pairs from the front on are those of an entry at the path under a version, its attributes among them. Their
+-- order is not looked at
 pub record EntryStandsFirst (version : Version) (s : List Pair) (path : Path) (kind : Kind) (count : ℕ) : Type 0 where
   pub entry : Entry
   pub node_is : IsNode entry.node

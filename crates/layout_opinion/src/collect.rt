@@ -36,8 +36,10 @@ fn add_pairs(page: &Page, pairs: &mut Vec<(Key, Value)>) -> Result<(), NoMemory>
 /// Adds the pairs that a slot holds on level 0, at most ten; whether it holds nothing else there.
 fn add_slot(slot: &Slot, pairs: &mut Vec<(Key, Value)>) -> Result<bool, NoMemory>
     ensures few { OnOk result (length pairs.new.items ≤ length pairs.old.items + 10) }
-    ensures whole { (held : Option pages.Page) → MayHold held → slot.now ≡ slot_bytes held → IfOk result (λ whole. IsTrue whole) }
-    ensures pairs { (held : Option pages.Page) → MayHold held → slot.now ≡ slot_bytes held → OnOk result (pairs.new.items ≡ pairs.old.items ++ pairs_in held) }
+    ensures whole { (held : Option pages.Page) → MayHold held → slot.now ≡ slot_bytes held
+        → IfOk result (λ whole. IsTrue whole) }
+    ensures pairs { (held : Option pages.Page) → MayHold held → slot.now ≡ slot_bytes held
+        → OnOk result (pairs.new.items ≡ pairs.old.items ++ pairs_in held) }
 {
     match label_in(slot) {
         Some(label) if label.level == 0 => match decode_page(slot) {
@@ -62,8 +64,10 @@ pub fn read_pairs<S: ReadSlots>(
     ensures reads { ReadsSlots (S.state slots.old) (S.state slots.new) result }
     ensures follows { S.follows slots.old slots.new }
     ensures valid { IsParameters params.now }
-    ensures few { IfOk result (λ found. IfSome found (λ pairs. length pairs.items ≤ most_table_pairs)) }
-    ensures pairs { IsObservable (S.state slots.old) → (table : Table) → (S.state slots.old).slots ≡ slots_of table → AllByRecursion MayHold table
+    ensures few { IfOk result
+        (λ found. IfSome found (λ pairs. length pairs.items ≤ most_table_pairs)) }
+    ensures pairs { IsObservable (S.state slots.old) → (table : Table)
+        → (S.state slots.old).slots ≡ slots_of table → AllByRecursion MayHold table
         → IfOk result (λ found. MatchOption found ⊥ (λ pairs. pairs.items ≡ pairs_of_table table)) }
 {
     let mut pairs = Vec::new(alloc);

@@ -1,6 +1,7 @@
 //! What stands at the front of sorted pairs.
 
-ghost use Rattle.std.specs.Prelude.{◌≡◌, ℕ, ◌++◌, List, IsTrue, IfSome, MatchOption, Some, false, length, drop, take, ◌≤◌};
+ghost use Rattle.std.specs.Prelude.{◌≡◌, ℕ, ◌++◌, List, IsTrue, IfSome, MatchOption, Some, false, length, drop, take};
+ghost use Rattle.std.specs.Prelude.{◌≤◌};
 ghost use Rattle.store_model.specs.Parameters.{Parameters};
 ghost use Rattle.store_model.specs.Paths as paths;
 ghost use Rattle.store_model.specs.Pairs as model;
@@ -31,8 +32,11 @@ pub struct Entry {
 fn pair_count(path: &Path, kind: Kind, pairs: &[(Key, Value)], version: Version) -> Option<usize>
     requires kind { IsKind kind }
     requires first { 1 ≤ length pairs.now }
-    ensures found { IfSome result (λ count. (count ≤ length pairs.now) × HasPairs version path.now kind count (drop 1 (take count pairs.now))) }
-    ensures only { (count : ℕ) → count ≤ length pairs.now → HasPairs version path.now kind count (drop 1 (take count pairs.now)) → result ≡ Some count }
+    ensures found { IfSome result (λ count. (count ≤ length pairs.now)
+        × HasPairs version path.now kind count (drop 1 (take count pairs.now))) }
+    ensures only { (count : ℕ) → count ≤ length pairs.now
+        → HasPairs version path.now kind count (drop 1 (take count pairs.now))
+        → result ≡ Some count }
 {
     match kind {
         Kind::Directory => Some(1),
@@ -50,7 +54,8 @@ fn pair_count(path: &Path, kind: Kind, pairs: &[(Key, Value)], version: Version)
 /// The path and the kind that a first pair names; `None` exactly where it is no path's first pair under the version.
 fn first_in(key: &Key, value: &[u8], version: Version) -> Option<(Path, Kind)>
     ensures found { IfSome result (λ (path, kind). IsFirst version path kind key.now value.now) }
-    ensures only { (path : paths.Path) (kind : Kind) → IsFirst version path kind key.now value.now → result ≡ Some (path, kind) }
+    ensures only { (path : paths.Path) (kind : Kind) → IsFirst version path kind key.now value.now
+        → result ≡ Some (path, kind) }
 {
     match Path::of_key(key)? {
         (path, 0) => Some((path, kind_under(value, version)?)),
@@ -60,9 +65,14 @@ fn first_in(key: &Key, value: &[u8], version: Version) -> Option<(Path, Kind)>
 
 /// What stands at the front of pairs under a version, its attributes apart; `None` exactly where nothing does.
 fn first_node(pairs: &[(Key, Value)], version: Version) -> Option<Entry>
-    ensures found { IfSome result (λ entry. StandsFirst version pairs.now entry.path entry.kind entry.count) }
-    ensures only { (path : paths.Path) (node : trees.Node) (rest : List model.Pair) (p : Parameters) → p.version ≡ version → IsTrue (paths.is_path path) → paths.is_root path ≡ false → trees.IsNode node
-        → pairs.now ≡ model.node_pairs path node p ++ rest → MatchOption result ⊥ (λ entry. (entry.path ≡ path) × (entry.kind ≡ kind_of node) × (entry.count ≡ length (model.node_pairs path node p))) }
+    ensures found { IfSome result
+        (λ entry. StandsFirst version pairs.now entry.path entry.kind entry.count) }
+    ensures only { (path : paths.Path) (node : trees.Node) (rest : List model.Pair) (p : Parameters)
+        → p.version ≡ version → IsTrue (paths.is_path path)
+        → paths.is_root path ≡ false → trees.IsNode node
+        → pairs.now ≡ model.node_pairs path node p ++ rest
+        → MatchOption result ⊥ (λ entry. (entry.path ≡ path) × (entry.kind ≡ kind_of node)
+        × (entry.count ≡ length (model.node_pairs path node p))) }
 {
     let (key, value) = pairs.first()?;
     let (path, kind) = first_in(key, value.as_slice(), version)?;
@@ -72,9 +82,13 @@ fn first_node(pairs: &[(Key, Value)], version: Version) -> Option<Entry>
 
 /// The entry at the front of pairs under a version, with its attributes; `None` exactly where there is none.
 pub fn first_entry(pairs: &[(Key, Value)], version: Version) -> Option<Entry>
-    ensures found { IfSome result (λ entry. EntryStandsFirst version pairs.now entry.path entry.kind entry.count) }
-    ensures only { (path : paths.Path) (entry : trees.Entry) (rest : List model.Pair) (p : Parameters) → p.version ≡ version → MayStandFirst version path entry rest
-        → pairs.now ≡ model.entry_pairs path entry p ++ rest → MatchOption result ⊥ (λ found. (found.path ≡ path) × (found.kind ≡ kind_of entry.node) × (found.count ≡ length (model.entry_pairs path entry p))) }
+    ensures found { IfSome result
+        (λ entry. EntryStandsFirst version pairs.now entry.path entry.kind entry.count) }
+    ensures only { (path : paths.Path) (entry : trees.Entry) (rest : List model.Pair)
+        (p : Parameters) → p.version ≡ version → MayStandFirst version path entry rest
+        → pairs.now ≡ model.entry_pairs path entry p ++ rest
+        → MatchOption result ⊥ (λ found. (found.path ≡ path) × (found.kind ≡ kind_of entry.node)
+        × (found.count ≡ length (model.entry_pairs path entry p))) }
 {
     let entry = first_node(pairs, version)?;
     let attributes = attribute_count(&entry.path, &pairs[entry.count..], version);

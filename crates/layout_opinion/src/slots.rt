@@ -29,9 +29,13 @@ fn in_key_order(
     version: Version,
 ) -> Result<Option<(PairList, Counts)>, NoMemory>
     requires { length pairs.items ≤ most_table_pairs }
-    ensures tree { (p : Parameters) → p.version ≡ version → IfOk result (λ found. IfSome found (λ (s, counts). AreCounted s p counts)) }
+    ensures tree { (p : Parameters) → p.version ≡ version
+        → IfOk result (λ found. IfSome found (λ (s, counts). AreCounted s p counts)) }
     ensures few { IfOk result (λ found. IfSome found (λ (s, counts). length s ≤ most_table_pairs)) }
-    ensures only { (p : Parameters) → p.version ≡ version → (t : Tree) → IsTree t → (model.has_attributes p.version ≡ false → IsBare t) → IsPermutation pairs.items (model.pairs t p) → IfOk result (λ found. MatchOption found ⊥ (λ (s, counts). s ≡ model.pairs t p)) }
+    ensures only { (p : Parameters) → p.version ≡ version → (t : Tree) → IsTree t
+        → (model.has_attributes p.version ≡ false → IsBare t)
+        → IsPermutation pairs.items (model.pairs t p)
+        → IfOk result (λ found. MatchOption found ⊥ (λ (s, counts). s ≡ model.pairs t p)) }
 {
     sort_pairs(&mut pairs)?;
     if !do_rise(&pairs) {
@@ -43,9 +47,9 @@ fn in_key_order(
     Ok(Some((list_of(alloc, pairs)?, counts)))
 }
 
-/// How much the tree has whose layout slots are; `None` exactly where they are the layout of no tree. There have to be as
-/// many slots as the parameters say. A fault of the slots is handed on, and the slots are as they were; `NoMemory` comes
-/// for want of memory too.
+/// How much the tree has whose layout slots are; `None` exactly where they are the layout of no tree. There have to
+/// be as many slots as the parameters say. A fault of the slots is handed on, and the slots are as they were;
+/// `NoMemory` comes for want of memory too.
 pub fn judge_slots<S: ReadSlots>(
     alloc: Global,
     slots: &mut S,

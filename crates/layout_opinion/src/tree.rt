@@ -85,7 +85,8 @@ pub fn count_tree(pairs: &[(Key, Value)], version: Version) -> Option<Counts>
     requires few { length pairs.now ≤ most_table_pairs }
     requires sorted { IsTrue (is_sorted paths.key_cmp pairs.now) }
     ensures tree { (p : Parameters) → p.version ≡ version → IfSome result (AreCounted pairs.now p) }
-    ensures none { (p : Parameters) → p.version ≡ version → IfNone result (AreOfTree pairs.now p → ⊥) }
+    ensures none { (p : Parameters) → p.version ≡ version
+        → IfNone result (AreOfTree pairs.now p → ⊥) }
 {
     let mut counts = Counts {
         dirs: 0,

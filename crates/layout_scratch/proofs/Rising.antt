@@ -17,7 +17,8 @@ below_from_others Equal e f = cc
 below_from_others Greater e f = cc
 
 -- a list that is sorted by keys that differ rises by them
-pub rising_from_sorted : {X K : Type 0} (c : K → K → Ordering) (key : X → K) (xs : List X) → IsTotalOrder c → IsSortedBy (λ a b. is_lt (c (key a) (key b))) xs → IsDistinct (eq_by_cmp (λ a b. c (key a) (key b))) xs
+pub rising_from_sorted : {X K : Type 0} (c : K → K → Ordering) (key : X → K) (xs : List X) → IsTotalOrder c
+    → IsSortedBy (λ a b. is_lt (c (key a) (key b))) xs → IsDistinct (eq_by_cmp (λ a b. c (key a) (key b))) xs
     → IsStrictlySortedBy (λ a b. c (key a) (key b)) xs
 rising_from_sorted c key [] o up apart = rising_nil _
 rising_from_sorted {X} c key (x ∷ xs) o up apart =
@@ -25,4 +26,5 @@ rising_from_sorted {X} c key (x ∷ xs) o up apart =
     sorted_from_all_adjacent (on_total key o) (x ∷ xs) x (λ k l.
     let a = get_or (x ∷ xs) k x in
     let b = get_or (x ∷ xs) (k + 1) x in
-    below_from_others (c (key a) (key b)) (ap is_lt (sym (o.antisymm (key b) (key a))) ∙ up k x (omega arith) l) (apart_from_distinct (eq_by_cmp cmp) (x ∷ xs) k (k + 1) x apart (omega arith) l))
+    below_from_others (c (key a) (key b)) (ap is_lt (sym (o.antisymm (key b) (key a))) ∙ up k x (omega arith) l)
+    (apart_from_distinct (eq_by_cmp cmp) (x ∷ xs) k (k + 1) x apart (omega arith) l))

@@ -26,10 +26,12 @@ pub length-ranked : (ranked : List Ranked) (pairs : List Pair) → pairs_of rank
 length-ranked ranked pairs same = sym (length-map ranked (λ (r : Ranked). r.pair.now)) ∙ ap length same
 
 -- and so many in the order of their keys
-pub length-sorted : (sorted : List Ranked) (pairs : List Pair) → pairs_of sorted ≡ by_key pairs → length sorted ≡ length pairs
+pub length-sorted : (sorted : List Ranked) (pairs : List Pair) → pairs_of sorted ≡ by_key pairs
+    → length sorted ≡ length pairs
 length-sorted sorted pairs same = length-ranked sorted (by_key pairs) same ∙ length-by_key pairs
 
--- the ranked pairs: they are few, their keys rise, their levels are drawn, and the pages of their levels are all pages, which come by rank
+-- the ranked pairs: they are few, their keys rise, their levels are drawn, and the pages of their levels are all
+-- pages, which come by rank
 pub record IsWhole (d : Draw) (pairs : List Pair) (height : ℕ) (ranked : List Ranked) : Type 0 where
   pub few : length ranked ≤ sorted_limit
   pub rising : IsStrictlySortedBy pair_cmp (pairs_of ranked)
@@ -37,11 +39,13 @@ pub record IsWhole (d : Draw) (pairs : List Pair) (height : ℕ) (ranked : List 
   pub all : flat_map (level_pages d (pairs_of ranked)) (numbers_below height) ≡ pages_of_pairs d pairs
   pub by_rank : IsStrictlySortedBy label_cmp (map (λ page. page.label) (pages_of_pairs d pairs))
 
-pub whole : (d : Draw) (height : ℕ) (pairs ranked : List Ranked) → length pairs ≤ sorted_limit → height ≡ d.height → ranked ≡ pairs → AreRanked d pairs → IsPairs (pairs_of pairs) → IsWhole d (pairs_of pairs) height ranked
+pub whole : (d : Draw) (height : ℕ) (pairs ranked : List Ranked) → length pairs ≤ sorted_limit → height ≡ d.height
+    → ranked ≡ pairs → AreRanked d pairs → IsPairs (pairs_of pairs) → IsWhole d (pairs_of pairs) height ranked
 unfolding pages_of_pairs
 whole d height pairs ranked few height_is same levels valid = record {
   few = omega (arith, ap length same);
-  rising = subst (λ rs. IsStrictlySortedBy pair_cmp (pairs_of rs)) (sym same) (rising_from_is_sorted key_cmp (pairs_of pairs) valid.sorted);
+  rising = subst (λ rs. IsStrictlySortedBy pair_cmp (pairs_of rs)) (sym same)
+      (rising_from_is_sorted key_cmp (pairs_of pairs) valid.sorted);
   levels = subst (AreRanked d) (sym same) levels;
   all = ap₂ (λ rs n. flat_map (level_pages d (pairs_of rs)) (numbers_below n)) same height_is;
   by_rank = rising_labels d (pairs_of pairs) (record {

@@ -19,7 +19,8 @@ pub fn are_layout<S: ReadSlots>(
     requires length { length layout.now ≡ params.now.slots }
     ensures reads { ReadsSlots (S.state slots.old) (S.state slots.new) result }
     ensures follows { S.follows slots.old slots.new }
-    ensures answer { IsObservable (S.state slots.old) → IfOk result (λ same. IsTrue same ↔ ((S.state slots.old).slots ≡ slots_of layout.now)) }
+    ensures answer { IsObservable (S.state slots.old)
+        → IfOk result (λ same. IsTrue same ↔ ((S.state slots.old).slots ≡ slots_of layout.now)) }
 {
     let mut slot = [0; BLOCK];
     let mut wanted = [0; BLOCK];

@@ -16,7 +16,8 @@ use node_pages::room;
 /// How many pages a level has.
 fn level_page_count(level: u8, ranked: &[Ranked]) -> u32
     requires few { length ranked.now ≤ sorted_limit }
-    ensures value { (d : Draw) → AreRanked d ranked.now → result ≡ length (level_pages d (pairs_of ranked.now) level) }
+    ensures value { (d : Draw) → AreRanked d ranked.now
+        → result ≡ length (level_pages d (pairs_of ranked.now) level) }
     ensures bound { result ≤ length ranked.now }
 {
     let room = u32::from(room(level));
@@ -34,7 +35,8 @@ fn level_page_count(level: u8, ranked: &[Ranked]) -> u32
 pub fn page_count(height: u8, ranked: &[Ranked]) -> u32
     requires few { length ranked.now ≤ sorted_limit }
     requires low { height ≤ height_limit }
-    ensures { (d : Draw) → AreRanked d ranked.now → result ≡ length (flat_map (level_pages d (pairs_of ranked.now)) (numbers_below height)) }
+    ensures { (d : Draw) → AreRanked d ranked.now
+        → result ≡ length (flat_map (level_pages d (pairs_of ranked.now)) (numbers_below height)) }
 {
     let mut count = 0;
     for level in 0..height {

@@ -40,7 +40,8 @@ impl PageCounter {
     /// How many keys came.
     pub fn keys(&self) -> u32
         ensures value { result ≡ self.now.keys }
-        ensures counted { (d : draws.Draw) (keys : List (List ℕ)) → HasCounted d keys self.now → result ≡ length keys }
+        ensures counted { (d : draws.Draw) (keys : List (List ℕ)) → HasCounted d keys self.now
+            → result ≡ length keys }
     {
         self.keys
     }
@@ -48,7 +49,9 @@ impl PageCounter {
     /// How many pages the pairs have whose keys came, whatever their values are.
     pub fn pages(&self) -> u32
         ensures value { result ≡ self.now.pages }
-        ensures counted { (d : draws.Draw) (s : List Pair) → HasCounted d (map (λ pair. pair.0) s) self.now → result ≡ length (pages_of_pairs d s) }
+        ensures counted { (d : draws.Draw) (s : List Pair)
+            → HasCounted d (map (λ pair. pair.0) s) self.now
+            → result ≡ length (pages_of_pairs d s) }
     {
         self.pages
     }
@@ -58,7 +61,8 @@ impl PageCounter {
     pub fn add<W: Draw>(&mut self, draw: &W, front: &mut Front, key: &Key)
         requires height { (W.drawn draw.now).height ≤ height_limit }
         requires few { self.old.keys < sorted_limit }
-        ensures counted { (keys : List (List ℕ)) → HasCounted (W.drawn draw.now) keys self.old → HasCounted (W.drawn draw.now) (keys ++ key.now ∷ []) self.new }
+        ensures counted { (keys : List (List ℕ)) → HasCounted (W.drawn draw.now) keys self.old
+            → HasCounted (W.drawn draw.now) (keys ++ key.now ∷ []) self.new }
         ensures grows { self.old.pages ≤ self.new.pages }
         ensures keys { self.new.keys ≡ self.old.keys + 1 }
     {

@@ -30,7 +30,8 @@ fn cut_level(
     pages: &mut PageList,
 ) -> Result<(), NoMemory>
     requires { IsStrictlySortedBy pair_cmp (pairs_of ranked.now) }
-    ensures { OnOk result ((d : draws.Draw) → AreRanked d ranked.now → pages.new ≡ pages.old ++ level_pages d (pairs_of ranked.now) level) }
+    ensures { OnOk result ((d : draws.Draw) → AreRanked d ranked.now
+        → pages.new ≡ pages.old ++ level_pages d (pairs_of ranked.now) level) }
 {
     let mut start = 0;
     while start < ranked.len() {
@@ -45,7 +46,8 @@ fn cut_level(
 /// The pages of the levels below a height.
 fn cut_levels(alloc: Global, height: u8, ranked: &[Ranked]) -> Result<PageList, NoMemory>
     requires { IsStrictlySortedBy pair_cmp (pairs_of ranked.now) }
-    ensures { IfOk result (λ pages. (d : draws.Draw) → AreRanked d ranked.now → pages ≡ flat_map (level_pages d (pairs_of ranked.now)) (numbers_below height)) }
+    ensures { IfOk result (λ pages. (d : draws.Draw) → AreRanked d ranked.now
+        → pages ≡ flat_map (level_pages d (pairs_of ranked.now)) (numbers_below height)) }
 {
     let mut pages = PageList::new(alloc);
     for level in 0..height {
@@ -54,8 +56,8 @@ fn cut_levels(alloc: Global, height: u8, ranked: &[Ranked]) -> Result<PageList, 
     Ok(pages)
 }
 
-/// The pages of pairs whose keys rise, level after level and group after group. `Full` comes exactly where they are more
-/// than the draw's slots.
+/// The pages of pairs whose keys rise, level after level and group after group. `Full` comes exactly where they are
+/// more than the draw's slots.
 pub fn cut_pages<W: Draw>(
     alloc: Global,
     draw: &W,
@@ -65,10 +67,14 @@ pub fn cut_pages<W: Draw>(
     requires levels { AreRanked (W.drawn draw.now) pairs.items }
     requires few { length pairs.items ≤ sorted_limit }
     requires height { (W.drawn draw.now).height ≤ height_limit }
-    ensures value { IfOk result (λ pages. pages ≡ pages_of_pairs (W.drawn draw.now) (pairs_of pairs.entry.items)) }
+    ensures value { IfOk result
+        (λ pages. pages ≡ pages_of_pairs (W.drawn draw.now) (pairs_of pairs.entry.items)) }
     ensures fits { IfOk result (λ pages. length pages ≤ (W.drawn draw.now).slots) }
-    ensures ranked { IfOk result (λ pages. IsStrictlySortedBy label_cmp (map (λ page. page.label) pages)) }
-    ensures full { IfErr result (RefusesPages (W.drawn draw.now) (pages_of_pairs (W.drawn draw.now) (pairs_of pairs.entry.items))) }
+    ensures ranked { IfOk result
+        (λ pages. IsStrictlySortedBy label_cmp (map (λ page. page.label) pages)) }
+    ensures full { IfErr result
+        (RefusesPages (W.drawn draw.now)
+        (pages_of_pairs (W.drawn draw.now) (pairs_of pairs.entry.items))) }
 {
     let ranked = pairs.as_slice();
     let height = draw.height();

@@ -27,9 +27,15 @@ fn lay_out<W: Draw>(alloc: Global, draw: &W, pairs: Vec<Ranked>) -> Result<Layou
     requires levels { AreRanked (W.drawn draw.now) pairs.items }
     requires few { length pairs.items ≤ sorted_limit }
     requires height { (W.drawn draw.now).height ≤ height_limit }
-    ensures value { IfOk result (λ layout. layout ≡ place (W.drawn draw.now) (pages_of_pairs (W.drawn draw.now) (pairs_of pairs.entry.items))) }
-    ensures fits { IfOk result (λ _. length (pages_of_pairs (W.drawn draw.now) (pairs_of pairs.entry.items)) ≤ (W.drawn draw.now).slots) }
-    ensures full { IfErr result (RefusesPages (W.drawn draw.now) (pages_of_pairs (W.drawn draw.now) (pairs_of pairs.entry.items))) }
+    ensures value { IfOk result
+        (λ layout. layout ≡ place (W.drawn draw.now)
+        (pages_of_pairs (W.drawn draw.now) (pairs_of pairs.entry.items))) }
+    ensures fits { IfOk result
+        (λ _. length (pages_of_pairs (W.drawn draw.now) (pairs_of pairs.entry.items))
+        ≤ (W.drawn draw.now).slots) }
+    ensures full { IfErr result
+        (RefusesPages (W.drawn draw.now)
+        (pages_of_pairs (W.drawn draw.now) (pairs_of pairs.entry.items))) }
 {
     let pages = cut_pages(alloc, draw, pairs)?;
     Ok(place_pages(alloc, draw, pages)?)
@@ -40,8 +46,11 @@ fn build_by<W: Draw>(alloc: Global, draw: &W, pairs: &PairList) -> Result<Layout
     requires distinct { HasDistinctKeys pairs.now }
     requires few { length pairs.now ≤ sorted_limit }
     requires height { (W.drawn draw.now).height ≤ height_limit }
-    ensures value { IfOk result (λ layout. layout ≡ place (W.drawn draw.now) (pages_of_pairs (W.drawn draw.now) (by_key pairs.now))) }
-    ensures fits { IfOk result (λ _. length (pages_of_pairs (W.drawn draw.now) (by_key pairs.now)) ≤ (W.drawn draw.now).slots) }
+    ensures value { IfOk result
+        (λ layout. layout ≡ place (W.drawn draw.now)
+        (pages_of_pairs (W.drawn draw.now) (by_key pairs.now))) }
+    ensures fits { IfOk result (λ _. length (pages_of_pairs (W.drawn draw.now) (by_key pairs.now))
+        ≤ (W.drawn draw.now).slots) }
     ensures full { IfErr result (IsRefusal (W.drawn draw.now) pairs.now) }
 {
     let sorted = sorted_pairs(alloc, draw, pairs)?;
@@ -57,9 +66,13 @@ fn build_sorted_by<W: Draw>(
     requires rising { IsPairs pairs.now }
     requires few { length pairs.now ≤ sorted_limit }
     requires height { (W.drawn draw.now).height ≤ height_limit }
-    ensures value { IfOk result (λ layout. layout ≡ place (W.drawn draw.now) (pages_of_pairs (W.drawn draw.now) pairs.now)) }
-    ensures fits { IfOk result (λ _. length (pages_of_pairs (W.drawn draw.now) pairs.now) ≤ (W.drawn draw.now).slots) }
-    ensures full { IfErr result (RefusesPages (W.drawn draw.now) (pages_of_pairs (W.drawn draw.now) pairs.now)) }
+    ensures value { IfOk result
+        (λ layout. layout ≡ place (W.drawn draw.now)
+        (pages_of_pairs (W.drawn draw.now) pairs.now)) }
+    ensures fits { IfOk result (λ _. length (pages_of_pairs (W.drawn draw.now) pairs.now)
+        ≤ (W.drawn draw.now).slots) }
+    ensures full { IfErr result
+        (RefusesPages (W.drawn draw.now) (pages_of_pairs (W.drawn draw.now) pairs.now)) }
 {
     let ranked = ranked_pairs(alloc, draw, pairs)?;
     lay_out(alloc, draw, ranked)
@@ -80,8 +93,11 @@ fn reveal_params(params: &Params)
 pub fn build(alloc: Global, params: &Params, pairs: &PairList) -> Result<Layout, ScratchFault>
     requires distinct { HasDistinctKeys pairs.now }
     requires few { length pairs.now ≤ sorted_limit }
-    ensures value { IfOk result (λ layout. layout ≡ place (draw_of params.now) (pages_of_pairs (draw_of params.now) (by_key pairs.now))) }
-    ensures fits { IfOk result (λ _. length (pages_of_pairs (draw_of params.now) (by_key pairs.now)) ≤ params.now.slots) }
+    ensures value { IfOk result
+        (λ layout. layout ≡ place (draw_of params.now)
+        (pages_of_pairs (draw_of params.now) (by_key pairs.now))) }
+    ensures fits { IfOk result
+        (λ _. length (pages_of_pairs (draw_of params.now) (by_key pairs.now)) ≤ params.now.slots) }
     ensures full { IfErr result (IsRefusal (draw_of params.now) pairs.now) }
 {
     reveal_params(params);
@@ -99,9 +115,13 @@ pub fn build_sorted(
 ) -> Result<Layout, ScratchFault>
     requires rising { IsPairs pairs.now }
     requires few { length pairs.now ≤ sorted_limit }
-    ensures value { IfOk result (λ layout. layout ≡ place (draw_of params.now) (pages_of_pairs (draw_of params.now) pairs.now)) }
-    ensures fits { IfOk result (λ _. length (pages_of_pairs (draw_of params.now) pairs.now) ≤ params.now.slots) }
-    ensures full { IfErr result (RefusesPages (draw_of params.now) (pages_of_pairs (draw_of params.now) pairs.now)) }
+    ensures value { IfOk result
+        (λ layout. layout ≡ place (draw_of params.now)
+        (pages_of_pairs (draw_of params.now) pairs.now)) }
+    ensures fits { IfOk result
+        (λ _. length (pages_of_pairs (draw_of params.now) pairs.now) ≤ params.now.slots) }
+    ensures full { IfErr result
+        (RefusesPages (draw_of params.now) (pages_of_pairs (draw_of params.now) pairs.now)) }
 {
     reveal_params(params);
     build_sorted_by(alloc, &AnyDraw::new(params), pairs)

@@ -45,7 +45,8 @@ pub fn cell_count(level: u8, group: &[Ranked]) -> u32
 pub fn lead_of_group(level: u8, group: &[Ranked]) -> Lead
     requires some { 1 ≤ length group.now }
     requires uncut { AllByRecursion (λ other. other.level ≤ level) (drop 1 group.now) }
-    ensures { (d : Draw) → AreRanked d group.now → model_lead result ≡ model.lead_of d level (cells_on level group.now) }
+    ensures { (d : Draw) → AreRanked d group.now
+        → model_lead result ≡ model.lead_of d level (cells_on level group.now) }
 {
     let first = &group[0];
     if first.level > level {
@@ -70,7 +71,10 @@ fn cell(level: u8, pair: &(Key, Value)) -> Result<Cell, NoMemory>
 
 /// The cells of a group.
 pub fn cells_of_group(alloc: Global, level: u8, group: &[Ranked]) -> Result<Cells, NoMemory>
-    ensures { IfOk result (λ cells. cells ≡ record { level = level; cells = cells_on level group.now }) }
+    ensures { IfOk result (λ cells. cells ≡ record {
+      level = level;
+      cells = cells_on level group.now;
+    }) }
 {
     let mut cells = Cells::new(alloc, level);
     for ranked in group {

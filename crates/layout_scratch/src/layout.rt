@@ -43,7 +43,8 @@ impl Layout {
     #[tactic(auto, unfolding(store_model::specs::Images::slot_bytes))]
     pub fn slot(&self, at: u32, into: &mut Slot)
         requires { at < length self.now }
-        ensures { (held : Option model.Page) → slice_get self.now at ≡ Some held → into.new ≡ slot_bytes held }
+        ensures { (held : Option model.Page) → slice_get self.now at ≡ Some held
+            → into.new ≡ slot_bytes held }
     {
         match self.places[at as usize] {
             Some(number) => *into = *self.pages.get(number).as_slot(),
@@ -55,8 +56,10 @@ impl Layout {
     #[tactic(auto, unfolding(store_model::specs::Images::slot_bytes))]
     pub fn look(&self, at: u32) -> Option<&Slot>
         requires { at < length self.now }
-        ensures page { (held : Option model.Page) → slice_get self.now at ≡ Some held → is_some result ≡ is_some held }
-        ensures bytes { (held : Option model.Page) → slice_get self.now at ≡ Some held → IfSome result (λ slot. slot.now ≡ slot_bytes held) }
+        ensures page { (held : Option model.Page) → slice_get self.now at ≡ Some held
+            → is_some result ≡ is_some held }
+        ensures bytes { (held : Option model.Page) → slice_get self.now at ≡ Some held
+            → IfSome result (λ slot. slot.now ≡ slot_bytes held) }
     {
         match self.places[at as usize] {
             Some(number) => Some(self.pages.get(number).as_slot()),

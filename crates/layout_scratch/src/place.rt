@@ -28,7 +28,8 @@ fn first_free(places: &[Option<u32>], start: usize) -> Option<usize>
     requires { start < length places.now }
     ensures within { IfSome result (λ at. at < length places.now) }
     ensures value { (pages : List model.Page) → AllByRecursion (IsNumber pages) places.now
-        → result ≡ find (is_free (table_of pages places.now)) (map (probe (length places.now) start) (numbers_below (length places.now))) }
+        → result ≡ find (is_free (table_of pages places.now))
+        (map (probe (length places.now) start) (numbers_below (length places.now))) }
 {
     let (before, behind) = places.split_at(start);
     match first_none(behind) {

@@ -27,18 +27,21 @@ under t p image is = record { is_tree = is.tree; bare = is.fits.bare }
 
 -- ---- a dump that is loaded again
 
-pub copies_image : (t : Tree) (p : Parameters) (disk : Disk) (lines : SinkMemory) (empty : Disk) (source : SourceMemory) (sink : SinkMemory) (copied : Copied)
+pub copies_image : (t : Tree) (p : Parameters) (disk : Disk) (lines : SinkMemory) (empty : Disk) (source : SourceMemory)
+    (sink : SinkMemory) (copied : Copied)
     → ((t : Tree) (p : Parameters) → IsParameters p → IsTreeUnder t p → Fits t p → length (dump_text t) ≤ script_limit)
     → ((t : Tree) (p : Parameters) → IsTreeUnder t p → IsListing t (dump_text t))
     → Represents (bytes_of disk) t p → lines.written ≡ [] → source.left ≡ copied.dump.sink.written
-    → SaysTree t p disk lines copied.dump → LoadsListing empty_tree p empty source sink copied.load → CopiesImage t p empty sink copied
+    → SaysTree t p disk lines copied.dump → LoadsListing empty_tree p empty source sink copied.load
+    → CopiesImage t p empty sink copied
 copies_image t p disk lines empty source sink copied short listing represents none left dump load = record {
   image = image;
   same = λ dumped loaded. (image dumped loaded).bytes ∙ sym (dump.image (inl dumped)).bytes;
   complete = λ dumped spared.
       let source_spared = spared.source_spared in
       load.complete refl t (says dumped) represents.fits.room
-      (subst (λ (text : List ℕ). length text ≤ script_limit) (sym (text dumped)) (short t p represents.names.in_range (under t p (bytes_of disk) represents) represents.fits))
+      (subst (λ (text : List ℕ). length text ≤ script_limit) (sym (text dumped))
+      (short t p represents.names.in_range (under t p (bytes_of disk) represents) represents.fits))
       (record {
         disk_spared = spared.disk_spared;
         source_spared = λ rose. absurd (omega (arith, source_spared, rose));
@@ -61,32 +64,43 @@ copies_image t p disk lines empty source sink copied short listing represents no
 -- ---- a load that is a run
 
 -- where each line is answered so, the replies are as many of these texts as there are lines
-acknowledged_text : (t : Tree) (texts : List (List ℕ)) (p : Parameters) → AllByRecursion (λ reply. reply ≡ Acknowledged) (replies t texts p)
+acknowledged_text : (t : Tree) (texts : List (List ℕ)) (p : Parameters)
+    → AllByRecursion (λ reply. reply ≡ Acknowledged) (replies t texts p)
     → replies_text (replies t texts p) ≡ flat_map (λ (text : List ℕ). line (codes "ok")) texts
 unfolding replies replies_by replies_text reply_text
 acknowledged_text t [] p all = refl
 acknowledged_text t (text ∷ texts) p all =
-    ap (λ (reply : Reply). reply_text reply ++ replies_text (replies (answer t text p).tree texts p)) all.0 ∙ ap (λ (rest : List ℕ). line (codes "ok") ++ rest) (acknowledged_text (answer t text p).tree texts p all.1)
+    ap (λ (reply : Reply). reply_text reply ++ replies_text (replies (answer t text p).tree texts p)) all.0
+    ∙ ap (λ (rest : List ℕ). line (codes "ok") ++ rest) (acknowledged_text (answer t text p).tree texts p all.1)
 
-pub loads_as_run : (p : Parameters) (loaded run : Disk) (source other : SourceMemory) (sink run_sink : SinkMemory) (both : LoadAndRun)
-    → ((t : Tree) (p : Parameters) (script : List ℕ) → IsTreeUnder t p → Fits t p → IsListing t script → RunsListing t p script)
+pub loads_as_run : (p : Parameters) (loaded run : Disk) (source other : SourceMemory)
+    (sink run_sink : SinkMemory) (both : LoadAndRun)
+    → ((t : Tree) (p : Parameters) (script : List ℕ) → IsTreeUnder t p → Fits t p → IsListing t script
+    → RunsListing t p script)
     → other.left ≡ source.left
-    → LoadsListing empty_tree p loaded source sink both.load → AnswersScript empty_tree p run other run_sink both.run → LoadsAsRun source.left p run_sink both
+    → LoadsListing empty_tree p loaded source sink both.load → AnswersScript empty_tree p run other run_sink both.run
+    → LoadsAsRun source.left p run_sink both
 loads_as_run p loaded run source other sink run_sink both law same load answers = record {
   same = λ done ended.
       let some = load.said done in
-      (load.loaded done some.0 some.1).bytes ∙ sym (subst (λ (t : Tree). HasImage both.run.disk t p) (runs done).tree (image ended)).bytes;
+      (load.loaded done some.0 some.1).bytes
+      ∙ sym (subst (λ (t : Tree). HasImage both.run.disk t p) (runs done).tree (image ended)).bytes;
   answered = λ done ended.
       answers.replied ended
       ∙ ap (λ (script : List ℕ). run_sink.written ++ replies_text (replies empty_tree (lines script) p)) same
-      ∙ ap (λ (text : List ℕ). run_sink.written ++ text) (acknowledged_text empty_tree (lines source.left) p (runs done).acknowledged);
+      ∙ ap (λ (text : List ℕ). run_sink.written ++ text)
+      (acknowledged_text empty_tree (lines source.left) p (runs done).acknowledged);
 }
   where
     -- what a run of the lines does
     runs : (done : both.load.status ≡ statuses.Done) → RunsListing (load.said done).0 p source.left
     runs done =
         let some = load.said done in
-        law some.0 p source.left some.1.under (record { room = load.room done some.0 some.1; bare = some.1.under.bare }) some.1.listing
+        law some.0 p source.left some.1.under (record {
+          room = load.room done some.0 some.1;
+          bare = some.1.under.bare;
+        }) some.1.listing
 
     image : both.run.status ≡ statuses.Done → HasImage both.run.disk (tree_after empty_tree (lines source.left) p) p
-    image ended = subst (λ (script : List ℕ). HasImage both.run.disk (tree_after empty_tree (lines script) p) p) same (answers.image ended)
+    image ended = subst (λ (script : List ℕ). HasImage both.run.disk (tree_after empty_tree (lines script) p) p)
+        same (answers.image ended)

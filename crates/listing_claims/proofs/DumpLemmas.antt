@@ -12,7 +12,8 @@ use Rattle.listing_claims.specs.Dumped.{SaysTree}
 use Rattle.listing_claims.proofs.Statuses.{dump_ends}
 
 pub says_tree : (t : Tree) (p : Parameters) (disk : Disk) (source : SourceMemory) (sink : SinkMemory) (after : Ended)
-    → IsDump meaning sink_state (outside_of disk source sink) after → Represents (bytes_of disk) t p → SaysTree t p disk sink after
+    → IsDump meaning sink_state (outside_of disk source sink) after → Represents (bytes_of disk) t p
+    → SaysTree t p disk sink after
 says_tree t p disk source sink after dump represents =
     let on_disk = dump.observed refl in
     let dumps = on_disk.dumps t p represents in
@@ -24,7 +25,8 @@ says_tree t p disk source sink after dump represents =
       in_part = (dumps.put refl).in_part;
       complete = dumps.complete;
       image = λ e. image_of after.disk t p (dumps.stands e);
-      no_memory = λ e. ⊎_elim (λ stands. inl (image_of after.disk t p stands)) (λ leaves. inr leaves.crash.each) (dumps.no_memory e);
+      no_memory = λ e. ⊎_elim (λ stands. inl (image_of after.disk t p stands))
+          (λ leaves. inr leaves.crash.each) (dumps.no_memory e);
       reads = dumps.reads;
       crash = dumps.crash.each;
       costs = dumps.made;

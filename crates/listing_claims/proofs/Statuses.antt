@@ -5,12 +5,14 @@ use Rattle.image_subcommands.specs.declared.status.Status.{Status}
 use Rattle.image_subcommands.specs.declared.status.Status.TheVariants as statuses
 use Rattle.image_subcommands.specs.Statuses.{Subcommand as words, IsStatusOf, MayComeFirst}
 use Rattle.listing_subcommands.specs.LoadCall.{LoadsNothing, EndsBeforeListing}
-use Rattle.listing_subcommands.specs.LoadCall.LoadsNothing.{SourceFault, SinkFault, TooLong, NotEmpty, BadListing, TooFull}
+use Rattle.listing_subcommands.specs.LoadCall.LoadsNothing.{SourceFault, SinkFault, TooLong, NotEmpty, BadListing}
+use Rattle.listing_subcommands.specs.LoadCall.LoadsNothing.{TooFull}
 use Rattle.listing_claims.specs.Dumped.{IsPutOut}
 use Rattle.listing_claims.specs.Loaded.{IsNotLoaded, IsUnjudged}
 
 -- a dump that opened an image of a tree ends in one of these ways
-pub dump_ends : (status : Status) → IsStatusOf words.Dump status → (status ≡ statuses.NotImage → ⊥) → (status ≡ statuses.Damaged → ⊥)
+pub dump_ends : (status : Status) → IsStatusOf words.Dump status → (status ≡ statuses.NotImage → ⊥)
+    → (status ≡ statuses.Damaged → ⊥)
     → IsPutOut status ⊎ ((status ≡ statuses.DiskFault) ⊎ (status ≡ statuses.NoMemory))
 dump_ends statuses.Done ends image whole = inl (inl refl)
 dump_ends statuses.Usage ends image whole = absurd (false≢true ends)

@@ -17,7 +17,8 @@ pub record SparesLoad (empty : Disk) (sink : SinkMemory) (copied : Copied) : Typ
 -- An image of the tree was dumped, and what was put out was loaded into an empty one of the same parameters.
 pub record CopiesImage (t : Tree) (p : Parameters) (empty : Disk) (sink : SinkMemory) (copied : Copied) : Type 0 where
   pub image : copied.dump.status ≡ statuses.Done → copied.load.status ≡ statuses.Done → HasImage copied.load.disk t p
-  pub same : copied.dump.status ≡ statuses.Done → copied.load.status ≡ statuses.Done → bytes_of copied.load.disk ≡ bytes_of copied.dump.disk
+  pub same : copied.dump.status ≡ statuses.Done → copied.load.status ≡ statuses.Done
+      → bytes_of copied.load.disk ≡ bytes_of copied.dump.disk
   -- a whole dump is loaded where no call of the load failed and memory was there
   pub complete : copied.dump.status ≡ statuses.Done → SparesLoad empty sink copied
       → (copied.load.status ≡ statuses.Done) ⊎ (copied.load.status ≡ statuses.NoMemory)

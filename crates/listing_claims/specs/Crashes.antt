@@ -8,12 +8,15 @@ use Rattle.script_claims.specs.declared.crash.Crash.{Crash}
 use Rattle.script_claims.specs.Crashes.{NeverFailed}
 use Rattle.script_claims.specs.Machines.{HasImage, MayLeave, MightHaveLeft}
 
--- A load of a listing of the tree into an empty image was cut short, and a run of no line was made on this image, which a crash left.
+-- A load of a listing of the tree into an empty image was cut short, and a run of no line was made on this image,
+-- which a crash left.
 pub record LeavesAllOrNothing (t : Tree) (p : Parameters) (disk : Memory) (left : List ℕ) (crash : Crash) : Type 0 where
   -- where the run ended with 0
   pub either : MightHaveLeft (memory_state disk).clock crash.first.disk left → crash.next.status ≡ statuses.Done
       → HasImage crash.next.disk empty_tree p ⊎ HasImage crash.next.disk t p
   -- of an image that a crash behind a load that was done may leave
-  pub acknowledged : crash.first.status ≡ statuses.Done → MayLeave crash.first.disk left → crash.next.status ≡ statuses.Done → HasImage crash.next.disk t p
+  pub acknowledged : crash.first.status ≡ statuses.Done → MayLeave crash.first.disk left
+      → crash.next.status ≡ statuses.Done → HasImage crash.next.disk t p
   -- and it ends so where no call of it failed and memory was there
-  pub recovers : MightHaveLeft (memory_state disk).clock crash.first.disk left → NeverFailed crash.next → (crash.next.status ≡ statuses.Done) ⊎ (crash.next.status ≡ statuses.NoMemory)
+  pub recovers : MightHaveLeft (memory_state disk).clock crash.first.disk left → NeverFailed crash.next
+      → (crash.next.status ≡ statuses.Done) ⊎ (crash.next.status ≡ statuses.NoMemory)

@@ -37,8 +37,14 @@ pub record SaysTree (t : Tree) (p : Parameters) (disk : Disk) (sink : SinkMemory
   pub image : IsPutOut after.status → HasImage after.disk t p
   pub no_memory : after.status ≡ statuses.NoMemory → HasImage after.disk t p ⊎ IsAsBefore disk after.disk
   pub reads : Represents (bytes_of after.disk) t p
-  pub crash : (image : List ℕ) → MightHaveLeft (meaning disk).clock after.disk image → (meaning disk).crash_images image ⊎ Represents image t p
-  -- just the writes and syncs are made that opening the image takes; so where no crash is to be recovered from, nothing is written
-  pub costs : IsPutOut after.status → Made (opening_writes p.slots (bytes_of disk)) (opening_syncs p.slots (bytes_of disk)) (meaning disk) (meaning after.disk)
-  pub limit : MadeAtMost (opening_writes p.slots (bytes_of disk)) (opening_syncs p.slots (bytes_of disk)) (meaning disk) (meaning after.disk)
-  pub unwritten : HasEmptyJournal p.slots (bytes_of disk) → (after.status ≡ statuses.DiskFault → ⊥) → IsUnwritten (meaning disk) (meaning after.disk)
+  pub crash : (image : List ℕ) → MightHaveLeft (meaning disk).clock after.disk image
+      → (meaning disk).crash_images image ⊎ Represents image t p
+  -- just the writes and syncs are made that opening the image takes; so where no crash is to be recovered from,
+  -- nothing is written
+  pub costs : IsPutOut after.status
+      → Made (opening_writes p.slots (bytes_of disk)) (opening_syncs p.slots (bytes_of disk))
+      (meaning disk) (meaning after.disk)
+  pub limit : MadeAtMost (opening_writes p.slots (bytes_of disk)) (opening_syncs p.slots (bytes_of disk))
+      (meaning disk) (meaning after.disk)
+  pub unwritten : HasEmptyJournal p.slots (bytes_of disk) → (after.status ≡ statuses.DiskFault → ⊥)
+      → IsUnwritten (meaning disk) (meaning after.disk)

@@ -30,7 +30,8 @@ full_line t p = line (codes "no full " ++ decimal (page_count t p) ++ codes " " 
 
 -- the call ended before the listing was judged: a take, the disk or memory failed, or the script is too long
 abbrev pub IsUnjudged : Status → Type 0
-IsUnjudged status = (status ≡ statuses.SourceFault) ⊎ (status ≡ statuses.TooLong) ⊎ (status ≡ statuses.DiskFault) ⊎ (status ≡ statuses.NoMemory)
+IsUnjudged status = (status ≡ statuses.SourceFault) ⊎ (status ≡ statuses.TooLong) ⊎ (status ≡ statuses.DiskFault)
+    ⊎ (status ≡ statuses.NoMemory)
 
 -- nothing was loaded, and the disk did not fail
 abbrev pub IsNotLoaded : Status → Type 0
@@ -45,15 +46,20 @@ SaysTooMany p script = (t : Tree) × (Says p script t × (p.slots < page_count t
 abbrev pub SaysNone : Parameters → List ℕ → Type 0
 SaysNone p script = (t : Tree) → Says p script t → ⊥
 
--- Nothing is loaded: the image is that of the tree that it had, whenever a crash comes, and what is written is what opening it takes.
+-- Nothing is loaded: the image is that of the tree that it had, whenever a crash comes, and what is written is what
+-- opening it takes.
 pub record LeavesTree (u : Tree) (p : Parameters) (disk : Disk) (after : Ended) : Type 0 where
   pub reads : Represents (bytes_of after.disk) u p
-  pub crash : (image : List ℕ) → MightHaveLeft (meaning disk).clock after.disk image → (meaning disk).crash_images image ⊎ Represents image u p
-  pub limit : MadeAtMost (opening_writes p.slots (bytes_of disk)) (opening_syncs p.slots (bytes_of disk)) (meaning disk) (meaning after.disk)
-  pub unwritten : HasEmptyJournal p.slots (bytes_of disk) → (after.status ≡ statuses.DiskFault → ⊥) → IsUnwritten (meaning disk) (meaning after.disk)
+  pub crash : (image : List ℕ) → MightHaveLeft (meaning disk).clock after.disk image
+      → (meaning disk).crash_images image ⊎ Represents image u p
+  pub limit : MadeAtMost (opening_writes p.slots (bytes_of disk)) (opening_syncs p.slots (bytes_of disk))
+      (meaning disk) (meaning after.disk)
+  pub unwritten : HasEmptyJournal p.slots (bytes_of disk) → (after.status ≡ statuses.DiskFault → ⊥)
+      → IsUnwritten (meaning disk) (meaning after.disk)
 
 -- A load into an image of the tree u.
-pub record LoadsListing (u : Tree) (p : Parameters) (disk : Disk) (source : SourceMemory) (sink : SinkMemory) (after : Ended) : Type 0 where
+pub record LoadsListing (u : Tree) (p : Parameters) (disk : Disk) (source : SourceMemory) (sink : SinkMemory)
+    (after : Ended) : Type 0 where
   -- where it is done
   pub was_empty : after.status ≡ statuses.Done → u ≡ empty_tree
   pub said : after.status ≡ statuses.Done → (t : Tree) × Says p source.left t
@@ -62,22 +68,28 @@ pub record LoadsListing (u : Tree) (p : Parameters) (disk : Disk) (source : Sour
   pub read : after.status ≡ statuses.Done → after.source.left ≡ []
   -- by the writes and syncs of opening the image and those of one commit of the slots that hold its pages
   pub costs : after.status ≡ statuses.Done → (t : Tree) → Says p source.left t
-      → Made (opening_writes p.slots (bytes_of disk) + commit_writes (page_count t p)) (opening_syncs p.slots (bytes_of disk) + commit_syncs (page_count t p)) (meaning disk) (meaning after.disk)
+      → Made (opening_writes p.slots (bytes_of disk) + commit_writes (page_count t p))
+      (opening_syncs p.slots (bytes_of disk) + commit_syncs (page_count t p)) (meaning disk) (meaning after.disk)
   -- the image that is not empty, and nothing was taken
   pub not_empty : after.status ≡ statuses.NotEmpty → u ≢ empty_tree
-  pub empty_only : u ≢ empty_tree → (after.status ≡ statuses.NotEmpty) ⊎ (after.status ≡ statuses.DiskFault) ⊎ (after.status ≡ statuses.NoMemory)
+  pub empty_only : u ≢ empty_tree → (after.status ≡ statuses.NotEmpty) ⊎ (after.status ≡ statuses.DiskFault)
+      ⊎ (after.status ≡ statuses.NoMemory)
   pub not_taken : after.status ≡ statuses.NotEmpty → after.source ≡ source
   -- the lines that say no tree, and the whole source was taken
   pub bad_listing : after.status ≡ statuses.BadListing → SaysNone p source.left
-  pub listing_only : u ≡ empty_tree → SaysNone p source.left → (after.status ≡ statuses.BadListing) ⊎ IsUnjudged after.status
+  pub listing_only : u ≡ empty_tree → SaysNone p source.left
+      → (after.status ≡ statuses.BadListing) ⊎ IsUnjudged after.status
   pub taken : after.status ≡ statuses.BadListing → after.source.left ≡ []
   -- the tree that is too large, and both numbers were printed
   pub too_full : after.status ≡ statuses.TooFull → SaysTooMany p source.left
-  pub full_only : u ≡ empty_tree → (t : Tree) → Says p source.left t → p.slots < page_count t p → (after.status ≡ statuses.TooFull) ⊎ (after.status ≡ statuses.SinkFault) ⊎ IsUnjudged after.status
-  pub printed : after.status ≡ statuses.TooFull → (t : Tree) → Says p source.left t → after.sink.written ≡ sink.written ++ full_line t p
+  pub full_only : u ≡ empty_tree → (t : Tree) → Says p source.left t → p.slots < page_count t p
+      → (after.status ≡ statuses.TooFull) ⊎ (after.status ≡ statuses.SinkFault) ⊎ IsUnjudged after.status
+  pub printed : after.status ≡ statuses.TooFull → (t : Tree) → Says p source.left t
+      → after.sink.written ≡ sink.written ++ full_line t p
   -- or the sink failed, and took a front of that line
   pub unprinted : after.status ≡ statuses.SinkFault → SaysTooMany p source.left
-  pub in_part : after.status ≡ statuses.SinkFault → (t : Tree) → Says p source.left t → AppendsPrefix sink.written after.sink.written (full_line t p)
+  pub in_part : after.status ≡ statuses.SinkFault → (t : Tree) → Says p source.left t
+      → AppendsPrefix sink.written after.sink.written (full_line t p)
   -- what else is printed: nothing
   pub silent : after.status ≢ statuses.TooFull → after.status ≢ statuses.SinkFault → after.sink ≡ sink
   -- where nothing is loaded the image is that of the tree that it had
@@ -87,14 +99,19 @@ pub record LoadsListing (u : Tree) (p : Parameters) (disk : Disk) (source : Sour
   -- however the call ends, nothing is loaded into an image that is not empty, or of lines that say no tree
   pub left_full : u ≢ empty_tree → LeavesTree u p disk after
   pub left_unsaid : SaysNone p source.left → LeavesTree u p disk after
-  -- a load of a listing whose tree fits into an empty image is done where the script keeps its limit, no call failed and memory was there
-  pub complete : u ≡ empty_tree → (t : Tree) → Says p source.left t → page_count t p ≤ p.slots → length source.left ≤ script_limit
+  -- a load of a listing whose tree fits into an empty image is done where the script keeps its limit, no call failed
+  -- and memory was there
+  pub complete : u ≡ empty_tree → (t : Tree) → Says p source.left t → page_count t p ≤ p.slots
+      → length source.left ≤ script_limit
       → NothingFailed disk source sink after → (after.status ≡ statuses.Done) ⊎ (after.status ≡ statuses.NoMemory)
 
--- A load into an empty image, of lines that say a tree, is whole or nothing: an image that a crash at some moment of it may leave, or at
--- its end, is one that a crash before might have left, or one of the empty tree or of the tree that they say; and so is what is read.
+-- A load into an empty image, of lines that say a tree, is whole or nothing: an image that a crash at some moment of
+-- it may leave, or at its end, is one that a crash before might have left, or one of the empty tree or of the tree
+-- that they say; and so is what is read.
 pub record LoadsAllOrNothing (t : Tree) (p : Parameters) (disk : Disk) (after : Ended) : Type 0 where
-  pub crash : (image : List ℕ) → MightHaveLeft (meaning disk).clock after.disk image → (meaning disk).crash_images image ⊎ (Represents image empty_tree p ⊎ Represents image t p)
+  pub crash : (image : List ℕ) → MightHaveLeft (meaning disk).clock after.disk image
+      → (meaning disk).crash_images image ⊎ (Represents image empty_tree p ⊎ Represents image t p)
   pub reads : Represents (bytes_of after.disk) empty_tree p ⊎ Represents (bytes_of after.disk) t p
   -- and no more is written than one commit takes
-  pub limit : MadeAtMost (opening_writes p.slots (bytes_of disk) + commit_writes (page_count t p)) (opening_syncs p.slots (bytes_of disk) + commit_syncs (page_count t p)) (meaning disk) (meaning after.disk)
+  pub limit : MadeAtMost (opening_writes p.slots (bytes_of disk) + commit_writes (page_count t p))
+      (opening_syncs p.slots (bytes_of disk) + commit_syncs (page_count t p)) (meaning disk) (meaning after.disk)

@@ -11,6 +11,8 @@ use Rattle.listing_claims.specs.declared.same.LoadAndRun.{LoadAndRun}
 
 -- A script was loaded into an empty image, and run on another one of the same parameters. Where both ended with 0:
 pub record LoadsAsRun (script : List ℕ) (p : Parameters) (sink : SinkMemory) (both : LoadAndRun) : Type 0 where
-  pub same : both.load.status ≡ statuses.Done → both.run.status ≡ statuses.Done → bytes_of both.load.disk ≡ bytes_of both.run.disk
+  pub same : both.load.status ≡ statuses.Done → both.run.status ≡ statuses.Done
+      → bytes_of both.load.disk ≡ bytes_of both.run.disk
   -- each line was answered `ok`
-  pub answered : both.load.status ≡ statuses.Done → both.run.status ≡ statuses.Done → both.run.sink.written ≡ sink.written ++ flat_map (λ text. line (codes "ok")) (lines script)
+  pub answered : both.load.status ≡ statuses.Done → both.run.status ≡ statuses.Done
+      → both.run.sink.written ≡ sink.written ++ flat_map (λ text. line (codes "ok")) (lines script)

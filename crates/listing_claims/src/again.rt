@@ -44,7 +44,8 @@ pub fn a_dump_is_loaded_again(
     empty: Disk,
     sink: MemSink,
 ) -> Result<Copied, NoMemory>
-    ensures { (t : Tree) (p : Parameters) → Represents (bytes_of disk) t p → Represents (bytes_of empty) empty_tree p → lines.written ≡ []
+    ensures { (t : Tree) (p : Parameters) → Represents (bytes_of disk) t p
+        → Represents (bytes_of empty) empty_tree p → lines.written ≡ []
         → IfOk result (CopiesImage t p empty sink) }
 {
     every_dump_is_a_script();

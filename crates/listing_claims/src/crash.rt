@@ -16,10 +16,10 @@ use script_lines::{MemSink, MemSource};
 use std::alloc::Global;
 use store_base::NoMemory;
 
-/// Loads a listing into an empty image on a disk that fails from its call `from` on, and then runs no line on an image
-/// that a crash may have left, whichever of these it is. Where the run ends with 0 the image is, byte for byte, that of
-/// the empty tree or that of the tree that the lines say; it is the latter where the crash came behind a load that ended
-/// with 0. The run ends with 0 unless a call of it fails or memory is short.
+/// Loads a listing into an empty image on a disk that fails from its call `from` on, and then runs no line on an
+/// image that a crash may have left, whichever of these it is. Where the run ends with 0 the image is, byte for byte,
+/// that of the empty tree or that of the tree that the lines say; it is the latter where the crash came behind a load
+/// that ended with 0. The run ends with 0 unless a call of it fails or memory is short.
 ///
 /// `NoMemory`: there was none for the run's disk and sink, or for the word `load` or `run`.
 pub fn a_crash_leaves_all_of_a_load_or_nothing(
@@ -30,7 +30,9 @@ pub fn a_crash_leaves_all_of_a_load_or_nothing(
     sink: MemSink,
     left: &[u8],
 ) -> Result<Crash, NoMemory>
-    ensures { (t : Tree) (p : Parameters) → MayLeaveOnly (memory_state disk) (λ image. Represents image empty_tree p) → Says p source.left t
+    ensures { (t : Tree) (p : Parameters)
+        → MayLeaveOnly (memory_state disk) (λ image. Represents image empty_tree p)
+        → Says p source.left t
         → IfOk result (LeavesAllOrNothing t p disk left.now) }
 {
     let failing = FailingDisk::new(disk, Vec::new(alloc), Some(from));

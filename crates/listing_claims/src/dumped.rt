@@ -21,7 +21,8 @@ use store_top::Words;
 ///
 /// `NoMemory`: nothing was called.
 pub fn a_dump_says_its_tree(alloc: Global, disk: Disk, sink: MemSink) -> Result<Ended, NoMemory>
-    ensures { (t : Tree) (p : Parameters) → Represents (bytes_of disk) t p → IfOk result (SaysTree t p disk sink) }
+    ensures { (t : Tree) (p : Parameters) → Represents (bytes_of disk) t p
+        → IfOk result (SaysTree t p disk sink) }
 {
     let words = dump_word(alloc)?;
     Ok(serve(alloc, &words, disk, no_script(alloc), sink))

@@ -28,8 +28,10 @@ pub fn a_listing_is_loaded(
     source: MemSource,
     sink: MemSink,
 ) -> Result<Ended, NoMemory>
-    ensures loads { (u : Tree) (p : Parameters) → Represents (bytes_of disk) u p → IfOk result (LoadsListing u p disk source sink) }
-    ensures whole { (t : Tree) (p : Parameters) → Represents (bytes_of disk) empty_tree p → Says p source.left t → IfOk result (LoadsAllOrNothing t p disk) }
+    ensures loads { (u : Tree) (p : Parameters) → Represents (bytes_of disk) u p
+        → IfOk result (LoadsListing u p disk source sink) }
+    ensures whole { (t : Tree) (p : Parameters) → Represents (bytes_of disk) empty_tree p
+        → Says p source.left t → IfOk result (LoadsAllOrNothing t p disk) }
 {
     let words = load_word(alloc)?;
     Ok(serve(alloc, &words, disk, source, sink))

@@ -27,7 +27,8 @@ pub struct LoadAndRun {
 ///
 /// `NoMemory`: there was none for the words.
 pub fn a_load_is_a_run(alloc: Global, loaded: Machine, run: Machine) -> Result<LoadAndRun, NoMemory>
-    ensures { (p : Parameters) → Represents (bytes_of loaded.disk) empty_tree p → Represents (bytes_of run.disk) empty_tree p → run.source.left ≡ loaded.source.left
+    ensures { (p : Parameters) → Represents (bytes_of loaded.disk) empty_tree p
+        → Represents (bytes_of run.disk) empty_tree p → run.source.left ≡ loaded.source.left
         → IfOk result (LoadsAsRun loaded.source.left p run.sink) }
 {
     every_listing_runs();

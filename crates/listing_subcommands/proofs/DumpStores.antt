@@ -32,7 +32,8 @@ pub none_written : (old text : List ℕ) → HasWritten old old text text
 none_written old text = record { part = []; text_is = refl; written = sym (append-nil old) }
 
 -- one more part is written
-pub more_written : (old mid new text left part rest : List ℕ) → HasWritten old mid text left → left ≡ part ++ rest → new ≡ mid ++ part → HasWritten old new text rest
+pub more_written : (old mid new text left part rest : List ℕ) → HasWritten old mid text left → left ≡ part ++ rest
+    → new ≡ mid ++ part → HasWritten old new text rest
 more_written old mid new text left part rest has left_is more = record {
   part = has.part ++ part;
   text_is = has.text_is ∙ ap (λ (xs : List ℕ). has.part ++ xs) left_is ∙ sym (append_assoc has.part part rest);
@@ -40,16 +41,19 @@ more_written old mid new text left part rest has left_is more = record {
 }
 
 -- or a front of what is left
-pub front_written : (old mid new text left : List ℕ) → HasWritten old mid text left → AppendsPrefix mid new left → AppendsPrefix old new text
+pub front_written : (old mid new text left : List ℕ) → HasWritten old mid text left → AppendsPrefix mid new left
+    → AppendsPrefix old new text
 front_written old mid new text left has front = record {
   part = has.part ++ front.part;
   rest = front.rest;
-  is_prefix = has.text_is ∙ ap (λ (xs : List ℕ). has.part ++ xs) front.is_prefix ∙ sym (append_assoc has.part front.part front.rest);
+  is_prefix = has.text_is ∙ ap (λ (xs : List ℕ). has.part ++ xs) front.is_prefix
+      ∙ sym (append_assoc has.part front.part front.rest);
   appended = front.appended ∙ ap (λ (xs : List ℕ). xs ++ front.part) has.written ∙ append_assoc old has.part front.part;
 }
 
 -- a front of a part is a front of the whole
-pub longer_front : (old new part rest text : List ℕ) → text ≡ part ++ rest → AppendsPrefix old new part → AppendsPrefix old new text
+pub longer_front : (old new part rest text : List ℕ) → text ≡ part ++ rest → AppendsPrefix old new part
+    → AppendsPrefix old new text
 longer_front old new part rest text is front = record {
   part = front.part;
   rest = front.rest ++ rest;
@@ -59,7 +63,8 @@ longer_front old new part rest text is front = record {
 
 -- nothing is left
 pub all_written : (old new text : List ℕ) → HasWritten old new text [] → new ≡ old ++ text
-all_written old new text has = has.written ∙ ap (λ (xs : List ℕ). old ++ xs) (sym (append-nil has.part) ∙ sym has.text_is)
+all_written old new text has = has.written
+    ∙ ap (λ (xs : List ℕ). old ++ xs) (sym (append-nil has.part) ∙ sym has.text_is)
 
 -- nothing was written
 pub empty_front : (old text : List ℕ) → AppendsPrefix old old text
@@ -69,7 +74,8 @@ empty_front old text = record { part = []; rest = text; is_prefix = refl; append
 
 module _ {D : Type 0} (disk_of : D → DiskState) where
   -- nothing was called
-  pub keeps_still : {T : Type 0} (store : StoreState D) (sink : SinkState) (value : T) → (disks.IsObservable (disk_of store.disk) → IsSound (disk_of store.disk)) → store.is_stopped ≡ false
+  pub keeps_still : {T : Type 0} (store : StoreState D) (sink : SinkState) (value : T)
+      → (disks.IsObservable (disk_of store.disk) → IsSound (disk_of store.disk)) → store.is_stopped ≡ false
       → KeepsStore disk_of store store sink sink (Ok value)
   keeps_still store sink value sound runs = record {
     tree = refl;
@@ -84,8 +90,10 @@ module _ {D : Type 0} (disk_of : D → DiskState) where
   }
 
   -- one part behind another
-  pub keeps_behind : {T U : Type 0} (old mid new : StoreState D) (first between last : SinkState) (value : T) (result : Result U Status)
-      → KeepsStore disk_of old mid first between (Ok value) → KeepsStore disk_of mid new between last result → KeepsStore disk_of old new first last result
+  pub keeps_behind : {T U : Type 0} (old mid new : StoreState D) (first between last : SinkState) (value : T)
+      (result : Result U Status)
+      → KeepsStore disk_of old mid first between (Ok value) → KeepsStore disk_of mid new between last result
+      → KeepsStore disk_of old new first last result
   keeps_behind old mid new first between last value result one two = record {
     tree = two.tree ∙ one.tree;
     params = two.params ∙ one.params;
@@ -93,7 +101,8 @@ module _ {D : Type 0} (disk_of : D → DiskState) where
     runs = two.runs;
     disk_kept = keeps_then (disk_of old.disk) (disk_of mid.disk) (disk_of new.disk) one.disk_kept two.disk_kept;
     disk_faults = two.disk_faults ∙ ap (disk_faults_by (status_so_far result)) one.disk_faults;
-    reads = λ o. ReadsOnly-trans (disk_of old.disk) (disk_of mid.disk) (disk_of new.disk) (one.reads o) (two.reads (one.disk_kept.observable ∙ o));
+    reads = λ o. ReadsOnly-trans (disk_of old.disk) (disk_of mid.disk) (disk_of new.disk) (one.reads o)
+        (two.reads (one.disk_kept.observable ∙ o));
     sink_observable = two.sink_observable ∙ one.sink_observable;
     sink_faults = two.sink_faults ∙ ap (sink_faults_by (status_so_far result)) one.sink_faults;
   }
@@ -115,7 +124,8 @@ module _ {D : Type 0} (disk_of : D → DiskState) where
 
   -- and the same fault, of which no value is told
   pub fault_as : {T U : Type 0} (old new : StoreState D) (sink sink_new : SinkState) (status : Status)
-      → KeepsStore {T = T} disk_of old new sink sink_new (Err status) → KeepsStore {T = U} disk_of old new sink sink_new (Err status)
+      → KeepsStore {T = T} disk_of old new sink sink_new (Err status)
+      → KeepsStore {T = U} disk_of old new sink sink_new (Err status)
   fault_as old new sink sink_new status kept = record {
     tree = kept.tree;
     params = kept.params;
@@ -130,11 +140,14 @@ module _ {D : Type 0} (disk_of : D → DiskState) where
 
   -- ---- a step of the store that keeps its tree
 
-  module _ {A : Type 0} (next : Tree) (IsAnswer : A → Type 0) (old new : StoreState D) (sink : SinkState) (runs : old.is_stopped ≡ false) (same : next ≡ old.tree) where
-    step_reads : (result : Result A ApplyFault) → StepsStore disk_of next IsAnswer old new result → disks.IsObservable (disk_of old.disk) → ReadsOnly (disk_of old.disk) (disk_of new.disk)
+  module _ {A : Type 0} (next : Tree) (IsAnswer : A → Type 0) (old new : StoreState D) (sink : SinkState)
+      (runs : old.is_stopped ≡ false) (same : next ≡ old.tree) where
+    step_reads : (result : Result A ApplyFault) → StepsStore disk_of next IsAnswer old new result
+        → disks.IsObservable (disk_of old.disk) → ReadsOnly (disk_of old.disk) (disk_of new.disk)
     step_reads result steps o = (steps.observed o runs).still same
 
-    pub keeps_answered : {T : Type 0} (answer : A) (value : T) → StepsStore disk_of next IsAnswer old new (Ok answer) → KeepsStore disk_of old new sink sink (Ok value)
+    pub keeps_answered : {T : Type 0} (answer : A) (value : T) → StepsStore disk_of next IsAnswer old new (Ok answer)
+        → KeepsStore disk_of old new sink sink (Ok value)
     keeps_answered answer value steps = record {
       tree = by_told (disk_of old.disk).is_observable refl;
       params = steps.params;
@@ -151,10 +164,12 @@ module _ {D : Type 0} (disk_of : D → DiskState) where
         by_told true o = steps.tree o ∙ same
         by_told false h = steps.hidden (λ o. false≢true (sym h ∙ o))
 
-    pub keeps_faulted : {T : Type 0} (fault : ApplyFault) → StepsStore disk_of next IsAnswer old new (Err fault) → KeepsStore {T = T} disk_of old new sink sink (Err (apply_status fault))
+    pub keeps_faulted : {T : Type 0} (fault : ApplyFault) → StepsStore disk_of next IsAnswer old new (Err fault)
+        → KeepsStore {T = T} disk_of old new sink sink (Err (apply_status fault))
     keeps_faulted fault steps = by_fault fault steps
       where
-        by_fault : {T : Type 0} (f : ApplyFault) → StepsStore disk_of next IsAnswer old new (Err f) → KeepsStore {T = T} disk_of old new sink sink (Err (apply_status f))
+        by_fault : {T : Type 0} (f : ApplyFault) → StepsStore disk_of next IsAnswer old new (Err f)
+            → KeepsStore {T = T} disk_of old new sink sink (Err (apply_status f))
         by_fault apply.Disk s = record {
           tree = s.fault;
           params = s.params;
@@ -181,7 +196,8 @@ module _ {D : Type 0} (disk_of : D → DiskState) where
 
   -- ---- a line
 
-  pub keeps_line : {T : Type 0} (store : StoreState D) (sink sink_new : SinkState) (result : Result T Status) → (disks.IsObservable (disk_of store.disk) → IsSound (disk_of store.disk)) → store.is_stopped ≡ false
+  pub keeps_line : {T : Type 0} (store : StoreState D) (sink sink_new : SinkState) (result : Result T Status)
+      → (disks.IsObservable (disk_of store.disk) → IsSound (disk_of store.disk)) → store.is_stopped ≡ false
       → KeepsSink sink sink_new result → KeepsStore disk_of store store sink sink_new result
   keeps_line store sink sink_new (Ok value) sound runs kept = record {
     tree = refl;

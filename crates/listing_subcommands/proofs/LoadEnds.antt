@@ -1,5 +1,6 @@
 -- How `load` ends: what it tells by its status, and what stands of the disk, in each case.
-use Rattle.std.proofs.Common.{◌≡◌, ◌⊎◌, ℕ, ◌+◌, ◌<◌, ◌≤◌, Bool, false, List, [], ◌∷◌, ◌++◌, map, length, Result, Ok, OnOk, refl, sym, ap, subst, ◌∙◌, arith, inl, inr, ⊎_elim}
+use Rattle.std.proofs.Common.{◌≡◌, ◌⊎◌, ℕ, ◌+◌, ◌<◌, ◌≤◌, Bool, false, List, [], ◌∷◌, ◌++◌, map, length, Result, Ok}
+use Rattle.std.proofs.Common.{OnOk, refl, sym, ap, subst, ◌∙◌, arith, inl, inr, ⊎_elim}
 use Rattle.std.proofs.lemmas.Bool.{false≢true}
 use Rattle.store_model.specs.declared.refusal.Refusal.{Refusal}
 use Rattle.store_model.specs.Parameters.{Parameters}
@@ -34,7 +35,8 @@ use Rattle.image_subcommands.specs.Endings.{attach_status}
 use Rattle.image_subcommands.specs.Outside.{Outside}
 use Rattle.image_subcommands.specs.Statuses.{Row, row, IsRefusedImage, MayComeFirst, ComesExactly}
 use Rattle.image_subcommands.proofs.StatusLemmas.{other_than}
-use Rattle.listing_subcommands.specs.LoadCall.{LoadsNothing, EndsBeforeListing, EndsBeforeTree, Lists, full_text, ListsNone, ListsTooMany, PrintsFull, LoadsTree, KeepsTree, LoadsFrom}
+use Rattle.listing_subcommands.specs.LoadCall.{LoadsNothing, EndsBeforeListing, EndsBeforeTree, Lists, full_text}
+use Rattle.listing_subcommands.specs.LoadCall.{ListsNone, ListsTooMany, PrintsFull, LoadsTree, KeepsTree, LoadsFrom}
 use Rattle.listing_subcommands.specs.LoadCall.{LoadsNothing as nothing}
 use Rattle.listing_subcommands.proofs.OpeningEnds.{quiet_unopened}
 
@@ -53,15 +55,23 @@ same_commands (c ∷ cs) (d ∷ ds) e =
     ap (λ x. x ∷ cs) head ∙ ap (λ xs. d ∷ xs) (same_commands cs ds tail)
 
 pub lists_one : (t u : Tree) (p : Parameters) (script : List ℕ) → Lists t p script → Lists u p script → t ≡ u
-lists_one t u p script one other = dumps_tell_trees t u p one.under other.under (same_commands (dump t) (dump u) (sym one.listing ∙ other.listing))
+lists_one t u p script one other =
+    dumps_tell_trees t u p one.under other.under (same_commands (dump t) (dump u) (sym one.listing ∙ other.listing))
 
 -- it is none that is the listing of no tree
 pub lists_some : (t : Tree) (p : Parameters) (script : List ℕ) → Lists t p script → ListsNone p script → ⊥
 lists_some t p script lists none = none (record { tree = t; under = lists.under; listing = lists.listing })
 
 -- nor of one that has more pages than there are slots, if this one has no more
-pub lists_few : (t : Tree) (p : Parameters) (script : List ℕ) → Lists t p script → page_count t p ≤ p.slots → ListsTooMany p script → ⊥
-lists_few t p script lists room many = omega (arith, room, subst (λ (v : Tree). p.slots < page_count v p) (lists_one many.tree t p script many.lists lists) many.more)
+pub lists_few : (t : Tree) (p : Parameters) (script : List ℕ) → Lists t p script → page_count t p ≤ p.slots
+    → ListsTooMany p script → ⊥
+lists_few t p script lists room many =
+    omega (
+      arith,
+      room,
+      subst (λ (v : Tree). p.slots < page_count v p)
+          (lists_one many.tree t p script many.lists lists) many.more,
+    )
 
 -- ---- the disk, where nothing is loaded
 
@@ -100,7 +110,8 @@ not_loaded none = false≢true (sym (nothing_is statuses.Done none).undone)
 
 module _ (u : Tree) (p : Parameters) (status : Status) (old new : DiskState) where
   -- the image was opened, and then read at most
-  pub keeps_opened : (mid : DiskState) → IsFitting u p → IsOpened u p old mid → ReadsOnly mid new → KeepsTree u p status old new
+  pub keeps_opened : (mid : DiskState) → IsFitting u p → IsOpened u p old mid → ReadsOnly mid new
+      → KeepsTree u p status old new
   keeps_opened mid fitting opened reads =
       let one = λ (image : List ℕ). old.crash_images image ⊎ Represents image u p in
       let writes = opening_writes p.slots old.bytes in
@@ -108,26 +119,40 @@ module _ (u : Tree) (p : Parameters) (status : Status) (old new : DiskState) whe
       record {
         stands = λ whole memory. stands_reading mid new u p reads opened.stands;
         crash = LeavesOnly-trans old mid new one opened.crash
-            (LeavesOnly-weaken mid new mid.crash_images one (λ image left. inr (standing_represents u p image fitting (opened.stands.durable image left ∙ opened.stands.layout_is))) reads.leaves);
+            (LeavesOnly-weaken mid new mid.crash_images one
+            (λ image left. inr (standing_represents u p image fitting
+            (opened.stands.durable image left ∙ opened.stands.layout_is))) reads.leaves);
         reads = standing_represents u p new.bytes fitting (reads.bytes ∙ opened.stands.layout_is);
-        limit = at_most old new (writes + 0) (syncs + 0) writes syncs (made_then old mid new writes syncs 0 0 opened.counts (made_reading mid new reads)) (omega arith) (omega arith);
-        quiet = λ empty whole. let opening = opened.unwritten empty in record { bytes = reads.bytes ∙ opening.bytes; writes = reads.write_count ∙ opening.writes };
+        limit = at_most old new (writes + 0) (syncs + 0) writes syncs
+            (made_then old mid new writes syncs 0 0 opened.counts (made_reading mid new reads))
+            (omega arith) (omega arith);
+        quiet = λ empty whole. let opening = opened.unwritten empty in record {
+          bytes = reads.bytes ∙ opening.bytes;
+          writes = reads.write_count ∙ opening.writes;
+        };
       }
 
   -- what a load into it does then, which is not done
-  pub loads_none : (t : Tree) → (status ≡ statuses.Done → ⊥) → u ≡ empty_tree → KeepsTree u p status old new → LoadsTree t p status old new
+  pub loads_none : (t : Tree) → (status ≡ statuses.Done → ⊥) → u ≡ empty_tree → KeepsTree u p status old new
+      → LoadsTree t p status old new
   loads_none t not_done empty keeps = record {
     loaded = λ e. absurd (not_done e);
     room = λ e. absurd (not_done e);
-    crash = LeavesOnly-weaken old new (λ image. old.crash_images image ⊎ Represents image u p) (λ image. old.crash_images image ⊎ (Represents image empty_tree p ⊎ Represents image t p))
-        (λ image either. ⊎_elim (λ left. inl left) (λ represents. inr (inl (subst (λ (v : Tree). Represents image v p) empty represents))) either) keeps.crash;
+    crash = LeavesOnly-weaken old new (λ image. old.crash_images image ⊎ Represents image u p)
+        (λ image. old.crash_images image ⊎ (Represents image empty_tree p ⊎ Represents image t p))
+        (λ image either. ⊎_elim (λ left. inl left)
+        (λ represents. inr (inl (subst (λ (v : Tree). Represents image v p) empty represents))) either) keeps.crash;
     reads = inl (subst (λ (v : Tree). Represents new.bytes v p) empty keeps.reads);
     made = λ e. absurd (not_done e);
-    limit = record { write_limit = omega (arith, keeps.limit.write_limit); sync_limit = omega (arith, keeps.limit.sync_limit) };
+    limit = record {
+      write_limit = omega (arith, keeps.limit.write_limit);
+      sync_limit = omega (arith, keeps.limit.sync_limit);
+    };
   }
 
 -- no store was had
-pub keeps_unopened : (u : Tree) (p : Parameters) (fault : AttachFault) (old new : DiskState) → disks.IsObservable old → IsRefused old fault new → KeepsImage u p old fault new → KeepsTree u p (attach_status fault) old new
+pub keeps_unopened : (u : Tree) (p : Parameters) (fault : AttachFault) (old new : DiskState) → disks.IsObservable old
+    → IsRefused old fault new → KeepsImage u p old fault new → KeepsTree u p (attach_status fault) old new
 keeps_unopened u p fault old new o refused keeps = record {
   stands = stood fault keeps;
   crash = keeps.crash;
@@ -136,7 +161,8 @@ keeps_unopened u p fault old new o refused keeps = record {
   quiet = λ empty whole. quiet_unopened fault old new refused o whole;
 }
   where
-    stood : (f : AttachFault) → KeepsImage u p old f new → (attach_status f ≡ statuses.DiskFault → ⊥) → (attach_status f ≡ statuses.NoMemory → ⊥) → Stands new u p
+    stood : (f : AttachFault) → KeepsImage u p old f new → (attach_status f ≡ statuses.DiskFault → ⊥)
+        → (attach_status f ≡ statuses.NoMemory → ⊥) → Stands new u p
     stood faults.Disk kept whole memory = absurd (whole refl)
     stood faults.NoMemory kept whole memory = absurd (memory refl)
     stood faults.NotImage kept whole memory = absurd (kept.not_image refl)
@@ -145,64 +171,92 @@ keeps_unopened u p fault old new o refused keeps = record {
 -- ---- the disk, where the tree of a listing was to be loaded
 
 -- a store was had of the image of the empty tree, and the load was done, or failed for the disk
-pub loads_tree : {T : Type 0} (t : Tree) (p : Parameters) (status : Status) (old mid new : DiskState) (is_stopped : Bool) (result : Result T ApplyFault)
-    → IsFitting empty_tree p → IsOpened empty_tree p old mid → ChangesImage empty_tree t p mid new is_stopped result → (status ≡ statuses.Done → (value : T) × (result ≡ Ok value)) → (status ≡ statuses.Done → page_count t p ≤ p.slots)
+pub loads_tree : {T : Type 0} (t : Tree) (p : Parameters) (status : Status) (old mid new : DiskState)
+    (is_stopped : Bool) (result : Result T ApplyFault)
+    → IsFitting empty_tree p → IsOpened empty_tree p old mid → ChangesImage empty_tree t p mid new is_stopped result
+    → (status ≡ statuses.Done → (value : T) × (result ≡ Ok value))
+    → (status ≡ statuses.Done → page_count t p ≤ p.slots)
     → slots_between p empty_tree t ≡ page_count t p → LoadsTree t p status old new
 loads_tree {T} t p status old mid new is_stopped result fitting opened changes was_ok room count =
     let either = λ (image : List ℕ). old.crash_images image ⊎ (Represents image empty_tree p ⊎ Represents image t p) in
     let writes = opening_writes p.slots old.bytes in
     let syncs = opening_syncs p.slots old.bytes in
     record {
-      loaded = λ e. let ok = was_ok e in subst (λ (r : Result T ApplyFault). OnOk r (Stands new t p)) ok.1 changes.stands;
+      loaded = λ e. let ok = was_ok e
+          in subst (λ (r : Result T ApplyFault). OnOk r (Stands new t p)) ok.1 changes.stands;
       room = room;
       crash = LeavesOnly-trans old mid new either
-          (LeavesOnly-weaken old mid (λ image. old.crash_images image ⊎ Represents image empty_tree p) either (λ image one. ⊎_elim (λ left. inl left) (λ represents. inr (inl represents)) one) opened.crash)
-          (LeavesOnly-weaken mid new (λ image. Represents image empty_tree p ⊎ Represents image t p) either (λ image represents. inr represents) changes.crash);
+          (LeavesOnly-weaken old mid (λ image. old.crash_images image ⊎ Represents image empty_tree p) either
+          (λ image one. ⊎_elim (λ left. inl left) (λ represents. inr (inl represents)) one) opened.crash)
+          (LeavesOnly-weaken mid new (λ image. Represents image empty_tree p ⊎ Represents image t p) either
+          (λ image represents. inr represents) changes.crash);
       reads = changes.reads;
       made = λ e.
           let ok = was_ok e in
-          let made = subst (λ (r : Result T ApplyFault). OnOk r (Made (commit_writes (slots_between p empty_tree t)) (commit_syncs (slots_between p empty_tree t)) mid new)) ok.1 changes.counts.made in
-          subst (λ (n : ℕ). Made (writes + commit_writes n) (syncs + commit_syncs n) old new) count (made_then old mid new writes syncs (commit_writes (slots_between p empty_tree t)) (commit_syncs (slots_between p empty_tree t)) opened.counts made);
+          let made = subst (λ (r : Result T ApplyFault).
+          OnOk r (Made (commit_writes (slots_between p empty_tree t))
+          (commit_syncs (slots_between p empty_tree t)) mid new)) ok.1 changes.counts.made in
+          subst (λ (n : ℕ). Made (writes + commit_writes n) (syncs + commit_syncs n) old new) count
+          (made_then old mid new writes syncs (commit_writes (slots_between p empty_tree t))
+          (commit_syncs (slots_between p empty_tree t)) opened.counts made);
       limit = subst (λ (n : ℕ). MadeAtMost (writes + commit_writes n) (syncs + commit_syncs n) old new) count
-          (at_most_then old mid new writes syncs (commit_writes (slots_between p empty_tree t)) (commit_syncs (slots_between p empty_tree t)) opened.counts changes.counts.limit);
+          (at_most_then old mid new writes syncs (commit_writes (slots_between p empty_tree t))
+          (commit_syncs (slots_between p empty_tree t)) opened.counts changes.counts.limit);
     }
 
 -- ---- the status
 
 -- a status does not come that may not come first, where one came that may
-first_not : (status expected : Status) (P : Type 0) (Before : Status → Type 0) → MayComeFirst status → (row expected).may_come_first ≡ false → Before status → ComesExactly expected P Before status
-first_not status expected P Before first later before = record { only = λ e. absurd (other_than (λ (r : Row). r.may_come_first) status expected first later e); always = λ holds. inr before }
+first_not : (status expected : Status) (P : Type 0) (Before : Status → Type 0) → MayComeFirst status
+    → (row expected).may_come_first ≡ false → Before status → ComesExactly expected P Before status
+first_not status expected P Before first later before = record {
+  only = λ e. absurd (other_than (λ (r : Row). r.may_come_first) status expected first later e);
+  always = λ holds. inr before;
+}
 
 -- What the status tells of a load into an image that represents the tree u, and what is printed.
-pub record Tells (u : Tree) (p : Parameters) (script : List ℕ) (status : Status) (disk disk_new : DiskState) (source source_new : SourceState) (sink sink_new : SinkState) : Type 0 where
+pub record Tells (u : Tree) (p : Parameters) (script : List ℕ) (status : Status) (disk disk_new : DiskState)
+    (source source_new : SourceState) (sink sink_new : SinkState) : Type 0 where
   pub not_empty : ComesExactly statuses.NotEmpty (u ≡ empty_tree → ⊥) MayComeFirst status
   pub bad_listing : ComesExactly statuses.BadListing (ListsNone p script) EndsBeforeListing status
   pub too_full : ComesExactly statuses.TooFull (ListsTooMany p script) EndsBeforeTree status
   pub unprinted : status ≡ statuses.SinkFault → ListsTooMany p script
   pub done : status ≡ statuses.Done → (u ≡ empty_tree) × ((t : Tree) × Lists t p script)
   pub printed : sinks.IsObservable sink → PrintsFull p script status sink sink_new
-  pub complete : u ≡ empty_tree → (t : Tree) → Lists t p script → page_count t p ≤ p.slots → length script ≤ script_limit
-      → (Rose disk.faults disk_new.faults → ⊥) → (Rose source.faults source_new.faults → ⊥) → (status ≡ statuses.Done) ⊎ (status ≡ statuses.NoMemory)
+  pub complete : u ≡ empty_tree → (t : Tree) → Lists t p script → page_count t p ≤ p.slots
+      → length script ≤ script_limit
+      → (Rose disk.faults disk_new.faults → ⊥) → (Rose source.faults source_new.faults → ⊥)
+      → (status ≡ statuses.Done) ⊎ (status ≡ statuses.NoMemory)
 
 -- nothing is printed of a tree that is too large
-none_printed : (p : Parameters) (script : List ℕ) (status : Status) (old new : SinkState) → (status ≡ statuses.TooFull → ⊥) → (status ≡ statuses.SinkFault → ⊥) → PrintsFull p script status old new
-none_printed p script status old new full fault = record { line = λ e. absurd (full e); in_part = λ e. absurd (fault e) }
+none_printed : (p : Parameters) (script : List ℕ) (status : Status) (old new : SinkState)
+    → (status ≡ statuses.TooFull → ⊥) → (status ≡ statuses.SinkFault → ⊥) → PrintsFull p script status old new
+none_printed p script status old new full fault = record {
+  line = λ e. absurd (full e);
+  in_part = λ e. absurd (fault e);
+}
 
-module _ (u : Tree) (p : Parameters) (script : List ℕ) (disk disk_new : DiskState) (source source_new : SourceState) (sink sink_new : SinkState) where
+module _ (u : Tree) (p : Parameters) (script : List ℕ) (disk disk_new : DiskState) (source source_new : SourceState)
+    (sink sink_new : SinkState) where
   abbrev TellsHere : Status → Type 0
   TellsHere status = Tells u p script status disk disk_new source source_new sink sink_new
 
   -- the disk failed, or memory ran out
-  pub tells_first : (status : Status) → MayComeFirst status → ((Rose disk.faults disk_new.faults → ⊥) → status ≡ statuses.NoMemory) → TellsHere status
+  pub tells_first : (status : Status) → MayComeFirst status
+      → ((Rose disk.faults disk_new.faults → ⊥) → status ≡ statuses.NoMemory) → TellsHere status
   tells_first status first memory =
-      let never : (other : Status) → (row other).may_come_first ≡ false → status ≡ other → ⊥ = λ other no. other_than (λ (r : Row). r.may_come_first) status other first no in
+      let never : (other : Status) → (row other).may_come_first ≡ false → status ≡ other
+      → ⊥ = λ other no. other_than (λ (r : Row). r.may_come_first) status other first no in
       record {
         not_empty = first_not status statuses.NotEmpty (u ≡ empty_tree → ⊥) MayComeFirst first refl first;
-        bad_listing = first_not status statuses.BadListing (ListsNone p script) EndsBeforeListing first refl (inr (inr (inr first)));
-        too_full = first_not status statuses.TooFull (ListsTooMany p script) EndsBeforeTree first refl (inr (inr (inr (inr first))));
+        bad_listing = first_not status statuses.BadListing (ListsNone p script) EndsBeforeListing first refl
+            (inr (inr (inr first)));
+        too_full = first_not status statuses.TooFull (ListsTooMany p script) EndsBeforeTree first refl
+            (inr (inr (inr (inr first))));
         unprinted = λ e. absurd (never statuses.SinkFault refl e);
         done = λ e. absurd (never statuses.Done refl e);
-        printed = λ o. none_printed p script status sink sink_new (never statuses.TooFull refl) (never statuses.SinkFault refl);
+        printed = λ o. none_printed p script status sink sink_new (never statuses.TooFull refl)
+            (never statuses.SinkFault refl);
         complete = λ empty t lists room within disk_whole source_whole. inr (memory disk_whole);
       }
 
@@ -219,7 +273,8 @@ module _ (u : Tree) (p : Parameters) (script : List ℕ) (disk disk_new : DiskSt
   }
 
   module _ (empty : u ≡ empty_tree) where
-    is_empty : (status : Status) → (status ≡ statuses.NotEmpty → ⊥) → ComesExactly statuses.NotEmpty (u ≡ empty_tree → ⊥) MayComeFirst status
+    is_empty : (status : Status) → (status ≡ statuses.NotEmpty → ⊥)
+        → ComesExactly statuses.NotEmpty (u ≡ empty_tree → ⊥) MayComeFirst status
     is_empty status other = record { only = λ e. absurd (other e); always = λ holds. absurd (holds empty) }
 
     -- a take failed
@@ -251,7 +306,10 @@ module _ (u : Tree) (p : Parameters) (script : List ℕ) (disk disk_new : DiskSt
     tells_bad none = record {
       not_empty = is_empty statuses.BadListing (λ e. cc);
       bad_listing = record { only = λ e. none; always = λ h. inl refl };
-      too_full = record { only = λ e. absurd (cc); always = λ many. absurd (lists_some many.tree p script many.lists none) };
+      too_full = record {
+        only = λ e. absurd (cc);
+        always = λ many. absurd (lists_some many.tree p script many.lists none);
+      };
       unprinted = λ e. absurd (cc);
       done = λ e. absurd (cc);
       printed = λ o. none_printed p script statuses.BadListing sink sink_new (λ e. cc) (λ e. cc);
@@ -260,8 +318,12 @@ module _ (u : Tree) (p : Parameters) (script : List ℕ) (disk disk_new : DiskSt
 
     -- it is the listing of this tree
     module _ (t : Tree) (lists : Lists t p script) where
-      is_listing : (status : Status) → (status ≡ statuses.BadListing → ⊥) → ComesExactly statuses.BadListing (ListsNone p script) EndsBeforeListing status
-      is_listing status other = record { only = λ e. absurd (other e); always = λ none. absurd (lists_some t p script lists none) }
+      is_listing : (status : Status) → (status ≡ statuses.BadListing → ⊥)
+          → ComesExactly statuses.BadListing (ListsNone p script) EndsBeforeListing status
+      is_listing status other = record {
+        only = λ e. absurd (other e);
+        always = λ none. absurd (lists_some t p script lists none);
+      }
 
       -- which has no more pages than there are slots
       pub tells_done : page_count t p ≤ p.slots → TellsHere statuses.Done
@@ -284,9 +346,16 @@ module _ (u : Tree) (p : Parameters) (script : List ℕ) (disk disk_new : DiskSt
         too_many = record { tree = t; lists = lists; more = more }
 
         no_room : (v : Tree) → Lists v p script → page_count v p ≤ p.slots → ⊥
-        no_room v other room = omega (arith, more, subst (λ (w : Tree). page_count w p ≤ p.slots) (lists_one v t p script other lists) room)
+        no_room v other room =
+            omega (
+              arith,
+              more,
+              subst (λ (w : Tree). page_count w p ≤ p.slots)
+                  (lists_one v t p script other lists) room,
+            )
 
-        pub tells_too_full : (sinks.IsObservable sink → sink_new.written ≡ sink.written ++ full_text t p) → TellsHere statuses.TooFull
+        pub tells_too_full : (sinks.IsObservable sink → sink_new.written ≡ sink.written ++ full_text t p)
+            → TellsHere statuses.TooFull
         tells_too_full written = record {
           not_empty = is_empty statuses.TooFull (λ e. cc);
           bad_listing = is_listing statuses.TooFull (λ e. cc);
@@ -294,13 +363,15 @@ module _ (u : Tree) (p : Parameters) (script : List ℕ) (disk disk_new : DiskSt
           unprinted = λ e. absurd (cc);
           done = λ e. absurd (cc);
           printed = λ o. record {
-            line = λ e v other. subst (λ (w : Tree). sink_new.written ≡ sink.written ++ full_text w p) (lists_one t v p script lists other) (written o);
+            line = λ e v other. subst (λ (w : Tree). sink_new.written ≡ sink.written ++ full_text w p)
+                (lists_one t v p script lists other) (written o);
             in_part = λ e. absurd (cc);
           };
           complete = λ empty v other room within disk_whole source_whole. absurd (no_room v other room);
         }
 
-        pub tells_unprinted : (sinks.IsObservable sink → AppendsPrefix sink.written sink_new.written (full_text t p)) → TellsHere statuses.SinkFault
+        pub tells_unprinted : (sinks.IsObservable sink → AppendsPrefix sink.written sink_new.written (full_text t p))
+            → TellsHere statuses.SinkFault
         tells_unprinted written = record {
           not_empty = is_empty statuses.SinkFault (λ e. cc);
           bad_listing = is_listing statuses.SinkFault (λ e. cc);
@@ -309,15 +380,18 @@ module _ (u : Tree) (p : Parameters) (script : List ℕ) (disk disk_new : DiskSt
           done = λ e. absurd (cc);
           printed = λ o. record {
             line = λ e. absurd (cc);
-            in_part = λ e v other. subst (λ (w : Tree). AppendsPrefix sink.written sink_new.written (full_text w p)) (lists_one t v p script lists other) (written o);
+            in_part = λ e v other. subst (λ (w : Tree). AppendsPrefix sink.written sink_new.written (full_text w p))
+                (lists_one t v p script lists other) (written o);
           };
           complete = λ empty v other room within disk_whole source_whole. absurd (no_room v other room);
         }
 
 -- ---- both
 
-module _ {D R W : Type 0} (disk_of : D → DiskState) (source_of : R → SourceState) (sink_of : W → SinkState) (u : Tree) (p : Parameters) (script : List ℕ) (before : Outside D R W) (after : Outcome D R W)
-    (tells : Tells u p script after.status (disk_of before.disk) (disk_of after.disk) (source_of before.source) (source_of after.source) (sink_of before.sink) (sink_of after.sink)) where
+module _ {D R W : Type 0} (disk_of : D → DiskState) (source_of : R → SourceState) (sink_of : W → SinkState) (u : Tree)
+    (p : Parameters) (script : List ℕ) (before : Outside D R W) (after : Outcome D R W)
+    (tells : Tells u p script after.status (disk_of before.disk) (disk_of after.disk) (source_of before.source)
+    (source_of after.source) (sink_of before.sink) (sink_of after.sink)) where
   abbrev old : DiskState
   old = disk_of before.disk
 
@@ -325,7 +399,9 @@ module _ {D R W : Type 0} (disk_of : D → DiskState) (source_of : R → SourceS
   new = disk_of after.disk
 
   -- nothing was loaded
-  pub from_kept : (after.status ≡ statuses.Done → ⊥) → KeepsTree u p after.status old new → (after.status ≡ statuses.NoMemory → Stands new u p ⊎ LeavesImage old new) → LoadsFrom disk_of source_of sink_of u p script before after
+  pub from_kept : (after.status ≡ statuses.Done → ⊥) → KeepsTree u p after.status old new
+      → (after.status ≡ statuses.NoMemory → Stands new u p ⊎ LeavesImage old new)
+      → LoadsFrom disk_of source_of sink_of u p script before after
   from_kept not_done keeps no_memory = record {
     not_empty = tells.not_empty;
     bad_listing = tells.bad_listing;
@@ -344,7 +420,9 @@ module _ {D R W : Type 0} (disk_of : D → DiskState) (source_of : R → SourceS
   }
 
   -- the tree of the listing was loaded, or the disk failed
-  pub from_loaded : (LoadsNothing after.status → ⊥) → (after.status ≡ statuses.NoMemory → ⊥) → u ≡ empty_tree → (t : Tree) → Lists t p script → page_count t p ≤ p.slots → LoadsTree t p after.status old new → LoadsFrom disk_of source_of sink_of u p script before after
+  pub from_loaded : (LoadsNothing after.status → ⊥) → (after.status ≡ statuses.NoMemory → ⊥) → u ≡ empty_tree
+      → (t : Tree) → Lists t p script → page_count t p ≤ p.slots → LoadsTree t p after.status old new
+      → LoadsFrom disk_of source_of sink_of u p script before after
   from_loaded some memory empty t lists room loads = record {
     not_empty = tells.not_empty;
     bad_listing = tells.bad_listing;
@@ -352,7 +430,8 @@ module _ {D R W : Type 0} (disk_of : D → DiskState) (source_of : R → SourceS
     unprinted = tells.unprinted;
     done = tells.done;
     printed = tells.printed;
-    loads = λ e v other. subst (λ (w : Tree). LoadsTree w p after.status old new) (lists_one t v p script lists other) loads;
+    loads = λ e v other. subst (λ (w : Tree). LoadsTree w p after.status old new)
+        (lists_one t v p script lists other) loads;
     keeps = λ nothing. absurd (some nothing);
     keeps_short = λ e. absurd (memory e);
     keeps_full = λ holds. absurd (holds empty);

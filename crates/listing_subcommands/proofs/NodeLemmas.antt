@@ -1,5 +1,6 @@
 -- Lemmas on what the first pair of a path says of the lines that are written.
-use Rattle.std.proofs.Common.{◌≡◌, ℕ, ◌≤◌, min, Bool, true, false, List, [], ◌∷◌, length, take, Some, None, refl, sym, ap, ◌∙◌, arith}
+use Rattle.std.proofs.Common.{◌≡◌, ℕ, ◌≤◌, min, Bool, true, false, List, [], ◌∷◌, length, take, Some, None, refl, sym}
+use Rattle.std.proofs.Common.{ap, ◌∙◌, arith}
 use Rattle.std.proofs.lemmas.List.{take_min}
 use Rattle.std.proofs.Math.Seq.{take-length}
 use Rattle.store_model.specs.declared.version.Version.{Version}
@@ -15,7 +16,8 @@ use Rattle.tree_pairs.specs.Kinds.{kind_of, file_first, first_value}
 use Rattle.listing_subcommands.proofs.PieceLemmas.{commands_of_pieces}
 
 -- what a file's bytes stand in first
-pub inline_node : (node : Node) (version : Version) (bytes : List ℕ) → first_value (Some node) version ≡ Some (inline_value bytes) → node ≡ File bytes
+pub inline_node : (node : Node) (version : Version) (bytes : List ℕ)
+    → first_value (Some node) version ≡ Some (inline_value bytes) → node ≡ File bytes
 inline_node Directory version bytes e = absurd (cc)
 inline_node (File own) version bytes e = by_form (is_inline version (length own)) e
   where
@@ -33,7 +35,8 @@ short_node Directory h = omega arith
 short_node (File bytes) h = h.0
 
 -- a file of so many bytes
-pub file_node : (node : Node) (len : ℕ) → Some (kind_of node) ≡ Some (kinds.File len) → (bytes : List ℕ) × (node ≡ File bytes) × (length bytes ≡ len)
+pub file_node : (node : Node) (len : ℕ) → Some (kind_of node) ≡ Some (kinds.File len)
+    → (bytes : List ℕ) × (node ≡ File bytes) × (length bytes ≡ len)
 file_node Directory len e = absurd (cc)
 file_node (File bytes) len e = (bytes, refl, cc)
 
@@ -41,15 +44,18 @@ pub no_node : (node : Node) → Some (kind_of node) ≡ None → ⊥
 no_node node e = cc
 
 take_all : (n : ℕ) (xs : List ℕ) → length xs ≤ n → take n xs ≡ xs
-take_all n xs short = let least : min n (length xs) ≡ length xs = omega arith in sym (take_min n xs) ∙ ap (λ m. take m xs) least ∙ take-length xs
+take_all n xs short = let least : min n (length xs) ≡ length xs = omega arith
+    in sym (take_min n xs) ∙ ap (λ m. take m xs) least ∙ take-length xs
 
 -- the one line of a short file
-pub short_commands : (path : Path) (bytes : List ℕ) → length bytes ≤ 2048 → file_commands path bytes ≡ Write path 0 bytes ∷ []
+pub short_commands : (path : Path) (bytes : List ℕ) → length bytes ≤ 2048
+    → file_commands path bytes ≡ Write path 0 bytes ∷ []
 unfolding file_commands numbers_from
 short_commands path [] short = refl
 short_commands path (b ∷ bytes) short =
     let count : 1 ≡ run_count 2048 (length (b ∷ bytes)) = omega arith in
-    commands_of_pieces path (b ∷ bytes) 1 (omega arith) count ∙ ap (λ xs. Write path 0 xs ∷ []) (take_all 2048 (b ∷ bytes) short)
+    commands_of_pieces path (b ∷ bytes) 1 (omega arith) count
+    ∙ ap (λ xs. Write path 0 xs ∷ []) (take_all 2048 (b ∷ bytes) short)
 
 pub empty_commands : (path : Path) (bytes : List ℕ) → length bytes ≡ 0 → file_commands path bytes ≡ Write path 0 [] ∷ []
 unfolding file_commands

@@ -47,7 +47,8 @@ memory_only faults.NotImage e d = cc
 memory_only faults.Damaged e d = cc
 
 -- a fault other than that the image is none or damaged
-pub comes_first : (fault : AttachFault) → (fault ≡ faults.NotImage → ⊥) → (fault ≡ faults.Damaged → ⊥) → MayComeFirst (attach_status fault)
+pub comes_first : (fault : AttachFault) → (fault ≡ faults.NotImage → ⊥) → (fault ≡ faults.Damaged → ⊥)
+    → MayComeFirst (attach_status fault)
 comes_first faults.Disk image whole = refl
 comes_first faults.NoMemory image whole = refl
 comes_first faults.NotImage image whole = absurd (image refl)
@@ -98,47 +99,66 @@ nothing_opened disk sound = record {
     not_image = λ e. cc;
     damaged = λ e. cc;
     represents = represents;
-    crash = LeavesOnly-refl disk (λ image. disk.crash_images image ⊎ Represents image t p) (sound o) (λ image gone. inl gone);
-    limit = at_most disk disk 0 0 (opening_writes p.slots disk.bytes) (opening_syncs p.slots disk.bytes) (made_none disk) (omega arith) (omega arith);
+    crash = LeavesOnly-refl disk (λ image. disk.crash_images image ⊎ Represents image t p) (sound o)
+        (λ image gone. inl gone);
+    limit = at_most disk disk 0 0 (opening_writes p.slots disk.bytes) (opening_syncs p.slots disk.bytes)
+        (made_none disk) (omega arith) (omega arith);
   };
   unrepresented = λ o none. left_alone disk (sound o);
 }
 
-module _ (fault : AttachFault) (old new : DiskState) (refused : IsRefused old fault new) (o : disks.IsObservable old) where
-  pub says_no_image : (f : AttachFault) → fault ≡ f → IsNoImage old → (attach_status f ≡ statuses.NotImage) ⊎ MayComeFirst (attach_status f)
+module _ (fault : AttachFault) (old new : DiskState) (refused : IsRefused old fault new)
+    (o : disks.IsObservable old) where
+  pub says_no_image : (f : AttachFault) → fault ≡ f → IsNoImage old
+      → (attach_status f ≡ statuses.NotImage) ⊎ MayComeFirst (attach_status f)
   says_no_image faults.Disk is none = inr refl
   says_no_image faults.NoMemory is none = inr refl
   says_no_image faults.NotImage is none = inl refl
-  says_no_image faults.Damaged is none = let damaged = refused.damaged is in absurd (none o damaged.params (damaged.has_parameters.named o))
+  says_no_image faults.Damaged is none = let damaged = refused.damaged is
+      in absurd (none o damaged.params (damaged.has_parameters.named o))
 
-  pub says_damaged : (f : AttachFault) → fault ≡ f → IsDamaged old → (attach_status f ≡ statuses.Damaged) ⊎ MayComeFirst (attach_status f)
+  pub says_damaged : (f : AttachFault) → fault ≡ f → IsDamaged old
+      → (attach_status f ≡ statuses.Damaged) ⊎ MayComeFirst (attach_status f)
   says_damaged faults.Disk is damaged = inr refl
   says_damaged faults.NoMemory is damaged = inr refl
-  says_damaged faults.NotImage is damaged = absurd (refused.not_image is o damaged.params (damaged.has_parameters.named o))
+  says_damaged faults.NotImage is damaged =
+      absurd (refused.not_image is o damaged.params (damaged.has_parameters.named o))
   says_damaged faults.Damaged is damaged = inl refl
 
-pub named_by : (fault : AttachFault) (old : DiskState) → (fault ≡ faults.Damaged → IsDamaged old) → IsPastHeader (attach_status fault) → (p : Parameters) × HasParameters old p
+pub named_by : (fault : AttachFault) (old : DiskState) → (fault ≡ faults.Damaged → IsDamaged old)
+    → IsPastHeader (attach_status fault) → (p : Parameters) × HasParameters old p
 named_by faults.Disk old damaged h = absurd (false≢true h)
 named_by faults.NoMemory old damaged h = absurd (false≢true h)
 named_by faults.NotImage old damaged h = absurd (false≢true h)
 named_by faults.Damaged old damaged h = let is = damaged refl in (is.params, is.has_parameters)
 
 -- of an image that represents a tree, where no call failed
-pub memory_left : (fault : AttachFault) (old new : DiskState) (t : Tree) (p : Parameters) → IsRefused old fault new → KeepsImage t p old fault new → (Rose old.faults new.faults → ⊥) → attach_status fault ≡ statuses.NoMemory
+pub memory_left : (fault : AttachFault) (old new : DiskState) (t : Tree) (p : Parameters) → IsRefused old fault new
+    → KeepsImage t p old fault new → (Rose old.faults new.faults → ⊥) → attach_status fault ≡ statuses.NoMemory
 memory_left faults.Disk old new t p refused keeps whole = absurd (whole (rose old.faults new.faults refused.faults))
 memory_left faults.NoMemory old new t p refused keeps whole = refl
 memory_left faults.NotImage old new t p refused keeps whole = absurd (keeps.not_image refl)
 memory_left faults.Damaged old new t p refused keeps whole = absurd (keeps.damaged refl)
 
 -- unless the disk failed nothing was written
-module _ (fault : AttachFault) (old new : DiskState) (refused : IsRefused old fault new) (o : disks.IsObservable old) where
+module _ (fault : AttachFault) (old new : DiskState) (refused : IsRefused old fault new)
+    (o : disks.IsObservable old) where
   pub quiet_unopened : (attach_status fault ≡ statuses.DiskFault → ⊥) → IsUnwritten old new
   quiet_unopened whole =
       let synced = (refused.unwritten o (λ e. whole (ap attach_status e))).synced in
       record { bytes = synced.bytes; writes = synced.writes }
 
 -- a reader as it is made
-pub new_reader_is_unread : {R : Type 0} (reader : LineState R) (source : R) → reader ≡ record { source = source; held = []; taken = 0; limit = script_limit; is_ended = false; is_live = true; text = [] } → IsUnread reader
+pub new_reader_is_unread : {R : Type 0} (reader : LineState R) (source : R) → reader ≡ record {
+  source = source;
+  held = [];
+  taken = 0;
+  limit = script_limit;
+  is_ended = false;
+  is_live = true;
+  text = [];
+}
+    → IsUnread reader
 new_reader_is_unread {R} reader source is = record {
   held = ap (λ (r : LineState R). r.held) is;
   taken = ap (λ (r : LineState R). r.taken) is;
@@ -147,7 +167,8 @@ new_reader_is_unread {R} reader source is = record {
 }
 
 -- a store that was had is ready for lines
-pub attached_is_ready : {D : Type 0} (disk_of : D → DiskState) (old : DiskState) (store : StoreState D) → IsAttached disk_of old store → IsReady disk_of store
+pub attached_is_ready : {D : Type 0} (disk_of : D → DiskState) (old : DiskState) (store : StoreState D)
+    → IsAttached disk_of old store → IsReady disk_of store
 attached_is_ready disk_of old store attached = record {
   runs = attached.runs;
   fitting = attached.fitting;

@@ -25,7 +25,8 @@ use Rattle.listing_subcommands.specs.DumpCall.{IsDump, IsDumped, DumpsTree}
 use Rattle.listing_subcommands.specs.LoadCall.{IsLoad, IsReadWhole, LoadsNothing, LoadsFrom, LoadsTree, KeepsTree}
 
 -- another status does not come for want of memory
-comes_not : (status : Status) (P : Type 0) → (statuses.NoMemory ≡ status → ⊥) → ComesExactly status P MayComeFirst statuses.NoMemory
+comes_not : (status : Status) (P : Type 0) → (statuses.NoMemory ≡ status → ⊥)
+    → ComesExactly status P MayComeFirst statuses.NoMemory
 comes_not status P other = record { only = λ e. absurd (other e); always = λ holds. inr refl }
 
 -- the disk is as it was
@@ -50,7 +51,8 @@ not_read (inr (inl e)) = cc
 not_read (inr (inr (inl e))) = cc
 not_read (inr (inr (inr e))) = cc
 
-dumps_none : (t : Tree) (p : Parameters) (disk : DiskState) (sink : SinkState) → IsSound disk → Represents disk.bytes t p → DumpsTree t p statuses.NoMemory disk disk sink sink
+dumps_none : (t : Tree) (p : Parameters) (disk : DiskState) (sink : SinkState) → IsSound disk
+    → Represents disk.bytes t p → DumpsTree t p statuses.NoMemory disk disk sink sink
 dumps_none t p disk sink sound represents = record {
   put = λ told. record {
     whole = λ e. absurd (cc);
@@ -66,7 +68,8 @@ dumps_none t p disk sink sound represents = record {
   complete = λ disk_whole sink_whole. inr refl;
 }
 
-keeps_none : (u : Tree) (p : Parameters) (disk : DiskState) → IsSound disk → Represents disk.bytes u p → KeepsTree u p statuses.NoMemory disk disk
+keeps_none : (u : Tree) (p : Parameters) (disk : DiskState) → IsSound disk → Represents disk.bytes u p
+    → KeepsTree u p statuses.NoMemory disk disk
 keeps_none u p disk sound represents = record {
   stands = λ whole memory. absurd (memory refl);
   crash = LeavesOnly-refl disk (λ image. disk.crash_images image ⊎ Represents image u p) sound (λ image left. inl left);
@@ -75,17 +78,21 @@ keeps_none u p disk sound represents = record {
   quiet = λ empty whole. record { bytes = refl; writes = refl };
 }
 
-loads_none : (t : Tree) (p : Parameters) (disk : DiskState) → IsSound disk → Represents disk.bytes empty_tree p → LoadsTree t p statuses.NoMemory disk disk
+loads_none : (t : Tree) (p : Parameters) (disk : DiskState) → IsSound disk → Represents disk.bytes empty_tree p
+    → LoadsTree t p statuses.NoMemory disk disk
 loads_none t p disk sound represents = record {
   loaded = λ e. absurd (cc);
   room = λ e. absurd (cc);
-  crash = LeavesOnly-refl disk (λ image. disk.crash_images image ⊎ (Represents image empty_tree p ⊎ Represents image t p)) sound (λ image left. inl left);
+  crash = LeavesOnly-refl disk (λ image. disk.crash_images image
+      ⊎ (Represents image empty_tree p ⊎ Represents image t p)) sound (λ image left. inl left);
   reads = inl represents;
   made = λ e. absurd (cc);
-  limit = none_made disk (opening_writes p.slots disk.bytes + commit_writes (page_count t p)) (opening_syncs p.slots disk.bytes + commit_syncs (page_count t p));
+  limit = none_made disk (opening_writes p.slots disk.bytes + commit_writes (page_count t p))
+      (opening_syncs p.slots disk.bytes + commit_syncs (page_count t p));
 }
 
-module _ {D R W : Type 0} (disk_of : D → DiskState) (sink_of : W → SinkState) (sound : (disk : D) → disks.IsObservable (disk_of disk) → IsSound (disk_of disk)) (before : Outside D R W) where
+module _ {D R W : Type 0} (disk_of : D → DiskState) (sink_of : W → SinkState)
+    (sound : (disk : D) → disks.IsObservable (disk_of disk) → IsSound (disk_of disk)) (before : Outside D R W) where
   pub dump_uncalled : IsDump disk_of sink_of before (without_memory before)
   dump_uncalled = record {
     ends = refl;
@@ -98,7 +105,8 @@ module _ {D R W : Type 0} (disk_of : D → DiskState) (sink_of : W → SinkState
       represented = λ dumped. absurd (not_dumped dumped);
       nothing = λ none. left_alone (disk_of before.disk) (sound before.disk told);
       unprinted = λ none. refl;
-      dumps = λ t p represents. dumps_none t p (disk_of before.disk) (sink_of before.sink) (sound before.disk told) represents;
+      dumps = λ t p represents. dumps_none t p (disk_of before.disk) (sink_of before.sink)
+          (sound before.disk told) represents;
     };
     refused = λ h. refl;
   }
@@ -119,7 +127,8 @@ module _ {D R W : Type 0} (disk_of : D → DiskState) (sink_of : W → SinkState
     none_loaded (inl e) = cc
     none_loaded (inr nothing) = elim nothing [ ]
 
-    loads_from_none : disks.IsObservable (disk_of before.disk) → (u : Tree) (p : Parameters) (script : List ℕ) → Represents (disk_of before.disk).bytes u p
+    loads_from_none : disks.IsObservable (disk_of before.disk) → (u : Tree) (p : Parameters) (script : List ℕ)
+        → Represents (disk_of before.disk).bytes u p
         → LoadsFrom disk_of source_of sink_of u p script before (without_memory before)
     loads_from_none told u p script represents =
         let old = disk_of before.disk in
@@ -131,7 +140,8 @@ module _ {D R W : Type 0} (disk_of : D → DiskState) (sink_of : W → SinkState
           unprinted = λ e. absurd (cc);
           done = λ e. absurd (cc);
           printed = λ shown. record { line = λ e t lists. absurd (cc); in_part = λ e t lists. absurd (cc) };
-          loads = λ empty t lists. loads_none t p old (sound before.disk told) (subst (λ (v : Tree). Represents old.bytes v p) empty represents);
+          loads = λ empty t lists. loads_none t p old (sound before.disk told)
+              (subst (λ (v : Tree). Represents old.bytes v p) empty represents);
           keeps = λ nothing. kept;
           keeps_short = λ e. kept;
           keeps_full = λ full. kept;

@@ -22,7 +22,8 @@ use Rattle.image_subcommands.specs.declared.outcome.Outcome.{Outcome}
 use Rattle.image_subcommands.specs.declared.status.Status.{Status}
 use Rattle.image_subcommands.specs.declared.status.Status.TheVariants as statuses
 use Rattle.image_subcommands.specs.Outside.{Outside}
-use Rattle.image_subcommands.specs.Statuses.{Subcommand as words, IsStatusOf, IsRefusedImage, IsPastHeader, MayComeFirst, ComesExactly, done_of_work}
+use Rattle.image_subcommands.specs.Statuses.{Subcommand as words, IsStatusOf, IsRefusedImage, IsPastHeader}
+use Rattle.image_subcommands.specs.Statuses.{MayComeFirst, ComesExactly, done_of_work}
 
 -- the whole tree was dumped, or as much of it as the sink took
 abbrev pub IsDumped : Status → Type 0
@@ -34,13 +35,14 @@ pub record PutsDump (t : Tree) (status : Status) (old new : SinkState) : Type 0 
   pub in_part : AppendsPrefix old.written new.written (dump_text t)
 
 -- A dump of an image that represents the tree, which changes nothing but that the image is opened.
-pub record DumpsTree (t : Tree) (p : Parameters) (status : Status) (old new : DiskState) (sink sink_new : SinkState) : Type 0 where
+pub record DumpsTree (t : Tree) (p : Parameters) (status : Status) (old new : DiskState)
+    (sink sink_new : SinkState) : Type 0 where
   pub put : sinks.IsObservable sink → PutsDump t status sink sink_new
   -- the disk reads the layout of the tree, and nothing is pending
   pub stands : IsDumped status → Stands new t p
   pub no_memory : status ≡ statuses.NoMemory → Stands new t p ⊎ LeavesImage old new
-  -- an image that a crash at any moment of the call may leave is one that a crash before it might have left, or represents the
-  -- tree; and the disk reads such an image, after a fault too
+  -- an image that a crash at any moment of the call may leave is one that a crash before it might have left, or
+  -- represents the tree; and the disk reads such an image, after a fault too
   pub crash : LeavesOnly old new (λ image. old.crash_images image ⊎ Represents image t p)
   pub reads : Represents new.bytes t p
   -- just the writes and syncs of opening the image were made, and with a fault no more
@@ -48,7 +50,8 @@ pub record DumpsTree (t : Tree) (p : Parameters) (status : Status) (old new : Di
   pub limit : MadeAtMost (opening_writes p.slots old.bytes) (opening_syncs p.slots old.bytes) old new
   pub quiet : HasEmptyJournal p.slots old.bytes → (status ≡ statuses.DiskFault → ⊥) → IsUnwritten old new
   -- it is done where no call failed and memory was there
-  pub complete : (Rose old.faults new.faults → ⊥) → (Rose sink.faults sink_new.faults → ⊥) → (status ≡ statuses.Done) ⊎ (status ≡ statuses.NoMemory)
+  pub complete : (Rose old.faults new.faults → ⊥) → (Rose sink.faults sink_new.faults → ⊥)
+      → (status ≡ statuses.Done) ⊎ (status ≡ statuses.NoMemory)
 
 -- A dump of a disk that tells its bytes.
 pub record DumpsDisk (status : Status) (old new : DiskState) (sink sink_new : SinkState) : Type 0 where
@@ -70,6 +73,7 @@ module _ {D R W : Type 0} (disk_of : D → DiskState) (sink_of : W → SinkState
     pub named : IsPastHeader after.status → (p : Parameters) × HasParameters (disk_of before.disk) p
     -- what stands then
     pub source : after.source ≡ before.source
-    pub observed : disks.IsObservable (disk_of before.disk) → DumpsDisk after.status (disk_of before.disk) (disk_of after.disk) (sink_of before.sink) (sink_of after.sink)
+    pub observed : disks.IsObservable (disk_of before.disk)
+        → DumpsDisk after.status (disk_of before.disk) (disk_of after.disk) (sink_of before.sink) (sink_of after.sink)
     -- where the image is refused nothing is put out
     pub refused : IsRefusedImage after.status → after.sink ≡ before.sink

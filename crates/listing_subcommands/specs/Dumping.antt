@@ -1,5 +1,6 @@
 -- What the calls do that write the dump of a store's tree, place by place.
-use Rattle.std.specs.Prelude.{◌≡◌, ℕ, length, false, IsTrue, List, [], ◌∷◌, ◌++◌, map, slice_get, Option, Some, None, Result, Ok, Err, IfErr, OnOk}
+use Rattle.std.specs.Prelude.{◌≡◌, ℕ, length, false, IsTrue, List, [], ◌∷◌, ◌++◌, map, slice_get, Option, Some, None}
+use Rattle.std.specs.Prelude.{Result, Ok, Err, IfErr, OnOk}
 use Rattle.std.specs.List.{flat_map}
 use Rattle.store_model.specs.Parameters.{Parameters}
 use Rattle.store_model.specs.Paths.{Path, Name, is_root, is_path, attribute_place, attribute_key, key}
@@ -90,9 +91,10 @@ pub data IsDumpFault : Status → Type 0 where
   Disk : IsDumpFault statuses.DiskFault
   NoMemory : IsDumpFault statuses.NoMemory
 
--- What writing a part of a dump leaves of any store and sink: the store keeps its tree, the disk is only read, and one call
--- failed at most, which the status tells.
-pub record KeepsStore {D T : Type 0} (disk_of : D → DiskState) (old new : StoreState D) (sink sink_new : SinkState) (result : Result T Status) : Type 0 where
+-- What writing a part of a dump leaves of any store and sink: the store keeps its tree, the disk is only read, and
+-- one call failed at most, which the status tells.
+pub record KeepsStore {D T : Type 0} (disk_of : D → DiskState) (old new : StoreState D) (sink sink_new : SinkState)
+    (result : Result T Status) : Type 0 where
   pub tree : new.tree ≡ old.tree
   pub params : new.params ≡ old.params
   pub fault : IfErr result IsDumpFault
@@ -109,14 +111,16 @@ pub record KeepsSink {T : Type 0} (old new : SinkState) (result : Result T Statu
   pub observable : new.is_observable ≡ old.is_observable
   pub faults : new.faults ≡ faults_after old.faults result
 
--- The places that are left: no pair of those before them is at the key or behind it, so the next pair is the first of theirs.
+-- The places that are left: no pair of those before them is at the key or behind it, so the next pair is the first of
+-- theirs.
 pub record AreLeft (t : Tree) (p : Parameters) (from : List ℕ) (left : List Spot) : Type 0 where
   pub passed : List Spot
   pub all : spots t ≡ passed ++ left
   pub finds : next_pair from (pairs t p) ≡ slice_get (flat_map (spot_pairs p) left) 0
 
 -- a place was written, and the others are left
-pub record WritesSpot (t : Tree) (p : Parameters) (left : List Spot) (old new : SinkState) (next : List ℕ) : Type 0 where
+pub record WritesSpot (t : Tree) (p : Parameters) (left : List Spot) (old new : SinkState)
+    (next : List ℕ) : Type 0 where
   pub spot : Spot
   pub rest : List Spot
   pub left_is : left ≡ spot ∷ rest

@@ -29,15 +29,18 @@ pub record IsReady {D : Type 0} (disk_of : D → DiskState) (store : StoreState 
   pub stands : IsObservable (disk_of store.disk) → Stands (disk_of store.disk) store.tree store.params
 
 -- an empty store is loaded with the tree of a listing
-abbrev pub LoadsListing : {D : Type 0} → (D → DiskState) → Listing → StoreState D → StoreState D → Result LoadAnswer ApplyFault → Type 0
-LoadsListing disk_of listing old new result = (t : Tree) → IsListed listing t old.params → Loads disk_of t old new result
+abbrev pub LoadsListing : {D : Type 0} → (D → DiskState) → Listing → StoreState D → StoreState D
+    → Result LoadAnswer ApplyFault → Type 0
+LoadsListing disk_of listing old new result = (t : Tree) → IsListed listing t old.params
+    → Loads disk_of t old new result
 
 -- what a load comes to that was answered so: a fault ends the call
 abbrev pub filled_by : Result LoadAnswer ApplyFault → Result LoadAnswer Status
 filled_by (Ok answer) = Ok answer
 filled_by (Err fault) = Err (apply_status fault)
 
-module _ {D R : Type 0} (disk_of : D → DiskState) (source_of : R → SourceState) (store store_new : StoreState D) (reader reader_new : LineState R) where
+module _ {D R : Type 0} (disk_of : D → DiskState) (source_of : R → SourceState) (store store_new : StoreState D)
+    (reader reader_new : LineState R) where
   -- a store that holds a tree is spared, and nothing is read
   pub record SparesStore : Type 0 where
     pub holds : IsObservable (disk_of store.disk) → store.tree ≡ empty_tree → ⊥
@@ -59,11 +62,20 @@ module _ {D R : Type 0} (disk_of : D → DiskState) (source_of : R → SourceSta
     pub loads : LoadsListing disk_of listing store store_new result
 
 -- A store is filled from a listing, or the call ends before.
-pub data FillsStore {D R : Type 0} (disk_of : D → DiskState) (source_of : R → SourceState) (store store_new : StoreState D) (reader reader_new : LineState R) (result : Result LoadAnswer Status) : Type 0 where
-  Spares : result ≡ Err statuses.NotEmpty → SparesStore disk_of source_of store store_new reader reader_new → FillsStore disk_of source_of store store_new reader reader_new result
-  Stops : (status : Status) → result ≡ Err status → EndsReading disk_of source_of store store_new reader reader_new (Err status) → FillsStore disk_of source_of store store_new reader reader_new result
-  Refuses : result ≡ Err statuses.BadListing → EndsReading disk_of source_of store store_new reader reader_new (Ok false) → FillsStore disk_of source_of store store_new reader reader_new result
-  Fills : (loaded : Result LoadAnswer ApplyFault) → result ≡ filled_by loaded → LoadsRead disk_of source_of store store_new reader reader_new loaded → FillsStore disk_of source_of store store_new reader reader_new result
+pub data FillsStore {D R : Type 0} (disk_of : D → DiskState) (source_of : R → SourceState)
+    (store store_new : StoreState D) (reader reader_new : LineState R)
+    (result : Result LoadAnswer Status) : Type 0 where
+  Spares : result ≡ Err statuses.NotEmpty → SparesStore disk_of source_of store store_new reader reader_new
+      → FillsStore disk_of source_of store store_new reader reader_new result
+  Stops : (status : Status) → result ≡ Err status
+      → EndsReading disk_of source_of store store_new reader reader_new (Err status)
+      → FillsStore disk_of source_of store store_new reader reader_new result
+  Refuses : result ≡ Err statuses.BadListing
+      → EndsReading disk_of source_of store store_new reader reader_new (Ok false)
+      → FillsStore disk_of source_of store store_new reader reader_new result
+  Fills : (loaded : Result LoadAnswer ApplyFault) → result ≡ filled_by loaded
+      → LoadsRead disk_of source_of store store_new reader reader_new loaded
+      → FillsStore disk_of source_of store store_new reader reader_new result
 
 -- ---- what is printed
 

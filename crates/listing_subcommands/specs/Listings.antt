@@ -36,17 +36,20 @@ abbrev pub IsReadFault : Status → Type 0
 IsReadFault status = (status ≡ statuses.SourceFault) ⊎ (status ≡ statuses.TooLong) ⊎ (status ≡ statuses.NoMemory)
 
 -- what was read to the end of a source that tells its bytes: a listing, or none
-pub record ReadsWhole {R : Type 0} (source_of : R → SourceState) (p : Parameters) (old new : LineState R) (listing : Listing) (is_listing : Bool) : Type 0 where
+pub record ReadsWhole {R : Type 0} (source_of : R → SourceState) (p : Parameters) (old new : LineState R)
+    (listing : Listing) (is_listing : Bool) : Type 0 where
   pub whole : left source_of new ≡ []
   pub listed : OnTrue is_listing (HasListed p listing (left source_of old))
   pub none : OnFalse is_listing (ListsSome p (left source_of old) → ⊥)
 
 -- All lines of a source are read, of which nothing was read before.
-pub record ReadsListing {R : Type 0} (source_of : R → SourceState) (p : Parameters) (old new : LineState R) (listing : Listing) (result : Result Bool Status) : Type 0 where
+pub record ReadsListing {R : Type 0} (source_of : R → SourceState) (p : Parameters) (old new : LineState R)
+    (listing : Listing) (result : Result Bool Status) : Type 0 where
   pub fault : IfErr result IsReadFault
   pub observable : (source_of new.source).is_observable ≡ (source_of old.source).is_observable
   pub faults : (source_of new.source).faults ≡ source_faults_by (read_status result) (source_of old.source).faults
-  pub limit : IsObservable (source_of old.source) → KeepsLimit (read_status result) (source_of old.source) (source_of new.source)
+  pub limit : IsObservable (source_of old.source)
+      → KeepsLimit (read_status result) (source_of old.source) (source_of new.source)
   pub read : IsObservable (source_of old.source) → IfOk result (ReadsWhole source_of p old new listing)
   -- of a source that does not tell its bytes the commands are those of some tree all the same
   pub some : IfOk result (λ is_listing. OnTrue is_listing ((t : Tree) × IsListed listing t p))
@@ -64,12 +67,15 @@ pub record GoesOnBy (t : Tree) (p : Parameters) (read : Result Command Refusal) 
 abbrev pub BreaksOffBy : Tree → Parameters → Result Command Refusal → Type 0
 BreaksOffBy t p read = (c : Command) → read ≡ Ok c → BreaksOff t c p
 
--- The text of a line comes behind the dump of a tree, if all lines before were a listing: it is taken where some tree's dump
--- begins so. Behind a bad line nothing is.
-pub record TakesText (is_listing : Bool) (old new : Listing) (text : List ℕ) (result : Result Bool Status) : Type 0 where
+-- The text of a line comes behind the dump of a tree, if all lines before were a listing: it is taken where some
+-- tree's dump begins so. Behind a bad line nothing is.
+pub record TakesText (is_listing : Bool) (old new : Listing) (text : List ℕ)
+    (result : Result Bool Status) : Type 0 where
   pub fault : IfErr result (λ status. status ≡ statuses.NoMemory)
-  pub taken : (t : Tree) (p : Parameters) → IsListed old t p → IfOk result (λ taken. OnTrue taken (GoesOnBy t p (reading text) new))
-  pub refused : is_listing ≡ true → (t : Tree) (p : Parameters) → IsListed old t p → IfOk result (λ taken. OnFalse taken (BreaksOffBy t p (reading text)))
+  pub taken : (t : Tree) (p : Parameters) → IsListed old t p
+      → IfOk result (λ taken. OnTrue taken (GoesOnBy t p (reading text) new))
+  pub refused : is_listing ≡ true → (t : Tree) (p : Parameters) → IsListed old t p
+      → IfOk result (λ taken. OnFalse taken (BreaksOffBy t p (reading text)))
   pub behind : is_listing ≡ false → result ≡ Ok false
 
 -- the lines are the dump of a tree, whose commands were taken
@@ -80,9 +86,11 @@ pub record ListsTexts (p : Parameters) (listing : Listing) (texts : List (List �
 
 -- no listing begins with these lines
 abbrev pub BeginsNone : Parameters → List (List ℕ) → Type 0
-BeginsNone p texts = (u : Tree) (rest : List (List ℕ)) → IsTreeUnder u p → map reading (texts ++ rest) ≡ map Ok (dump u) → ⊥
+BeginsNone p texts = (u : Tree) (rest : List (List ℕ)) → IsTreeUnder u p
+    → map reading (texts ++ rest) ≡ map Ok (dump u) → ⊥
 
-module _ {R : Type 0} (source_of : R → SourceState) (p : Parameters) (first now : LineState R) (listing : Listing) (is_listing : Bool) where
+module _ {R : Type 0} (source_of : R → SourceState) (p : Parameters) (first now : LineState R) (listing : Listing)
+    (is_listing : Bool) where
   -- The lines of a source that tells its bytes were read so far: they are a listing, or no listing begins with them.
   pub record ReadHalf : Type 0 where
     pub texts : List (List ℕ)
@@ -102,7 +110,8 @@ module _ {R : Type 0} (source_of : R → SourceState) (p : Parameters) (first no
     pub half : IsObservable (source_of first.source) → ReadHalf
 
 -- A line is read: another one may come, or all were read, or a fault ended the reading.
-abbrev pub ReadsOn : {R : Type 0} → (R → SourceState) → Parameters → LineState R → LineState R → Listing → Bool → Result Bool Status → Type 0
+abbrev pub ReadsOn : {R : Type 0} → (R → SourceState) → Parameters → LineState R → LineState R → Listing → Bool
+    → Result Bool Status → Type 0
 ReadsOn source_of p first new listing is_listing (Ok true) = ReadSoFar source_of p first new listing is_listing
 ReadsOn source_of p first new listing is_listing (Ok false) = ReadsListing source_of p first new listing (Ok is_listing)
 ReadsOn source_of p first new listing is_listing (Err status) = ReadsListing source_of p first new listing (Err status)

@@ -31,7 +31,8 @@ use Rattle.image_subcommands.specs.declared.status.Status.{Status}
 use Rattle.image_subcommands.specs.declared.status.Status.TheVariants as statuses
 use Rattle.image_subcommands.specs.Limits.{KeepsLimit}
 use Rattle.image_subcommands.specs.Outside.{Outside, IsIdle}
-use Rattle.image_subcommands.specs.Statuses.{Subcommand as words, IsStatusOf, IsRefusedImage, IsPastHeader, MayComeFirst, ComesExactly, done_of_work}
+use Rattle.image_subcommands.specs.Statuses.{Subcommand as words, IsStatusOf, IsRefusedImage, IsPastHeader}
+use Rattle.image_subcommands.specs.Statuses.{MayComeFirst, ComesExactly, done_of_work}
 
 -- the image stays that of the tree that it was: nothing was loaded, and no call on the disk failed
 pub data LoadsNothing : Status → Type 0 where
@@ -44,7 +45,8 @@ pub data LoadsNothing : Status → Type 0 where
 
 -- a call may end so before the listing is judged
 abbrev pub EndsBeforeListing : Status → Type 0
-EndsBeforeListing status = (status ≡ statuses.NotEmpty) ⊎ (status ≡ statuses.SourceFault) ⊎ (status ≡ statuses.TooLong) ⊎ MayComeFirst status
+EndsBeforeListing status = (status ≡ statuses.NotEmpty) ⊎ (status ≡ statuses.SourceFault)
+    ⊎ (status ≡ statuses.TooLong) ⊎ MayComeFirst status
 
 -- and before its tree is
 abbrev pub EndsBeforeTree : Status → Type 0
@@ -52,7 +54,8 @@ EndsBeforeTree status = (status ≡ statuses.SinkFault) ⊎ EndsBeforeListing st
 
 -- the source was read to its end
 abbrev pub IsReadWhole : Status → Type 0
-IsReadWhole status = (status ≡ statuses.Done) ⊎ (status ≡ statuses.SinkFault) ⊎ (status ≡ statuses.BadListing) ⊎ (status ≡ statuses.TooFull)
+IsReadWhole status = (status ≡ statuses.Done) ⊎ (status ≡ statuses.SinkFault) ⊎ (status ≡ statuses.BadListing)
+    ⊎ (status ≡ statuses.TooFull)
 
 -- the script is a listing of the tree
 pub record Lists (t : Tree) (p : Parameters) (script : List ℕ) : Type 0 where
@@ -73,24 +76,28 @@ pub record ListsTooMany (p : Parameters) (script : List ℕ) : Type 0 where
   pub lists : Lists tree p script
   pub more : p.slots < page_count tree p
 
--- What is printed: nothing, but of a listing whose tree is too large the line that says so, or where the sink failed a front of
--- it.
+-- What is printed: nothing, but of a listing whose tree is too large the line that says so, or where the sink failed
+-- a front of it.
 pub record PrintsFull (p : Parameters) (script : List ℕ) (status : Status) (old new : SinkState) : Type 0 where
   pub line : status ≡ statuses.TooFull → (t : Tree) → Lists t p script → new.written ≡ old.written ++ full_text t p
-  pub in_part : status ≡ statuses.SinkFault → (t : Tree) → Lists t p script → AppendsPrefix old.written new.written (full_text t p)
+  pub in_part : status ≡ statuses.SinkFault → (t : Tree) → Lists t p script
+      → AppendsPrefix old.written new.written (full_text t p)
 
 -- The tree of a listing is loaded into an image of the empty tree.
 pub record LoadsTree (t : Tree) (p : Parameters) (status : Status) (old new : DiskState) : Type 0 where
   -- where it is done the disk reads the layout of the tree, and nothing is pending
   pub loaded : status ≡ statuses.Done → Stands new t p
   pub room : status ≡ statuses.Done → page_count t p ≤ p.slots
-  -- an image that a crash at any moment of the call may leave is one that a crash before it might have left, or represents the
-  -- empty tree or this one; and the disk reads such an image, after a fault too
-  pub crash : LeavesOnly old new (λ image. old.crash_images image ⊎ (Represents image empty_tree p ⊎ Represents image t p))
+  -- an image that a crash at any moment of the call may leave is one that a crash before it might have left, or
+  -- represents the empty tree or this one; and the disk reads such an image, after a fault too
+  pub crash : LeavesOnly old new (λ image. old.crash_images image
+      ⊎ (Represents image empty_tree p ⊎ Represents image t p))
   pub reads : Represents new.bytes empty_tree p ⊎ Represents new.bytes t p
   -- the slots that hold its pages are committed together, and the image was opened
-  pub made : status ≡ statuses.Done → Made (opening_writes p.slots old.bytes + commit_writes (page_count t p)) (opening_syncs p.slots old.bytes + commit_syncs (page_count t p)) old new
-  pub limit : MadeAtMost (opening_writes p.slots old.bytes + commit_writes (page_count t p)) (opening_syncs p.slots old.bytes + commit_syncs (page_count t p)) old new
+  pub made : status ≡ statuses.Done → Made (opening_writes p.slots old.bytes + commit_writes (page_count t p))
+      (opening_syncs p.slots old.bytes + commit_syncs (page_count t p)) old new
+  pub limit : MadeAtMost (opening_writes p.slots old.bytes + commit_writes (page_count t p))
+      (opening_syncs p.slots old.bytes + commit_syncs (page_count t p)) old new
 
 -- Nothing is loaded: the image keeps its tree.
 pub record KeepsTree (u : Tree) (p : Parameters) (status : Status) (old new : DiskState) : Type 0 where
@@ -103,7 +110,8 @@ pub record KeepsTree (u : Tree) (p : Parameters) (status : Status) (old new : Di
 
 module _ {D R W : Type 0} (disk_of : D → DiskState) (source_of : R → SourceState) (sink_of : W → SinkState) where
   -- A load into an image that represents the tree u, of a listing that the source tells.
-  pub record LoadsFrom (u : Tree) (p : Parameters) (script : List ℕ) (before : Outside D R W) (after : Outcome D R W) : Type 0 where
+  pub record LoadsFrom (u : Tree) (p : Parameters) (script : List ℕ) (before : Outside D R W)
+      (after : Outcome D R W) : Type 0 where
     -- how it ends
     pub not_empty : ComesExactly statuses.NotEmpty (u ≡ empty_tree → ⊥) MayComeFirst after.status
     pub bad_listing : ComesExactly statuses.BadListing (ListsNone p script) EndsBeforeListing after.status
@@ -111,16 +119,22 @@ module _ {D R W : Type 0} (disk_of : D → DiskState) (source_of : R → SourceS
     pub unprinted : after.status ≡ statuses.SinkFault → ListsTooMany p script
     pub done : after.status ≡ statuses.Done → (u ≡ empty_tree) × ((t : Tree) × Lists t p script)
     -- what stands then
-    pub printed : sinks.IsObservable (sink_of before.sink) → PrintsFull p script after.status (sink_of before.sink) (sink_of after.sink)
-    pub loads : u ≡ empty_tree → (t : Tree) → Lists t p script → LoadsTree t p after.status (disk_of before.disk) (disk_of after.disk)
+    pub printed : sinks.IsObservable (sink_of before.sink)
+        → PrintsFull p script after.status (sink_of before.sink) (sink_of after.sink)
+    pub loads : u ≡ empty_tree → (t : Tree) → Lists t p script
+        → LoadsTree t p after.status (disk_of before.disk) (disk_of after.disk)
     pub keeps : LoadsNothing after.status → KeepsTree u p after.status (disk_of before.disk) (disk_of after.disk)
-    pub keeps_short : after.status ≡ statuses.NoMemory → KeepsTree u p after.status (disk_of before.disk) (disk_of after.disk)
+    pub keeps_short : after.status ≡ statuses.NoMemory
+        → KeepsTree u p after.status (disk_of before.disk) (disk_of after.disk)
     pub keeps_full : (u ≡ empty_tree → ⊥) → KeepsTree u p after.status (disk_of before.disk) (disk_of after.disk)
     pub keeps_unlisted : ListsNone p script → KeepsTree u p after.status (disk_of before.disk) (disk_of after.disk)
     pub keeps_too_many : ListsTooMany p script → KeepsTree u p after.status (disk_of before.disk) (disk_of after.disk)
-    pub no_memory : after.status ≡ statuses.NoMemory → Stands (disk_of after.disk) u p ⊎ LeavesImage (disk_of before.disk) (disk_of after.disk)
-    -- it is done where the image is empty, the script a listing within its limit whose tree fits, no call failed and memory was there
-    pub complete : u ≡ empty_tree → (t : Tree) → Lists t p script → page_count t p ≤ p.slots → length script ≤ script_limit
+    pub no_memory : after.status ≡ statuses.NoMemory
+        → Stands (disk_of after.disk) u p ⊎ LeavesImage (disk_of before.disk) (disk_of after.disk)
+    -- it is done where the image is empty, the script a listing within its limit whose tree fits, no call failed and
+    -- memory was there
+    pub complete : u ≡ empty_tree → (t : Tree) → Lists t p script → page_count t p ≤ p.slots
+        → length script ≤ script_limit
         → (Rose (disk_of before.disk).faults (disk_of after.disk).faults → ⊥)
         → (Rose (source_of before.source).faults (source_of after.source).faults → ⊥)
         → (after.status ≡ statuses.Done) ⊎ (after.status ≡ statuses.NoMemory)
@@ -131,9 +145,11 @@ module _ {D R W : Type 0} (disk_of : D → DiskState) (source_of : R → SourceS
     pub damaged : ComesExactly statuses.Damaged (IsDamaged (disk_of before.disk)) MayComeFirst after.status
     pub represented : (after.status ≡ statuses.Done) ⊎ LoadsNothing after.status → RepresentsSome (disk_of before.disk)
     -- what stands then, where the image is none or damaged
-    pub nothing : ((t : Tree) (p : Parameters) → Represents (disk_of before.disk).bytes t p → ⊥) → IsIdle before after × LeavesImage (disk_of before.disk) (disk_of after.disk)
+    pub nothing : ((t : Tree) (p : Parameters) → Represents (disk_of before.disk).bytes t p → ⊥)
+        → IsIdle before after × LeavesImage (disk_of before.disk) (disk_of after.disk)
     -- and where it represents a tree
-    pub loads : sources.IsObservable (source_of before.source) → (u : Tree) (p : Parameters) → Represents (disk_of before.disk).bytes u p
+    pub loads : sources.IsObservable (source_of before.source) → (u : Tree) (p : Parameters)
+        → Represents (disk_of before.disk).bytes u p
         → LoadsFrom u p (source_of before.source).left before after
 
   pub record IsLoad (before : Outside D R W) (after : Outcome D R W) : Type 0 where
@@ -142,11 +158,14 @@ module _ {D R W : Type 0} (disk_of : D → DiskState) (source_of : R → SourceS
     pub done : after.done ≡ done_of_work after.status
     pub named : IsPastHeader after.status → (p : Parameters) × HasParameters (disk_of before.disk) p
     -- what stands then
-    pub limit : sources.IsObservable (source_of before.source) → KeepsLimit after.status (source_of before.source) (source_of after.source)
-    pub whole : sources.IsObservable (source_of before.source) → IsReadWhole after.status → (source_of after.source).left ≡ []
+    pub limit : sources.IsObservable (source_of before.source)
+        → KeepsLimit after.status (source_of before.source) (source_of after.source)
+    pub whole : sources.IsObservable (source_of before.source) → IsReadWhole after.status
+        → (source_of after.source).left ≡ []
     pub observed : disks.IsObservable (disk_of before.disk) → LoadsDisk before after
     -- where the image is refused, or is not empty, nothing is taken
     pub refused : IsRefusedImage after.status → IsIdle before after
     pub not_taken : after.status ≡ statuses.NotEmpty → IsIdle before after
     -- and nothing is printed but that a tree is too large
-    pub silent : (after.status ≡ statuses.TooFull → ⊥) → (after.status ≡ statuses.SinkFault → ⊥) → after.sink ≡ before.sink
+    pub silent : (after.status ≡ statuses.TooFull → ⊥) → (after.status ≡ statuses.SinkFault → ⊥)
+        → after.sink ≡ before.sink

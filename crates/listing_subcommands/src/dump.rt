@@ -18,7 +18,8 @@ ghost use Rattle.image_check.specs.Standing.{IsFitting};
 ghost use Rattle.image_subcommands.specs.Endings.{ended_status};
 ghost use Rattle.image_subcommands.specs.Outside.{KeepsOutside, outside_of};
 ghost use Rattle.listing_subcommands.specs.DumpCall.{IsDump};
-ghost use Rattle.listing_subcommands.specs.Dumping.{Spot, IsSpot, IsStanding, first_pair, spots_text, AreLeft, WritesNext, KeepsStore, KeepsSink};
+ghost use Rattle.listing_subcommands.specs.Dumping.{Spot, IsSpot, IsStanding, first_pair, spots_text, AreLeft};
+ghost use Rattle.listing_subcommands.specs.Dumping.{WritesNext, KeepsStore, KeepsSink};
 
 use disk_model::Disk;
 use image_subcommands::{Outcome, Status};
@@ -41,7 +42,8 @@ pub fn dump_image<D: Disk, R: Source, W: Sink>(
     sink: W,
 ) -> Outcome<D, R, W>
     ensures dump { IsDump D.state W.state (outside_of disk source sink) result }
-    ensures outside { KeepsOutside result.status (D.state disk) (D.state result.disk) (R.state source) (R.state result.source) (W.state sink) (W.state result.sink) }
+    ensures outside { KeepsOutside result.status (D.state disk) (D.state result.disk)
+        (R.state source) (R.state result.source) (W.state sink) (W.state result.sink) }
 {
     let mut store = match Store::attach(alloc, disk) {
         Ok(store) => store,
@@ -72,8 +74,11 @@ fn dump_status(ended: Result<(), Status>) -> Status
 fn write_dump<D: Disk, W: Sink>(store: &mut Store<D>, sink: &mut W) -> Result<(), Status>
     requires fitting { IsFitting store.old.tree store.old.params }
     requires runs { store.old.is_stopped ≡ false }
-    ensures kept { KeepsStore D.state store.old store.new (W.state sink.old) (W.state sink.new) result }
-    ensures puts { disks.IsObservable (D.state store.old.disk) → sinks.IsObservable (W.state sink.old) → PutsBytes (W.state sink.old) (W.state sink.new) (dump_text store.old.tree) result }
+    ensures kept { KeepsStore D.state store.old store.new (W.state sink.old)
+        (W.state sink.new) result }
+    ensures puts { disks.IsObservable (D.state store.old.disk)
+        → sinks.IsObservable (W.state sink.old)
+        → PutsBytes (W.state sink.old) (W.state sink.new) (dump_text store.old.tree) result }
 {
     let mut reply = Reply::Ok;
     let mut key = Path::root().key(0);
@@ -95,9 +100,13 @@ fn write_next<D: Disk, W: Sink>(
     reply: &mut Reply,
 ) -> Result<Option<Key>, Status>
     requires runs { store.old.is_stopped ≡ false }
-    ensures kept { KeepsStore D.state store.old store.new (W.state sink.old) (W.state sink.new) result }
-    ensures next { (t : Tree) (p : Parameters) → IsTree t → store.old.tree ≡ t → store.old.params ≡ p → disks.IsObservable (D.state store.old.disk) → sinks.IsObservable (W.state sink.old)
-        → (left : List Spot) → AreLeft t p key.now left → WritesNext t p left (W.state sink.old) (W.state sink.new) result }
+    ensures kept { KeepsStore D.state store.old store.new (W.state sink.old)
+        (W.state sink.new) result }
+    ensures next { (t : Tree) (p : Parameters) → IsTree t → store.old.tree ≡ t
+        → store.old.params ≡ p → disks.IsObservable (D.state store.old.disk)
+        → sinks.IsObservable (W.state sink.old)
+        → (left : List Spot) → AreLeft t p key.now left
+        → WritesNext t p left (W.state sink.old) (W.state sink.new) result }
 {
     let Some(pair) = store.next_pair(key)? else {
         return Ok(None);
@@ -116,9 +125,12 @@ fn write_place<D: Disk, W: Sink>(
     reply: &mut Reply,
 ) -> Result<(), Status>
     requires runs { store.old.is_stopped ≡ false }
-    ensures kept { KeepsStore D.state store.old store.new (W.state sink.old) (W.state sink.new) result }
-    ensures puts { disks.IsObservable (D.state store.old.disk) → sinks.IsObservable (W.state sink.old) → (spot : Spot) → IsSpot store.old.tree spot
-        → pair ≡ first_pair store.old.params spot → PutsBytes (W.state sink.old) (W.state sink.new) (spots_text (spot ∷ [])) result }
+    ensures kept { KeepsStore D.state store.old store.new (W.state sink.old)
+        (W.state sink.new) result }
+    ensures puts { disks.IsObservable (D.state store.old.disk)
+        → sinks.IsObservable (W.state sink.old) → (spot : Spot) → IsSpot store.old.tree spot
+        → pair ≡ first_pair store.old.params spot
+        → PutsBytes (W.state sink.old) (W.state sink.new) (spots_text (spot ∷ [])) result }
 {
     let (key, value) = pair;
     if let Some((path, name)) = of_attr_key(&key) {
@@ -138,8 +150,10 @@ fn write_attribute<W: Sink>(
     value: &Value,
 ) -> Result<(), Status>
     ensures kept { KeepsSink (W.state sink.old) (W.state sink.new) result }
-    ensures puts { sinks.IsObservable (W.state sink.old) → (bytes : List ℕ) → length bytes ≤ attribute_limit → value.now ≡ attribute_value bytes
-        → PutsBytes (W.state sink.old) (W.state sink.new) (commands_text (SetAttribute path name bytes ∷ [])) result }
+    ensures puts { sinks.IsObservable (W.state sink.old) → (bytes : List ℕ)
+        → length bytes ≤ attribute_limit → value.now ≡ attribute_value bytes
+        → PutsBytes (W.state sink.old) (W.state sink.new)
+        (commands_text (SetAttribute path name bytes ∷ [])) result }
 {
     match attribute_in(value.as_slice()) {
         Some(bytes) => put_command(sink, &Command::Set(path, name, Bytes::new(bytes))),
@@ -156,9 +170,14 @@ fn write_node<D: Disk, W: Sink>(
     reply: &mut Reply,
 ) -> Result<(), Status>
     requires runs { store.old.is_stopped ≡ false }
-    ensures kept { KeepsStore D.state store.old store.new (W.state sink.old) (W.state sink.new) result }
-    ensures puts { disks.IsObservable (D.state store.old.disk) → sinks.IsObservable (W.state sink.old) → (node : Node) → IsStanding store.old.tree path node
-        → first.now ≡ first_value (Some node) store.old.params.version → PutsBytes (W.state sink.old) (W.state sink.new) (commands_text (node_commands path node)) result }
+    ensures kept { KeepsStore D.state store.old store.new (W.state sink.old)
+        (W.state sink.new) result }
+    ensures puts { disks.IsObservable (D.state store.old.disk)
+        → sinks.IsObservable (W.state sink.old) → (node : Node)
+        → IsStanding store.old.tree path node
+        → first.now ≡ first_value (Some node) store.old.params.version
+        → PutsBytes (W.state sink.old) (W.state sink.new)
+        (commands_text (node_commands path node)) result }
 {
     if let Some(bytes) = inline_in(first) {
         return put_piece(sink, &path, 0, bytes);
@@ -179,9 +198,13 @@ fn write_file<D: Disk, W: Sink>(
     reply: &mut Reply,
 ) -> Result<(), Status>
     requires runs { store.old.is_stopped ≡ false }
-    ensures kept { KeepsStore D.state store.old store.new (W.state sink.old) (W.state sink.new) result }
-    ensures puts { disks.IsObservable (D.state store.old.disk) → sinks.IsObservable (W.state sink.old) → (bytes : List ℕ) → IsStanding store.old.tree path (file_node bytes)
-        → length bytes ≡ len → PutsBytes (W.state sink.old) (W.state sink.new) (commands_text (file_commands path bytes)) result }
+    ensures kept { KeepsStore D.state store.old store.new (W.state sink.old)
+        (W.state sink.new) result }
+    ensures puts { disks.IsObservable (D.state store.old.disk)
+        → sinks.IsObservable (W.state sink.old) → (bytes : List ℕ)
+        → IsStanding store.old.tree path (file_node bytes)
+        → length bytes ≡ len → PutsBytes (W.state sink.old) (W.state sink.new)
+        (commands_text (file_commands path bytes)) result }
 {
     if len == 0 {
         return put_piece(sink, &path, 0, &[]);
@@ -198,9 +221,14 @@ fn write_pieces<D: Disk, W: Sink>(
     reply: &mut Reply,
 ) -> Result<(), Status>
     requires runs { store.old.is_stopped ≡ false }
-    ensures kept { KeepsStore D.state store.old store.new (W.state sink.old) (W.state sink.new) result }
-    ensures puts { disks.IsObservable (D.state store.old.disk) → sinks.IsObservable (W.state sink.old) → (bytes : List ℕ) → IsStanding store.old.tree path (file_node bytes)
-        → length bytes ≡ len → 0 < len → PutsBytes (W.state sink.old) (W.state sink.new) (commands_text (file_commands path bytes)) result }
+    ensures kept { KeepsStore D.state store.old store.new (W.state sink.old)
+        (W.state sink.new) result }
+    ensures puts { disks.IsObservable (D.state store.old.disk)
+        → sinks.IsObservable (W.state sink.old) → (bytes : List ℕ)
+        → IsStanding store.old.tree path (file_node bytes)
+        → length bytes ≡ len → 0 < len
+        → PutsBytes (W.state sink.old) (W.state sink.new)
+        (commands_text (file_commands path bytes)) result }
 {
     for piece in 0..len.div_ceil(PIECE) {
         write_read(store, sink, path, PIECE * piece, reply)?;
@@ -217,9 +245,13 @@ fn write_read<D: Disk, W: Sink>(
     reply: &mut Reply,
 ) -> Result<(), Status>
     requires runs { store.old.is_stopped ≡ false }
-    ensures kept { KeepsStore D.state store.old store.new (W.state sink.old) (W.state sink.new) result }
-    ensures puts { disks.IsObservable (D.state store.old.disk) → sinks.IsObservable (W.state sink.old) → (bytes : List ℕ) → node_at store.old.tree path ≡ Some (file_node bytes) → at ≤ length bytes
-        → PutsBytes (W.state sink.old) (W.state sink.new) (commands_text (Write path at (take dump_piece (drop at bytes)) ∷ [])) result }
+    ensures kept { KeepsStore D.state store.old store.new (W.state sink.old)
+        (W.state sink.new) result }
+    ensures puts { disks.IsObservable (D.state store.old.disk)
+        → sinks.IsObservable (W.state sink.old) → (bytes : List ℕ)
+        → node_at store.old.tree path ≡ Some (file_node bytes) → at ≤ length bytes
+        → PutsBytes (W.state sink.old) (W.state sink.new)
+        (commands_text (Write path at (take dump_piece (drop at bytes)) ∷ [])) result }
 {
     store.apply_into(&Command::Read(path, at, PIECE), reply)?;
     put_read(sink, &path, at, reply)
@@ -228,8 +260,10 @@ fn write_read<D: Disk, W: Sink>(
 /// Writes the line of a piece that was read.
 fn put_read<W: Sink>(sink: &mut W, path: &Path, at: u32, reply: &Reply) -> Result<(), Status>
     ensures kept { KeepsSink (W.state sink.old) (W.state sink.new) result }
-    ensures puts { sinks.IsObservable (W.state sink.old) → (bytes : List ℕ) → reply_of reply.now ≡ Content bytes
-        → PutsBytes (W.state sink.old) (W.state sink.new) (commands_text (Write path.now at bytes ∷ [])) result }
+    ensures puts { sinks.IsObservable (W.state sink.old) → (bytes : List ℕ)
+        → reply_of reply.now ≡ Content bytes
+        → PutsBytes (W.state sink.old) (W.state sink.new)
+        (commands_text (Write path.now at bytes ∷ [])) result }
 {
     match reply {
         Reply::Bytes(bytes) => put_piece(sink, path, at, bytes.as_slice()),
@@ -240,7 +274,9 @@ fn put_read<W: Sink>(sink: &mut W, path: &Path, at: u32, reply: &Reply) -> Resul
 /// Writes the line of a command.
 fn put_command<W: Sink>(sink: &mut W, command: &Command) -> Result<(), Status>
     ensures kept { KeepsSink (W.state sink.old) (W.state sink.new) result }
-    ensures puts { sinks.IsObservable (W.state sink.old) → PutsBytes (W.state sink.old) (W.state sink.new) (commands_text (command_of command.now ∷ [])) result }
+    ensures puts { sinks.IsObservable (W.state sink.old)
+        → PutsBytes (W.state sink.old) (W.state sink.new)
+        (commands_text (command_of command.now ∷ [])) result }
 {
     write_command(sink, command)?;
     Ok(())
@@ -250,7 +286,9 @@ fn put_command<W: Sink>(sink: &mut W, command: &Command) -> Result<(), Status>
 fn put_piece<W: Sink>(sink: &mut W, path: &Path, at: u32, bytes: &[u8]) -> Result<(), Status>
     requires few { length bytes.now ≤ Bytes.MAX_LEN }
     ensures kept { KeepsSink (W.state sink.old) (W.state sink.new) result }
-    ensures puts { sinks.IsObservable (W.state sink.old) → PutsBytes (W.state sink.old) (W.state sink.new) (commands_text (Write path.now at bytes.now ∷ [])) result }
+    ensures puts { sinks.IsObservable (W.state sink.old)
+        → PutsBytes (W.state sink.old) (W.state sink.new)
+        (commands_text (Write path.now at bytes.now ∷ [])) result }
 {
     write_piece(sink, path, at, bytes)?;
     Ok(())

@@ -84,7 +84,8 @@ pub fn load_image<D: Disk, R: Source, W: Sink>(
     sink: W,
 ) -> Outcome<D, R, W>
     ensures load { IsLoad D.state R.state W.state (outside_of disk source sink) result }
-    ensures outside { KeepsOutside result.status (D.state disk) (D.state result.disk) (R.state source) (R.state result.source) (W.state sink) (W.state result.sink) }
+    ensures outside { KeepsOutside result.status (D.state disk) (D.state result.disk)
+        (R.state source) (R.state result.source) (W.state sink) (W.state result.sink) }
 {
     let mut reader = match LineReader::new(alloc, source) {
         Ok(reader) => reader,

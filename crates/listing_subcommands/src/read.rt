@@ -44,8 +44,11 @@ fn take_line<R: Source>(
     is_listing: &mut bool,
 ) -> Result<bool, Status>
     requires live { IsTrue reader.old.is_live }
-    ensures falls { IfOk result (λ goes_on. OnTrue goes_on (unread reader.new < unread reader.old)) }
-    ensures turn { (p : Parameters) (first : LineState R) → ReadSoFar R.state p first reader.old listing.old is_listing.old → ReadsOn R.state p first reader.new listing.new is_listing.new result }
+    ensures falls { IfOk result
+        (λ goes_on. OnTrue goes_on (unread reader.new < unread reader.old)) }
+    ensures turn { (p : Parameters) (first : LineState R)
+        → ReadSoFar R.state p first reader.old listing.old is_listing.old
+        → ReadsOn R.state p first reader.new listing.new is_listing.new result }
 {
     match reader.next_line()? {
         Line::Text => *is_listing = take_text(reader.text(), *is_listing, listing, command)?,
@@ -64,7 +67,8 @@ pub fn read_listing<R: Source>(
 ) -> Result<bool, Status>
     requires unread { IsUnread reader.old }
     requires none { (p : Parameters) × IsListed listing.old [] p }
-    ensures { (p : Parameters) → IsListed listing.old [] p → ReadsListing R.state p reader.old reader.new listing.new result }
+    ensures { (p : Parameters) → IsListed listing.old [] p
+        → ReadsListing R.state p reader.old reader.new listing.new result }
 {
     let (mut command, mut is_listing) = (Command::Space, true);
     'lines: while take_line(reader, listing, &mut command, &mut is_listing)? {}

@@ -11,7 +11,9 @@ use Rattle.gate_journal.proofs.Layouts.{with-slots-changed, with-slots-kept}
 use Rattle.gate_journal.proofs.Recovering.{table-recovered, long-recovered, empty-recovered}
 use Rattle.table_memory.specs.Differences.{AreDifferences}
 
-module _ (slots : ℕ) (first second : List ℕ) (first_long : length first ≡ image_len slots) (second_long : length second ≡ image_len slots) (heads : viewed_header slots second ≡ viewed_header slots first) (changes : Changes) (are : AreChanges slots changes)
+module _ (slots : ℕ) (first second : List ℕ) (first_long : length first ≡ image_len slots)
+    (second_long : length second ≡ image_len slots) (heads : viewed_header slots second ≡ viewed_header slots first)
+    (changes : Changes) (are : AreChanges slots changes)
     (differ : AreDifferences (recovered_slot slots second) (recovered_slot slots first) slots changes) where
   abbrev pub changed : List ℕ
   changed = with_slots slots changes (recovered slots second)
@@ -25,18 +27,23 @@ module _ (slots : ℕ) (first second : List ℕ) (first_long : length first ≡ 
     | inl found ↦
         ap (table_slot slots changed) (sym found.2)
         ∙ with-slots-changed slots changes (recovered slots second) are long found.0 found.1
-        ∙ differ.bytes found.0 found.1 ∙ ap (recovered_slot slots first) found.2 ∙ sym (table-recovered slots first first_long i below)
+        ∙ differ.bytes found.0 found.1 ∙ ap (recovered_slot slots first) found.2
+        ∙ sym (table-recovered slots first first_long i below)
     | inr none ↦
         with-slots-kept slots changes (recovered slots second) are long i below none
-        ∙ table-recovered slots second second_long i below ∙ differ.others i below none ∙ sym (table-recovered slots first first_long i below)
+        ∙ table-recovered slots second second_long i below ∙ differ.others i below none
+        ∙ sym (table-recovered slots first first_long i below)
   ]
 
   -- it is what recovery leaves of that
   pub becomes_first : changed ≡ recovered slots first
   becomes_first =
       let empty = empty-recovered slots second second_long in
-      same_settled slots (recovered slots first) changed (long-recovered slots first first_long) ((with_first_same slots changes are (recovered slots second) long changes.count (omega arith)).same_length ∙ long) (empty-recovered slots first first_long)
+      same_settled slots (recovered slots first) changed (long-recovered slots first first_long)
+      ((with_first_same slots changes are (recovered slots second) long changes.count (omega arith)).same_length
+      ∙ long) (empty-recovered slots first first_long)
       (new_empty slots changes are (recovered slots second) long empty) (record {
-        header = new_header slots changes are (recovered slots second) long empty ∙ take-recovered slots second second_long ∙ heads ∙ sym (take-recovered slots first first_long);
+        header = new_header slots changes are (recovered slots second) long empty
+            ∙ take-recovered slots second second_long ∙ heads ∙ sym (take-recovered slots first first_long);
         table = slot_of_first;
       })

@@ -9,7 +9,8 @@ use Rattle.table_memory.specs.Differences.{differing}
 abbrev pub slots_differing : ℕ → List ℕ → List ℕ → ℕ
 slots_differing slots old new = differing (recovered_slot slots old) (recovered_slot slots new) slots
 
--- the syncs of recovering an image: one before, and where there is a journal those that redo it and one behind its erasure
+-- the syncs of recovering an image: one before, and where there is a journal those that redo it and one behind its
+-- erasure
 abbrev pub recovery_syncs : ℕ → List ℕ → ℕ
 recovery_syncs slots image = if has_journal slots image then redo_syncs image + 2 else 1
 

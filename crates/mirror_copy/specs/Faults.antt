@@ -4,7 +4,8 @@ use Rattle.store_base.specs.Counts.{raised}
 use Rattle.image_check.specs.declared.fault.AttachFault.{AttachFault}
 use Rattle.image_check.specs.declared.fault.AttachFault.TheVariants as attach
 use Rattle.mirror_copy.specs.declared.fault.MirrorFault.{MirrorFault}
-use Rattle.mirror_copy.specs.declared.fault.MirrorFault.TheVariants.{FromNotImage, FromDamaged, ToNotImage, Unequal, FromDisk, ToDisk, NoMemory}
+use Rattle.mirror_copy.specs.declared.fault.MirrorFault.TheVariants.{FromNotImage, FromDamaged, ToNotImage, Unequal}
+use Rattle.mirror_copy.specs.declared.fault.MirrorFault.TheVariants.{FromDisk, ToDisk, NoMemory}
 
 -- the count of the first disk: one more where that failed
 abbrev pub from_faults_after : {T : Type 0} → ℕ → Result T MirrorFault → ℕ

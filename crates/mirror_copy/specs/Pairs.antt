@@ -7,7 +7,8 @@ use Rattle.disk_model.specs.DiskState.{DiskState, IsObservable}
 use Rattle.gate_journal.specs.Headers.{HasParameters}
 use Rattle.image_check.specs.Verdicts.{IsNoImage, IsDamaged}
 use Rattle.mirror_copy.specs.declared.fault.MirrorFault.{MirrorFault}
-use Rattle.mirror_copy.specs.declared.fault.MirrorFault.TheVariants.{FromNotImage, FromDamaged, ToNotImage, Unequal, FromDisk, ToDisk, NoMemory}
+use Rattle.mirror_copy.specs.declared.fault.MirrorFault.TheVariants.{FromNotImage, FromDamaged, ToNotImage, Unequal}
+use Rattle.mirror_copy.specs.declared.fault.MirrorFault.TheVariants.{FromDisk, ToDisk, NoMemory}
 
 -- the image represents some tree under these parameters
 pub record RepresentsUnder (image : List ℕ) (p : Parameters) : Type 0 where
@@ -51,8 +52,9 @@ pub record LacksSecond (from to : DiskState) : Type 0 where
   pub first : HoldsSome from
   pub second : IsNoImage to
 
--- What is so of the two disks where this is the answer. A fault of the first says nothing of them. That of the second says
--- that the first holds a tree, since that is found out before the second is looked at; and memory is wanting only for a pair.
+-- What is so of the two disks where this is the answer. A fault of the first says nothing of them. That of the second
+-- says that the first holds a tree, since that is found out before the second is looked at; and memory is wanting
+-- only for a pair.
 abbrev pub IsCause : DiskState → DiskState → MirrorFault → Type 0
 IsCause from to FromNotImage = IsNoImage from
 IsCause from to FromDamaged = IsDamaged from

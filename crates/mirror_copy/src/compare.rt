@@ -54,7 +54,8 @@ fn find_differences<S: ReadSlots, T: ReadSlots>(
 ) -> Result<ChangedSlots, MirrorFault>
     requires first { (S.state from.old).count ≡ slots }
     requires second { (T.state to.old).count ≡ slots }
-    ensures call { FindsDifferences (S.state from.old) (S.state from.new) (T.state to.old) (T.state to.new) result }
+    ensures call { FindsDifferences (S.state from.old) (S.state from.new) (T.state to.old)
+        (T.state to.new) result }
     ensures first { S.follows from.old from.new }
     ensures second { T.follows to.old to.new }
 {
@@ -79,7 +80,8 @@ pub fn compare_slots<A: Disk, B: Disk>(
 ) -> (A, B, Result<ChangedSlots, MirrorFault>)
     requires first { (A.state from).size ≡ image_len params.now.slots }
     requires second { (B.state to).size ≡ image_len params.now.slots }
-    ensures { ComparesSlots params.now.slots (A.state from) (A.state result.0) (B.state to) (B.state result.1) result.2 }
+    ensures { ComparesSlots params.now.slots (A.state from) (A.state result.0) (B.state to)
+        (B.state result.1) result.2 }
 {
     let mut first = View::new(from, params);
     let mut second = View::new(to, params);

@@ -22,7 +22,9 @@ pub fn rewrite<D: Disk, S: SlotChanges>(
     requires changes { AreChanges params.now.slots (S.changes changes.now) }
     ensures calls { AreCalls (D.state disk.old) (D.state disk.new) result }
     ensures rewrites { IsObservable (D.state disk.old) →
-        RewritesImage params.now.slots (with_slots params.now.slots (S.changes changes.now) (recovered params.now.slots (D.state disk.old).bytes)) (S.changes changes.now).count (D.state disk.old) (D.state disk.new) result }
+        RewritesImage params.now.slots (with_slots params.now.slots (S.changes changes.now)
+        (recovered params.now.slots (D.state disk.old).bytes))
+        (S.changes changes.now).count (D.state disk.old) (D.state disk.new) result }
 {
     // Recovered first: a commit begins with an empty journal, and with nothing pending.
     Journal::recover(disk, params)?;

@@ -1,5 +1,6 @@
 -- Lemmas on where a key stands: in one page of each level up to its own.
-use Rattle.std.proofs.Common.{◌≡◌, ℕ, ◌+◌, List, [], ◌∷◌, ◌++◌, map, refl, sym, ap, ap₂, subst, ◌∙◌, cond, arith, Bool, true, false, ◌&&◌, ◌||◌, IsTrue, nat_le, count_by, Less, Equal}
+use Rattle.std.proofs.Common.{◌≡◌, ℕ, ◌+◌, List, [], ◌∷◌, ◌++◌, map, refl, sym, ap, ap₂, subst, ◌∙◌, cond, arith, Bool}
+use Rattle.std.proofs.Common.{true, false, ◌&&◌, ◌||◌, IsTrue, nat_le, count_by, Less, Equal}
 use Rattle.std.specs.List.{flat_map, filter, list_any}
 use Rattle.std.specs.List.Sorted.{IsStrictlySortedBy}
 use Rattle.std.specs.FinMap.{is_sorted}
@@ -30,10 +31,13 @@ abbrev page_has : List ℕ → Page → Bool
 page_has k page = list_any (cell_has k) page.cells
 
 -- of cells that rise, those behind one that has the key have other keys
-other_keys : (k : List ℕ) (x : Cell) (xs : List Cell) → IsStrictlySortedBy cell_cmp (x ∷ xs) → cell_has k x ≡ true → list_any (cell_has k) xs ≡ false
+other_keys : (k : List ℕ) (x : Cell) (xs : List Cell) → IsStrictlySortedBy cell_cmp (x ∷ xs) → cell_has k x ≡ true
+    → list_any (cell_has k) xs ≡ false
 other_keys k x xs h e =
     let here = (bytes_decides x.key k).0 e in
-    list_any_none (cell_has k) xs (All-from_recursion _ xs (all_weaker _ _ (λ y l. go y l here (cell_has k y) refl) xs (rising_head cell_cmp x xs h)))
+    list_any_none (cell_has k) xs
+    (All-from_recursion _ xs (all_weaker _ _ (λ y l. go y l here (cell_has k y) refl) xs
+    (rising_head cell_cmp x xs h)))
   where
     go : (y : Cell) → cell_cmp x y ≡ Less → x.key ≡ k → (b : Bool) → cell_has k y ≡ b → b ≡ false
     go y l here false f = refl
@@ -48,12 +52,15 @@ second_false true b h = cc
 second_false false b h = h
 
 -- of parts of cells that rise, the second has no key that the first has
-apart : (k : List ℕ) (xs ys : List Cell) → IsStrictlySortedBy cell_cmp (xs ++ ys) → list_any (cell_has k) xs ≡ true → list_any (cell_has k) ys ≡ false
+apart : (k : List ℕ) (xs ys : List Cell) → IsStrictlySortedBy cell_cmp (xs ++ ys) → list_any (cell_has k) xs ≡ true
+    → list_any (cell_has k) ys ≡ false
 apart k [] ys h e = cc
 apart k (x ∷ xs) ys h e = go (apart k xs ys (rising_tail cell_cmp x (xs ++ ys) h)) (cell_has k x) refl e
   where
-    go : (list_any (cell_has k) xs ≡ true → list_any (cell_has k) ys ≡ false) → (b : Bool) → cell_has k x ≡ b → (b || list_any (cell_has k) xs) ≡ true → list_any (cell_has k) ys ≡ false
-    go behind true f e = second_false (list_any (cell_has k) xs) _ (sym (list_any-append (cell_has k) xs ys) ∙ other_keys k x (xs ++ ys) h f)
+    go : (list_any (cell_has k) xs ≡ true → list_any (cell_has k) ys ≡ false) → (b : Bool) → cell_has k x ≡ b
+        → (b || list_any (cell_has k) xs) ≡ true → list_any (cell_has k) ys ≡ false
+    go behind true f e = second_false (list_any (cell_has k) xs) _
+        (sym (list_any-append (cell_has k) xs ys) ∙ other_keys k x (xs ++ ys) h f)
     go behind false f e = behind e
 
 -- two tests of which at most one holds
@@ -75,18 +82,22 @@ count_pages k (page ∷ pages) h =
 -- the list of a level, one pair on
 level_list-cons : (k : List ℕ) (d : Draw) (pair : Pair) (s : List Pair) (level : ℕ)
     → list_any (cell_has k) (level_list d (pair ∷ s) level)
-    ≡ cond (nat_le level (d.level pair.0)) (pair_has k pair || list_any (cell_has k) (level_list d s level)) (list_any (cell_has k) (level_list d s level))
+    ≡ cond (nat_le level (d.level pair.0)) (pair_has k pair || list_any (cell_has k) (level_list d s level))
+    (list_any (cell_has k) (level_list d s level))
 unfolding level_list
 level_list-cons k d pair s level =
     let stays = λ (x : Pair). nat_le level (d.level x.0) in
     let rest = filter stays s in
-    elim (stays pair) as (λ b. list_any (cell_has k) (map (cell_on level) (cond b (pair ∷ rest) rest)) ≡ cond b (pair_has k pair || list_any (cell_has k) (map (cell_on level) rest)) (list_any (cell_has k) (map (cell_on level) rest))) [
+    elim (stays pair) as (λ b. list_any (cell_has k) (map (cell_on level) (cond b (pair ∷ rest) rest))
+    ≡ cond b (pair_has k pair || list_any (cell_has k) (map (cell_on level) rest))
+    (list_any (cell_has k) (map (cell_on level) rest))) [
       | true ↦ ap (λ key. same_bytes key k || list_any (cell_has k) (map (cell_on level) rest)) (cell_on-key level pair)
       | false ↦ refl
     ]
 
 -- a test of an element that stays just where the key does
-stays_with_key : (here stays there rest : Bool) → (here ≡ true → stays ≡ there) → cond stays (here || (rest && there)) (rest && there) ≡ ((here || rest) && there)
+stays_with_key : (here stays there rest : Bool) → (here ≡ true → stays ≡ there)
+    → cond stays (here || (rest && there)) (rest && there) ≡ ((here || rest) && there)
 stays_with_key true stays there rest same = ap (λ b. cond b true (rest && there)) (same refl) ∙ go there rest
   where
     go : (c r : Bool) → cond c true (r && c) ≡ c
@@ -97,19 +108,23 @@ stays_with_key false true there rest same = refl
 stays_with_key false false there rest same = refl
 
 -- whether a level's list has a key
-list_has : (k : List ℕ) (d : Draw) (s : List Pair) (level : ℕ) → list_any (cell_has k) (level_list d s level) ≡ (list_any (pair_has k) s && nat_le level (d.level k))
+list_has : (k : List ℕ) (d : Draw) (s : List Pair) (level : ℕ)
+    → list_any (cell_has k) (level_list d s level) ≡ (list_any (pair_has k) s && nat_le level (d.level k))
 unfolding level_list
 list_has k d [] level = refl
 list_has k d (pair ∷ s) level =
     level_list-cons k d pair s level
     ∙ ap (λ b. cond (nat_le level (d.level pair.0)) (pair_has k pair || b) b) (list_has k d s level)
-    ∙ stays_with_key (pair_has k pair) (nat_le level (d.level pair.0)) (nat_le level (d.level k)) (list_any (pair_has k) s) (λ e. ap (λ key. nat_le level (d.level key)) ((bytes_decides pair.0 k).0 e))
+    ∙ stays_with_key (pair_has k pair) (nat_le level (d.level pair.0)) (nat_le level (d.level k))
+    (list_any (pair_has k) s) (λ e. ap (λ key. nat_le level (d.level key)) ((bytes_decides pair.0 k).0 e))
 
 -- a key of a finite map stands in one page of each level up to its own, and in no page of a level above
 pub pages_with_key : (d : Draw) (s : List Pair) (level : ℕ) (k : List ℕ) → IsTrue (is_sorted key_cmp s)
-    → count_by (λ page. list_any (λ cell. same_bytes cell.key k) page.cells) (level_pages d s level) ≡ cond (list_any (λ pair. same_bytes pair.0 k) s && nat_le level (d.level k)) 1 0
+    → count_by (λ page. list_any (λ cell. same_bytes cell.key k) page.cells) (level_pages d s level)
+    ≡ cond (list_any (λ pair. same_bytes pair.0 k) s && nat_le level (d.level k)) 1 0
 pages_with_key d s level k h =
     let whole = cells_of_level d s level in
-    count_pages k (level_pages d s level) (subst (IsStrictlySortedBy cell_cmp) (sym whole) (rising_level_list d s level h))
+    count_pages k (level_pages d s level)
+    (subst (IsStrictlySortedBy cell_cmp) (sym whole) (rising_level_list d s level h))
     ∙ ap (λ cells. cond (list_any (cell_has k) cells) 1 0) whole
     ∙ ap (λ b. cond b 1 0) (list_has k d s level)

@@ -10,9 +10,11 @@ named_slots image = from_be_bytes w32 (bytes_at image 8 4)
 
 -- whether it is in range, and the image has the length of one with so many slots
 abbrev pub has_named_length : List ℕ → Bool
-has_named_length image = (nat_le 1 (named_slots image) && nat_le (named_slots image) slots_limit) && (length image == image_len (named_slots image))
+has_named_length image = (nat_le 1 (named_slots image) && nat_le (named_slots image) slots_limit)
+    && (length image == image_len (named_slots image))
 
--- the header, with the version 2 where the image is of such a length, the commit flag is set and the mark behind those of
--- the slots is not 0
+-- the header, with the version 2 where the image is of such a length, the commit flag is set and the mark behind
+-- those of the slots is not 0
 unfoldable pub header_of : List ℕ → List ℕ
-header_of image = if has_named_length image && (is_flag_set image && is_marked image (named_slots image)) then header_as_two image else take block_len image
+header_of image = if has_named_length image
+    && (is_flag_set image && is_marked image (named_slots image)) then header_as_two image else take block_len image

@@ -25,7 +25,8 @@ SpellsCell level bytes = level ≡ 0 → SpellsValue (drop 124 bytes)
 -- so many cells, one behind the other, each with a key above the one before it
 unfoldable pub SpellsRising : ℕ → List ℕ → ℕ → List ℕ → Type 0
 SpellsRising level last zero bytes = Unit {0}
-SpellsRising level last (suc count) bytes = SpellsCell level (take (cell_size level) bytes) × (key_cmp last (take 124 bytes) ≡ Less) × SpellsRising level (take 124 bytes) count (drop (cell_size level) bytes)
+SpellsRising level last (suc count) bytes = SpellsCell level (take (cell_size level) bytes)
+    × (key_cmp last (take 124 bytes) ≡ Less) × SpellsRising level (take 124 bytes) count (drop (cell_size level) bytes)
 
 -- the 3,964 bytes behind the count of a page spell so many cells of the level, as many as a page may have, and zeros
 pub record SpellsCells (level count : ℕ) (area : List ℕ) : Type 0 where

@@ -1,5 +1,6 @@
 -- The place of a key in a list of entries that rise by key, and what a search and a change make of the list there.
-use Rattle.std.specs.Prelude.{◌≡◌, ℕ, ◌<◌, ◌≤◌, not, List, length, Option, Some, None, Result, MatchResult, insert, remove, slice_get, slice_set, slice_index_or}
+use Rattle.std.specs.Prelude.{◌≡◌, ℕ, ◌<◌, ◌≤◌, not, List, length, Option, Some, None, Result, MatchResult, insert}
+use Rattle.std.specs.Prelude.{remove, slice_get, slice_set, slice_index_or}
 use Rattle.std.specs.List.{filter, find as first_that}
 use Rattle.std.specs.FinMap.{find, put}
 use Rattle.std.specs.Ordering.{eq_by_cmp, is_le}

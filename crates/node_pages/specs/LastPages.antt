@@ -11,4 +11,5 @@ page_of_run level lead index run = record { label = record { level = level; lead
 
 -- the pages of the last cells of a group, numbered from an index on
 unfoldable pub pages_from : ℕ → Lead → ℕ → List Cell → List Page
-pages_from level lead index cells = map (λ run. page_of_run level lead run.0 run.1) (enumerate_from index (runs (page_room level) cells))
+pages_from level lead index cells =
+    map (λ run. page_of_run level lead run.0 run.1) (enumerate_from index (runs (page_room level) cells))

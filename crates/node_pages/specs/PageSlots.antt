@@ -1,5 +1,6 @@
 -- Where the cells of a page lie in its slot, and how they are read there.
-use Rattle.std.specs.Prelude.{◌≡◌, ℕ, zero, suc, ◌+◌, ◌-◌, ◌<◌, ◌*◌, List, [], ◌∷◌, ◌++◌, take, drop, Option, Some, None, slice_index}
+use Rattle.std.specs.Prelude.{◌≡◌, ℕ, zero, suc, ◌+◌, ◌-◌, ◌<◌, ◌*◌, List, [], ◌∷◌, ◌++◌, take, drop, Option, Some}
+use Rattle.std.specs.Prelude.{None, slice_index}
 use Rattle.std.specs.Int.{w16, from_be_bytes}
 use Rattle.std.specs.List.{flat_map, AllByRecursion}
 use Rattle.store_model.specs.Lists.{zero_filled}
@@ -20,7 +21,8 @@ cell_in level bytes = record { key = take 124 bytes; value = value_in level (dro
 -- so many cells, one behind the other
 unfoldable pub cells_in : ℕ → ℕ → List ℕ → List Cell
 cells_in level zero bytes = []
-cells_in level (suc count) bytes = cell_in level (take (cell_size level) bytes) ∷ cells_in level count (drop (cell_size level) bytes)
+cells_in level (suc count) bytes = cell_in level (take (cell_size level) bytes)
+    ∷ cells_in level count (drop (cell_size level) bytes)
 
 -- bytes are those of so many cells of the level, and no others
 pub record ArePacked (level count : ℕ) (bytes : List ℕ) : Type 0 where
@@ -38,7 +40,8 @@ pub record IsSlotOf (label : Label) (slot : List ℕ) : Type 0 where
   pub page : IsPage (page_in label slot)
   pub bytes : page_bytes (page_in label slot) ≡ slot
 
--- the slot of a page of the level with one more cell, whose bytes are given: it is counted, and stands behind the others
+-- the slot of a page of the level with one more cell, whose bytes are given: it is counted, and stands behind the
+-- others
 abbrev pub appended : ℕ → List ℕ → List ℕ → List ℕ
 appended level slot bytes =
     let before = cell_size level * slice_index slot 131 in

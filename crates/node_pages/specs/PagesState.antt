@@ -87,8 +87,10 @@ pub record HasPlace (m : PageMap) (label : Label) (at : ℕ) (cell : Cell) : Typ
   pub takes : TakesCell page at cell
 
 -- A cell inserted into the page under a label: the page with it is put.
-pub record IsCellInsert {T : Type 0} (old new : PagesState) (label : Label) (at : ℕ) (cell : Cell) (result : Result T Fault) : Type 0 where
+pub record IsCellInsert {T : Type 0} (old new : PagesState) (label : Label) (at : ℕ) (cell : Cell)
+    (result : Result T Fault) : Type 0 where
   pub faults : new.faults ≡ disk_faults_after old.faults result
   pub lookups : new.lookups ≡ old.lookups
   pub hidden : IsObservable new → IsObservable old
-  pub observed : IsObservable old → (page : Page) → page_at old.pages label ≡ Some page → PutsPage old new (with_cell page at cell) result
+  pub observed : IsObservable old → (page : Page) → page_at old.pages label ≡ Some page
+      → PutsPage old new (with_cell page at cell) result

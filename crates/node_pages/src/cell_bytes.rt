@@ -16,7 +16,8 @@ use store_base::{Key, NoMemory, Value};
 pub fn cells_between(level: u8, bytes: &[u8], first: u32, past: u32) -> &[u8]
     requires order { first ≤ past }
     requires within { spelled.cell_size level * past ≤ length bytes.now }
-    ensures { result.now ≡ drop (spelled.cell_size level * first) (take (spelled.cell_size level * past) bytes.now) }
+    ensures { result.now ≡ drop (spelled.cell_size level * first)
+        (take (spelled.cell_size level * past) bytes.now) }
 {
     let len = cell_len(level);
     let (front, _) = bytes.split_at(len * past as usize);
@@ -111,7 +112,8 @@ pub fn write_cell(area: &mut [u8], cell: &Cell)
 fn make_room(area: &mut [u8], from: usize, end: usize, size: usize)
     requires order { from ≤ end }
     requires room { end + size ≤ length area.old }
-    ensures { area.new ≡ take from area.old ++ zeros size ++ drop from (take end area.old) ++ drop (end + size) area.old }
+    ensures { area.new ≡ take from area.old ++ zeros size ++ drop from (take end area.old)
+        ++ drop (end + size) area.old }
 {
     area.copy_within(from..end, from + size);
     area[from..from + size].fill(0);
@@ -122,7 +124,8 @@ pub fn insert_cell(level: u8, area: &mut [u8], from: usize, end: usize, cell: &C
     requires cell { IsCell level cell.now }
     requires order { from ≤ end }
     requires room { end + spelled.cell_size level ≤ length area.old }
-    ensures { area.new ≡ take from area.old ++ cell_bytes cell.now ++ drop from (take end area.old) ++ drop (end + spelled.cell_size level) area.old }
+    ensures { area.new ≡ take from area.old ++ cell_bytes cell.now ++ drop from (take end area.old)
+        ++ drop (end + spelled.cell_size level) area.old }
 {
     let size = cell_len(level);
     make_room(area, from, end, size);

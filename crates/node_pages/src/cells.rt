@@ -1,6 +1,7 @@
 //! Lists of cells of one level, kept as the bytes that they have in pages.
 
-ghost use Rattle.std.specs.Prelude.{◌≡◌, ◌+◌, ◌*◌, ◌<◌, ◌≤◌, ◌↔◌, [], ◌∷◌, ◌++◌, length, map, take, drop, Some, IfSome, IfOk, OnOk, OnErr, IsTrue, slice_get};
+ghost use Rattle.std.specs.Prelude.{◌≡◌, ◌+◌, ◌*◌, ◌<◌, ◌≤◌, ◌↔◌, [], ◌∷◌, ◌++◌, length, map, take, drop, Some, IfSome};
+ghost use Rattle.std.specs.Prelude.{IfOk, OnOk, OnErr, IsTrue, slice_get};
 ghost use Rattle.std.specs.List.{flat_map, AllByRecursion};
 ghost use Rattle.std.specs.List.Sorted.{IsStrictlySortedBy};
 ghost use Rattle.std.specs.FinMap as maps;
@@ -159,7 +160,9 @@ impl Cells {
         ensures order { result.0 ≤ result.1 }
         ensures within { result.1 ≤ length self.now.cells }
         ensures few { result.1 ≤ result.0 + 31 }
-        ensures cells { drop result.0 (take result.1 self.now.cells) ≡ take (page_room self.now.level) (drop (page_room self.now.level * index) self.now.cells) }
+        ensures cells { drop result.0 (take result.1 self.now.cells)
+            ≡ take (page_room self.now.level)
+            (drop (page_room self.now.level * index) self.now.cells) }
     {
         let room = u32::from(room(self.level));
         let done = room * index;
@@ -168,7 +171,11 @@ impl Cells {
 
     /// The label of the level with this lead and number.
     fn label(&self, lead: &Lead, number: u32) -> Label
-        ensures value { result ≡ record { level = self.now.level; lead = model_lead lead.now; index = number } }
+        ensures value { result ≡ record {
+          level = self.now.level;
+          lead = model_lead lead.now;
+          index = number;
+        } }
         ensures valid { IsLabel result }
     {
         reveal_lead(lead);
@@ -187,7 +194,8 @@ impl Cells {
         requires rising { IsStrictlySortedBy key_cmp (map (λ c. c.key) self.now.cells) }
         requires number { first + index < 4294967296 }
         requires within { index < length (runs (page_room self.now.level) self.now.cells) }
-        ensures { slice_get (pages_from self.now.level (model_lead lead.now) first self.now.cells) index ≡ Some result }
+        ensures { slice_get (pages_from self.now.level (model_lead lead.now) first self.now.cells)
+            index ≡ Some result }
     {
         self.reveal();
         let label = self.label(lead, first + index);
@@ -207,8 +215,12 @@ impl Cells {
         requires rising { IsStrictlySortedBy key_cmp (map (λ c. c.key) self.now.cells) }
         requires number { first + index < 4294967296 }
         requires within { index < length (runs (page_room self.now.level) self.now.cells) }
-        requires room { IsObservable (P.state pages.old) → maps.len (P.state pages.old).pages < most_pages }
-        ensures call { IsPagePut (P.state pages.old) (P.state pages.new) (page_of_run self.now.level (model_lead lead.now) (first + index) (take (page_room self.now.level) (drop (page_room self.now.level * index) self.now.cells))) result }
+        requires room { IsObservable (P.state pages.old)
+            → maps.len (P.state pages.old).pages < most_pages }
+        ensures call { IsPagePut (P.state pages.old) (P.state pages.new)
+            (page_of_run self.now.level (model_lead lead.now) (first + index)
+            (take (page_room self.now.level)
+            (drop (page_room self.now.level * index) self.now.cells))) result }
         ensures follows { P.follows pages.old pages.new }
     {
         self.reveal();
@@ -224,7 +236,9 @@ impl Cells {
     pub fn is_page(&self, lead: &Lead, first: u32, index: u32, page: &Page) -> bool
         requires number { first + index < 4294967296 }
         requires within { index < length (runs (page_room self.now.level) self.now.cells) }
-        ensures { IsTrue result ↔ (slice_get (pages_from self.now.level (model_lead lead.now) first self.now.cells) index ≡ Some page.now) }
+        ensures { IsTrue result
+            ↔ (slice_get (pages_from self.now.level (model_lead lead.now) first self.now.cells)
+            index ≡ Some page.now) }
     {
         self.reveal();
         let (done, past) = self.run(index);
@@ -238,7 +252,8 @@ impl Cells {
     /// - 1 cells; the list is then as it was.
     pub fn push(&mut self, cell: &Cell) -> Result<(), NoMemory>
         requires { IsCell self.old.level cell.now }
-        ensures ok { OnOk result (self.new ≡ record self.old { cells = self.old.cells ++ cell.now ∷ [] }) }
+        ensures ok { OnOk result
+            (self.new ≡ record self.old { cells = self.old.cells ++ cell.now ∷ [] }) }
         ensures err { OnErr result (self.new ≡ self.old) }
     {
         let Some(count) = self.count.checked_add(1) else {
@@ -254,8 +269,13 @@ impl Cells {
     pub fn append_from(&mut self, page: &Page, first: u32, past: u32) -> Result<(), NoMemory>
         requires order { first ≤ past }
         requires within { past ≤ length page.now.cells }
-        requires fits { AllByRecursion (IsCell self.old.level) (drop first (take past page.now.cells)) }
-        ensures ok { OnOk result (self.new ≡ record self.old { cells = self.old.cells ++ drop first (take past page.now.cells) }) }
+        requires fits { AllByRecursion (IsCell self.old.level)
+            (drop first (take past page.now.cells)) }
+        ensures ok { OnOk result
+            (self.new ≡ record self.old {
+              cells =
+                  self.old.cells ++ drop first (take past page.now.cells);
+            }) }
         ensures err { OnErr result (self.new ≡ self.old) }
     {
         let Some(count) = self.count.checked_add(past - first) else {

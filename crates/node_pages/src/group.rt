@@ -17,7 +17,8 @@ use store_base::{Lead, NoMemory};
 /// above, the last run holding the rest, with labels numbered from 0.
 pub fn cut_group(alloc: Global, lead: &Lead, cells: &Cells) -> Result<PageList, NoMemory>
     requires { IsStrictlySortedBy key_cmp (map (λ c. c.key) cells.now.cells) }
-    ensures { IfOk result (λ pages. pages ≡ group_pages cells.now.level (model_lead lead.now) cells.now.cells) }
+    ensures { IfOk result (λ pages. pages
+        ≡ group_pages cells.now.level (model_lead lead.now) cells.now.cells) }
 {
     let mut pages = PageList::with_room(alloc, cells.page_count())?;
     append_group(&mut pages, lead, cells)?;
@@ -28,8 +29,11 @@ pub fn cut_group(alloc: Global, lead: &Lead, cells: &Cells) -> Result<PageList, 
 /// few of them appended, or none.
 pub fn append_group(pages: &mut PageList, lead: &Lead, cells: &Cells) -> Result<(), NoMemory>
     requires { IsStrictlySortedBy key_cmp (map (λ c. c.key) cells.now.cells) }
-    ensures ok { OnOk result (pages.new ≡ pages.old ++ group_pages cells.now.level (model_lead lead.now) cells.now.cells) }
-    ensures err { OnErr result ((n : ℕ) × (pages.new ≡ pages.old ++ take n (group_pages cells.now.level (model_lead lead.now) cells.now.cells))) }
+    ensures ok { OnOk result (pages.new ≡ pages.old
+        ++ group_pages cells.now.level (model_lead lead.now) cells.now.cells) }
+    ensures err { OnErr result ((n : ℕ)
+        × (pages.new ≡ pages.old ++ take n
+        (group_pages cells.now.level (model_lead lead.now) cells.now.cells))) }
 {
     cells.reveal();
     for index in 0..cells.page_count() {
@@ -41,8 +45,13 @@ pub fn append_group(pages: &mut PageList, lead: &Lead, cells: &Cells) -> Result<
 /// The cells of the pages that are of the level, one page after another: of the pages that `cut_group` gives,
 /// the cells of the group.
 pub fn join_group(alloc: Global, level: u8, pages: &PageList) -> Result<Cells, NoMemory>
-    ensures cells { IfOk result (λ joined. joined ≡ record { level = level; cells = flat_map (λ page. page.cells) (filter (λ page. page.label.level == level) pages.now) }) }
-    ensures group { (lead : ModelLead) (cells : List ModelCell) → pages.now ≡ group_pages level lead cells → IfOk result (λ joined. joined.cells ≡ cells) }
+    ensures cells { IfOk result (λ joined. joined ≡ record {
+      level = level;
+      cells =
+          flat_map (λ page. page.cells) (filter (λ page. page.label.level == level) pages.now);
+    }) }
+    ensures group { (lead : ModelLead) (cells : List ModelCell)
+        → pages.now ≡ group_pages level lead cells → IfOk result (λ joined. joined.cells ≡ cells) }
 {
     let room = pages
         .as_slice()

@@ -25,7 +25,8 @@ use store_base::{Fault, Label};
 pub struct MapPages {
     pages: Vec<Box<Page>>,
     lookups: u64,
-    pub ghost sorted: { IsTrue (is_sorted key_cmp (map entry_of (map (λ page. page.value) pages.items))) },
+    pub ghost sorted: { IsTrue (is_sorted key_cmp
+        (map entry_of (map (λ page. page.value) pages.items))) },
     pub ghost valid: { AllByRecursion IsPage (map (λ page. page.value) pages.items) } by { ArePages-prop (map (λ page. page.value) pages.items) },
 }
 
@@ -33,7 +34,8 @@ pub struct MapPages {
 /// would stand.
 fn place_of(pages: &[Box<Page>], label: &Label) -> Result<usize, usize>
     requires { IsTrue (is_sorted key_cmp (map entry_of (map (λ page. page.value) pages.now))) }
-    ensures { IsPlaceOf (map entry_of (map (λ page. page.value) pages.now)) (label_bytes label.now) result }
+    ensures { IsPlaceOf (map entry_of (map (λ page. page.value) pages.now))
+        (label_bytes label.now) result }
 {
     pages.binary_search_by(
         |page: &Box<Page>| -> Ordering
@@ -56,11 +58,20 @@ impl MapPages {
 }
 
 impl Pages for MapPages {
-    ghost state = { λ p. record { is_observable = Unit {0}; pages = map_of_sorted (map (λ page. page.value) p.pages.items); faults = 0; lookups = p.lookups; at_hand = λ _. Unit {0} } };
+    ghost state = { λ p. record {
+      is_observable = Unit {0};
+      pages =
+          map_of_sorted (map (λ page. page.value) p.pages.items);
+      faults = 0;
+      lookups =
+          p.lookups;
+      at_hand = λ _. Unit {0};
+    } };
 
     ghost follows = { λ _ _. Unit {0} };
 
-    ghost valid = { λ p _. IsPageMap-sorted (map (λ page. page.value) p.pages.items) p.sorted p.valid };
+    ghost valid = { λ p _. IsPageMap-sorted (map (λ page. page.value) p.pages.items)
+        p.sorted p.valid };
 
     ghost follows_refl = { λ _. tt };
 
@@ -90,8 +101,10 @@ impl Pages for MapPages {
     }
 
     fn insert_cell(&mut self, label: &Label, at: u32, cell: &Cell) -> Result<(), Fault>
-        requires place { HasPlace (⟦<MapPages as Pages>⟧.state self.old).pages label.now at cell.now }
-        ensures call { IsCellInsert (⟦<MapPages as Pages>⟧.state self.old) (⟦<MapPages as Pages>⟧.state self.new) label.now at cell.now result }
+        requires place { HasPlace (⟦<MapPages as Pages>⟧.state self.old).pages label.now at
+            cell.now }
+        ensures call { IsCellInsert (⟦<MapPages as Pages>⟧.state self.old)
+            (⟦<MapPages as Pages>⟧.state self.new) label.now at cell.now result }
         ensures done { IsOk result }
         ensures follows { ⟦<MapPages as Pages>⟧.follows self.old self.new }
     {

@@ -1,6 +1,7 @@
 //! Pages, and their slots.
 
-ghost use Rattle.std.specs.Prelude.{◌≡◌, ◌+◌, ◌-◌, ◌*◌, ◌<◌, ◌≤◌, ◌↔◌, [], ◌∷◌, ◌++◌, length, map, take, drop, None, Some, IfSome, IsTrue, true, false, nat_eq, slice_get, slice_index};
+ghost use Rattle.std.specs.Prelude.{◌≡◌, ◌+◌, ◌-◌, ◌*◌, ◌<◌, ◌≤◌, ◌↔◌, [], ◌∷◌, ◌++◌, length, map, take, drop, None};
+ghost use Rattle.std.specs.Prelude.{Some, IfSome, IsTrue, true, false, nat_eq, slice_get, slice_index};
 ghost use Rattle.std.specs.List.{flat_map, AllByRecursion};
 ghost use Rattle.std.specs.List.Sorted.{IsStrictlySortedBy};
 ghost use Rattle.std.specs.Cmp.{partial_equiv_from_equiv, on_equiv, on_per};
@@ -70,7 +71,8 @@ fn bytes_in<'a>(label: &Label, slot: &'a Slot, first: u32, past: u32) -> &'a [u8
     requires holds { cells.IsSlotOf label.now slot.now }
     requires order { first ≤ past }
     requires within { past ≤ length (cells.page_in label.now slot.now).cells }
-    ensures { result.now ≡ flat_map cell_bytes (drop first (take past (cells.page_in label.now slot.now).cells)) }
+    ensures { result.now ≡ flat_map cell_bytes
+        (drop first (take past (cells.page_in label.now slot.now).cells)) }
 {
     let (_, area) = slot.split_at(CELLS_AT);
     cell_bytes::cells_between(level_of(label), area, first, past)
@@ -90,7 +92,8 @@ fn begin(label: &Label, slot: &mut Slot)
 fn append(label: &Label, slot: &mut Slot, cell: &Cell)
     requires cell { IsCell label.now.level cell.now }
     requires room { slice_index slot.old COUNT_AT < page_room label.now.level }
-    requires blank { drop (spelled.cell_size label.now.level * slice_index slot.old COUNT_AT) (drop CELLS_AT slot.old)
+    requires blank { drop (spelled.cell_size label.now.level * slice_index slot.old COUNT_AT)
+        (drop CELLS_AT slot.old)
         ≡ zeros (3964 - spelled.cell_size label.now.level * slice_index slot.old COUNT_AT) }
     ensures { slot.new ≡ cells.appended label.now.level slot.old (cell_bytes cell.now) }
 {
@@ -105,7 +108,10 @@ fn fill(label: &Label, slot: &mut Slot, count: u8, run: &[u8])
     requires empty { slot.old ≡ page_bytes (record { label = label.now; cells = [] }) }
     requires packed { cells.ArePacked label.now.level count run.now }
     requires room { count ≤ page_room label.now.level }
-    ensures { slot.new ≡ page_bytes (record { label = label.now; cells = cells.cells_in label.now.level count run.now }) }
+    ensures { slot.new ≡ page_bytes (record {
+      label = label.now;
+      cells = cells.cells_in label.now.level count run.now;
+    }) }
 {
     slot[COUNT_AT] = count;
     slot[CELLS_AT..CELLS_AT + run.len()].copy_from_slice(run);
@@ -134,12 +140,15 @@ fn put_before(label: &Label, slot: &mut Slot, at: u32, cell: &Cell)
 /// The label of the page that a slot holds, by its first 131 bytes alone: the cells are not looked at.
 /// `None` exactly where byte 0 is not 1 or no label stands behind it, as in a free slot.
 pub fn label_in(slot: &Slot) -> Option<Label>
-    ensures found { IfSome result (λ label. IsLabel label × (take COUNT_AT slot.now ≡ 1 ∷ label_bytes label)) }
-    ensures only { (label : labels.Label) → IsLabel label → take COUNT_AT slot.now ≡ 1 ∷ label_bytes label → result ≡ Some label }
+    ensures found { IfSome result (λ label. IsLabel label
+        × (take COUNT_AT slot.now ≡ 1 ∷ label_bytes label)) }
+    ensures only { (label : labels.Label) → IsLabel label
+        → take COUNT_AT slot.now ≡ 1 ∷ label_bytes label → result ≡ Some label }
 
     // What a slot of the table holds is free or a page.
     ensures free { slot.now ≡ slot_bytes None → result ≡ None }
-    ensures page { (page : model.Page) → IsPage page → slot.now ≡ slot_bytes (Some page) → result ≡ Some page.label }
+    ensures page { (page : model.Page) → IsPage page → slot.now ≡ slot_bytes (Some page)
+        → result ≡ Some page.label }
 {
     if slot[0] != 1 {
         return None;
@@ -155,7 +164,8 @@ pub fn label_in(slot: &Slot) -> Option<Label>
 /// stand behind the last cell.
 pub fn decode_page(slot: &Slot) -> Option<Page>
     ensures found { IfSome result (λ page. IsPage page × (page_bytes page ≡ slot.now)) }
-    ensures only { (page : model.Page) → IsPage page → page_bytes page ≡ slot.now → result ≡ Some page }
+    ensures only { (page : model.Page) → IsPage page
+        → page_bytes page ≡ slot.now → result ≡ Some page }
 {
     let label = label_in(slot)?;
     let (_, area) = slot.split_at(CELLS_AT);
@@ -186,7 +196,8 @@ impl Page {
     pub fn push(&mut self, cell: Cell)
         requires cell { IsCell self.old.label.level cell }
         requires room { length self.old.cells < page_room self.old.label.level }
-        requires rising { IsStrictlySortedBy key_cmp (map (λ c. c.key) (self.old.cells ++ cell ∷ [])) }
+        requires rising { IsStrictlySortedBy key_cmp
+            (map (λ c. c.key) (self.old.cells ++ cell ∷ [])) }
         ensures value { self.new ≡ record self.old { cells = self.old.cells ++ cell ∷ [] } }
         ensures valid { IsPage self.new }
     {
@@ -209,7 +220,8 @@ impl Page {
     pub fn add(&mut self, cell: &Cell)
         requires cell { IsCell self.old.label.level cell.now }
         requires room { length self.old.cells < page_room self.old.label.level }
-        requires rising { IsStrictlySortedBy key_cmp (map (λ c. c.key) (self.old.cells ++ cell.now ∷ [])) }
+        requires rising { IsStrictlySortedBy key_cmp
+            (map (λ c. c.key) (self.old.cells ++ cell.now ∷ [])) }
         ensures value { self.new ≡ record self.old { cells = self.old.cells ++ cell.now ∷ [] } }
         ensures valid { IsPage self.new }
     {
@@ -221,8 +233,14 @@ impl Page {
     #[inline(always)]
     pub fn of_run(label: Label, count: u8, run: &[u8]) -> Self
         requires packed { cells.ArePacked label.level count run.now }
-        requires page { IsPage (record { label = label; cells = cells.cells_in label.level count run.now }) }
-        ensures { result ≡ record { label = label; cells = cells.cells_in label.level count run.now } }
+        requires page { IsPage (record {
+          label = label;
+          cells = cells.cells_in label.level count run.now;
+        }) }
+        ensures { result ≡ record {
+          label = label;
+          cells = cells.cells_in label.level count run.now;
+        } }
     {
         let mut slot = [0; BLOCK];
         begin(&label, &mut slot);
@@ -233,8 +251,14 @@ impl Page {
     /// Makes it the page of a label and so many cells, whose bytes are given.
     pub fn refill(&mut self, label: &Label, count: u8, run: &[u8])
         requires packed { cells.ArePacked label.now.level count run.now }
-        requires page { IsPage (record { label = label.now; cells = cells.cells_in label.now.level count run.now }) }
-        ensures { self.new ≡ record { label = label.now; cells = cells.cells_in label.now.level count run.now } }
+        requires page { IsPage (record {
+          label = label.now;
+          cells = cells.cells_in label.now.level count run.now;
+        }) }
+        ensures { self.new ≡ record {
+          label = label.now;
+          cells = cells.cells_in label.now.level count run.now;
+        } }
     {
         self.label = *label;
         self.slot = [0; BLOCK];
@@ -245,7 +269,9 @@ impl Page {
     /// Whether the keys of the first `past` cells are below this one.
     fn are_below(&self, past: u32, key: &Key) -> bool
         requires { past ≤ length self.now.cells }
-        ensures { IsTrue result ↔ AllByRecursion (λ k. key_cmp k key.now ≡ Less) (map (λ c. c.key) (take past self.now.cells)) }
+        ensures { IsTrue result
+            ↔ AllByRecursion (λ k. key_cmp k key.now ≡ Less)
+            (map (λ c. c.key) (take past self.now.cells)) }
     {
         past == 0 || is_below(self.key_bytes(past - 1), key.as_bytes())
     }
@@ -253,7 +279,9 @@ impl Page {
     /// Whether the keys of the cells from number `first` on are above this one.
     fn are_above(&self, first: u32, key: &Key) -> bool
         requires { first ≤ length self.now.cells }
-        ensures { IsTrue result ↔ AllByRecursion (λ k. key_cmp key.now k ≡ Less) (map (λ c. c.key) (drop first self.now.cells)) }
+        ensures { IsTrue result
+            ↔ AllByRecursion (λ k. key_cmp key.now k ≡ Less)
+            (map (λ c. c.key) (drop first self.now.cells)) }
     {
         first == self.len() || is_below(key.as_bytes(), self.key_bytes(first))
     }
@@ -261,7 +289,10 @@ impl Page {
     /// Whether a key stands between those of the first `at` cells and those of the others.
     fn is_between(&self, at: u32, key: &Key) -> bool
         requires { at ≤ length self.now.cells }
-        ensures { IsTrue result ↔ IsStrictlySortedBy key_cmp (map (λ c. c.key) (take at self.now.cells) ++ key.now ∷ map (λ c. c.key) (drop at self.now.cells)) }
+        ensures { IsTrue result
+            ↔ IsStrictlySortedBy key_cmp
+            (map (λ c. c.key) (take at self.now.cells) ++ key.now
+            ∷ map (λ c. c.key) (drop at self.now.cells)) }
     {
         self.reveal();
         self.are_below(at, key) && self.are_above(at, key)
@@ -269,7 +300,10 @@ impl Page {
 
     /// Whether it has so many cells, has room for one more, and the cell is one of its level.
     fn may_take(&self, at: u32, cell: &Cell) -> bool
-        ensures { IsTrue result ↔ ((at ≤ length self.now.cells) × (length self.now.cells < page_room self.now.label.level) × IsCell self.now.label.level cell.now) }
+        ensures { IsTrue result
+            ↔ ((at ≤ length self.now.cells)
+            × (length self.now.cells < page_room self.now.label.level)
+            × IsCell self.now.label.level cell.now) }
     {
         at <= self.len() && self.len() < u32::from(room(self.level())) && cell.is_of(self.level())
     }

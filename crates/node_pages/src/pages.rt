@@ -7,7 +7,8 @@ ghost use Rattle.std.specs.Io.BufRead.{Rests};
 ghost use Rattle.store_model.specs.PageMaps.{IsPageMap};
 ghost use Rattle.store_model.specs.Pages.{IsPage};
 ghost use Rattle.node_pages.specs.PageSlots.{ArePacked, cells_in};
-ghost use Rattle.node_pages.specs.PagesState.{PagesState, IsObservable, IsPageGet, IsPagePut, IsPageDrop, IsCellInsert, HasPlace, looked_at, most_pages};
+ghost use Rattle.node_pages.specs.PagesState.{PagesState, IsObservable, IsPageGet, IsPagePut, IsPageDrop, IsCellInsert};
+ghost use Rattle.node_pages.specs.PagesState.{HasPlace, looked_at, most_pages};
 
 use crate::cell::Cell;
 use crate::page::Page;
@@ -37,7 +38,10 @@ pub trait Pages {
     /// As `get`, with a reference to the page in the place of a copy. It may answer `Fault::NoMemory` for what is
     /// not at hand.
     fn look(&mut self, label: &Label) -> Result<Option<&Page>, Fault>
-        ensures* after_borrow { sem 𝓛 (Rests Self.row self.entry (λ new. IsPageGet (state self.old) (state new) label.now (looked_at result) × follows self.old new)) };
+        ensures* after_borrow { sem 𝓛
+            (Rests Self.row self.entry (λ new.
+            IsPageGet (state self.old) (state new) label.now (looked_at result)
+            × follows self.old new)) };
 
     /// Puts the page under its label, in the place of the one that was there. There have to be fewer than 2^32 - 1
     /// pages. After a fault the pages are as they were.
@@ -50,9 +54,14 @@ pub trait Pages {
     /// not make it first.
     fn put_run(&mut self, label: &Label, count: u8, run: &[u8]) -> Result<(), Fault>
         requires packed { ArePacked label.now.level count run.now }
-        requires page { IsPage (record { label = label.now; cells = cells_in label.now.level count run.now }) }
-        requires room { IsObservable (state self.old) → maps.len (state self.old).pages < most_pages }
-        ensures call { IsPagePut (state self.old) (state self.new) (record { label = label.now; cells = cells_in label.now.level count run.now }) result }
+        requires page { IsPage (record {
+          label = label.now;
+          cells = cells_in label.now.level count run.now;
+        }) }
+        requires room { IsObservable (state self.old)
+            → maps.len (state self.old).pages < most_pages }
+        ensures call { IsPagePut (state self.old) (state self.new)
+            (record { label = label.now; cells = cells_in label.now.level count run.now }) result }
         ensures follows { follows self.old self.new }
     {
         self.put(Page::of_run(*label, count, run))
@@ -62,7 +71,8 @@ pub trait Pages {
     /// there and to take it. It may answer `Fault::NoMemory`. After a fault the pages are as they were. It
     /// counts as no lookup, and there are as many pages as before.
     fn insert_cell(&mut self, label: &Label, at: u32, cell: &Cell) -> Result<(), Fault>
-        requires place { IsObservable (state self.old) → HasPlace (state self.old).pages label.now at cell.now }
+        requires place { IsObservable (state self.old)
+            → HasPlace (state self.old).pages label.now at cell.now }
         ensures call { IsCellInsert (state self.old) (state self.new) label.now at cell.now result }
         ensures follows { follows self.old self.new };
 

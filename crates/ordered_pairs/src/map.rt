@@ -82,7 +82,11 @@ impl MapPairs {
 impl OrderedPairs for MapPairs {
     ghost use Rattle.ordered_pairs.specs.PairsState as lists;
 
-    ghost state = { λ list. record { is_observable = Unit {0}; pairs = list.pairs.items; faults = 0 } };
+    ghost state = { λ list. record {
+      is_observable = Unit {0};
+      pairs = list.pairs.items;
+      faults = 0;
+    } };
 
     ghost follows = { λ _ _. Unit {0} };
 

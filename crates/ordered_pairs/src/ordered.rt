@@ -2,7 +2,8 @@
 
 ghost use Rattle.std.specs.Prelude.{◌<◌, ◌≤◌, length};
 ghost use Rattle.store_model.specs.Pairs.{IsPairs};
-ghost use Rattle.ordered_pairs.specs.PairsState.{PairsState, IsObservable, IsPairGet, IsPairPut, IsPairTake, IsNextPair, most_pairs};
+ghost use Rattle.ordered_pairs.specs.PairsState.{PairsState, IsObservable, IsPairGet, IsPairPut, IsPairTake};
+ghost use Rattle.ordered_pairs.specs.PairsState.{IsNextPair, most_pairs};
 
 use store_base::{Fault, Key, Value};
 
@@ -47,7 +48,8 @@ pub trait OrderedPairs {
     ghost valid: { (list : Self) → IsObservable (state list) → IsPairs (state list).pairs };
 
     /// There are at most 8,388,608 pairs.
-    ghost few: { (list : Self) → IsObservable (state list) → length (state list).pairs ≤ most_pairs };
+    ghost few: { (list : Self) → IsObservable (state list)
+        → length (state list).pairs ≤ most_pairs };
 
     /// Each list follows itself, and what follows goes on from call to call.
     ghost follows_refl: { (list : Self) → follows list list };

@@ -8,7 +8,13 @@ use Rattle.ordered_table.specs.declared.mem_slots.MemSlots.{MemSlots}
 
 -- observable slots that take no memory
 abbrev pub mem_state : MemSlots → SlotsState
-mem_state s = record { count = length s.slots.items; is_observable = true; slots = s.slots.items; faults = s.faults; takes_none = true }
+mem_state s = record {
+  count = length s.slots.items;
+  is_observable = true;
+  slots = s.slots.items;
+  faults = s.faults;
+  takes_none = true;
+}
 
 -- the number of the next call, from 0, and the calls that fail
 abbrev pub call_number : MemSlots → ℕ

@@ -1,5 +1,6 @@
 -- What the calls on an ordered table answer, and what they leave.
-use Rattle.std.specs.Prelude.{◌≡◌, ◌↔◌, ℕ, ◌+◌, ◌<◌, ◌≤◌, min, List, Bool, false, IsTrue, Option, None, Some, Result, IsNone, IfSome, IfOk, OnOk, slice_get}
+use Rattle.std.specs.Prelude.{◌≡◌, ◌↔◌, ℕ, ◌+◌, ◌<◌, ◌≤◌, min, List, Bool, false, IsTrue, Option, None, Some, Result}
+use Rattle.std.specs.Prelude.{IsNone, IfSome, IfOk, OnOk, slice_get}
 use Rattle.std.specs.List.{prefix_len}
 use Rattle.std.specs.declared.cmp.Ordering.{Ordering}
 use Rattle.std.specs.Ordering.{nat_cmp, is_lt}
@@ -20,20 +21,26 @@ is_passed l None = false
 is_passed l (Some None) = false
 is_passed l (Some (Some page)) = is_lt (label_cmp page.label l)
 
--- how many slots a search reads: those of the probe sequence that it goes past and the one that ends it, or all where none does
+-- how many slots a search reads: those of the probe sequence that it goes past and the one that ends it, or all where
+-- none does
 unfoldable pub looks : Draw → Table → Label → ℕ
 looks d table l = min d.slots (1 + prefix_len (λ slot. is_passed l (slice_get table slot)) (probes d l))
 
--- how the label of the page that a slot of these bytes holds stands to the one of other bytes; in a free slot there is none
+-- how the label of the page that a slot of these bytes holds stands to the one of other bytes; in a free slot there
+-- is none
 pub record TellsOrder (slot wanted : List ℕ) (order : Option Ordering) : Type 0 where
   pub free : slot ≡ slot_bytes None → order ≡ None
-  pub page : (page : Page) → IsPage page → slot ≡ slot_bytes (Some page) → order ≡ Some (slice_cmp nat_cmp (label_bytes page.label) wanted)
+  pub page : (page : Page) → IsPage page → slot ≡ slot_bytes (Some page)
+      → order ≡ Some (slice_cmp nat_cmp (label_bytes page.label) wanted)
 
--- what a comparison of the label in a slot does: it only reads, and tells how that label stands to the one of these bytes
-pub record Orders (old new : SlotsState) (at : ℕ) (wanted : List ℕ) (result : Result (Option Ordering) Fault) : Type 0 where
+-- what a comparison of the label in a slot does: it only reads, and tells how that label stands to the one of these
+-- bytes
+pub record Orders (old new : SlotsState) (at : ℕ) (wanted : List ℕ)
+    (result : Result (Option Ordering) Fault) : Type 0 where
   pub calls : AreSlotCalls old new result
   pub reads : IsObservable old → new.slots ≡ old.slots
-  pub told : (slot : List ℕ) → IsObservable old → slice_get old.slots at ≡ Some slot → IfOk result (TellsOrder slot wanted)
+  pub told : (slot : List ℕ) → IsObservable old → slice_get old.slots at ≡ Some slot
+      → IfOk result (TellsOrder slot wanted)
 
 -- the slot holds the page that the map has under the label
 pub record IsSlotWith (slots : List (List ℕ)) (m : PageMap) (l : Label) (at : ℕ) : Type 0 where
@@ -41,8 +48,10 @@ pub record IsSlotWith (slots : List (List ℕ)) (m : PageMap) (l : Label) (at : 
   pub in_map : page_at m l ≡ Some page
   pub in_slot : slice_get slots at ≡ Some (slot_bytes (Some page))
 
--- what a search answers where the slots hold the pages of the map, and the steps that it counts: one for each slot that it reads
-pub record IsFound (d : Draw) (slots : List (List ℕ)) (m : PageMap) (l : Label) (before after : ℕ) (result : Result (Option ℕ) Fault) : Type 0 where
+-- what a search answers where the slots hold the pages of the map, and the steps that it counts: one for each slot
+-- that it reads
+pub record IsFound (d : Draw) (slots : List (List ℕ)) (m : PageMap) (l : Label) (before after : ℕ)
+    (result : Result (Option ℕ) Fault) : Type 0 where
   pub absent : IfOk result (λ found. IsNone found ↔ (page_at m l ≡ None))
   pub slot : IfOk result (λ found. IfSome found (IsSlotWith slots m l))
   pub steps : OnOk result (after ≡ before + looks d (place d (pages_of_map m)) l)
@@ -60,7 +69,8 @@ pub record HasInSlot (d : Draw) (slots : List (List ℕ)) (m : PageMap) (l : Lab
   pub there : IsSlotWith slots m l at
 
 -- what a search does
-pub record Finds (d : Draw) (old new : SlotsState) (l : Label) (before after : ℕ) (result : Result (Option ℕ) Fault) : Type 0 where
+pub record Finds (d : Draw) (old new : SlotsState) (l : Label) (before after : ℕ)
+    (result : Result (Option ℕ) Fault) : Type 0 where
   pub calls : AreSlotCalls old new result
   pub reads : IsObservable old → new.slots ≡ old.slots
   pub within : IfOk result (λ found. IfSome found (λ at. at < old.count))
@@ -71,19 +81,24 @@ pub record Finds (d : Draw) (old new : SlotsState) (l : Label) (before after : �
 pub record Looks (d : Draw) (old new : SlotsState) (at : ℕ) (l : Label) (result : Result Bool Fault) : Type 0 where
   pub calls : AreSlotCalls old new result
   pub reads : IsObservable old → new.slots ≡ old.slots
-  pub there : (m : PageMap) → IsObservable old → HoldsPages d old.slots m → IfOk result (λ is_there. IsTrue is_there ↔ IsSlotWith old.slots m l at)
+  pub there : (m : PageMap) → IsObservable old → HoldsPages d old.slots m
+      → IfOk result (λ is_there. IsTrue is_there ↔ IsSlotWith old.slots m l at)
 
 -- what an insertion does
 pub record Inserts {T : Type 0} (d : Draw) (old new : SlotsState) (page : Page) (result : Result T Fault) : Type 0 where
   pub calls : AreSlotCalls old new result
-  pub inserted : (m : PageMap) → IsObservable old → HasRoomFor d old.slots m page → OnOk result (HoldsPages d new.slots (with_page m page))
+  pub inserted : (m : PageMap) → IsObservable old → HasRoomFor d old.slots m page
+      → OnOk result (HoldsPages d new.slots (with_page m page))
 
 -- what overwriting the page in a slot does
-pub record Overwrites {T : Type 0} (d : Draw) (old new : SlotsState) (at : ℕ) (page : Page) (result : Result T Fault) : Type 0 where
+pub record Overwrites {T : Type 0} (d : Draw) (old new : SlotsState) (at : ℕ) (page : Page)
+    (result : Result T Fault) : Type 0 where
   pub calls : AreSlotCalls old new result
-  pub overwritten : (m : PageMap) → IsObservable old → HasInSlot d old.slots m page.label at → OnOk result (HoldsPages d new.slots (with_page m page))
+  pub overwritten : (m : PageMap) → IsObservable old → HasInSlot d old.slots m page.label at
+      → OnOk result (HoldsPages d new.slots (with_page m page))
 
 -- what the removal of the page in a slot does
 pub record Removes {T : Type 0} (d : Draw) (old new : SlotsState) (at : ℕ) (result : Result T Fault) : Type 0 where
   pub calls : AreSlotCalls old new result
-  pub removed : (m : PageMap) (l : Label) → IsObservable old → HasInSlot d old.slots m l at → OnOk result (HoldsPages d new.slots (without_page m l))
+  pub removed : (m : PageMap) (l : Label) → IsObservable old → HasInSlot d old.slots m l at
+      → OnOk result (HoldsPages d new.slots (without_page m l))

@@ -34,7 +34,8 @@ fn displace<S: Slots, W: Draw>(
 ) -> Result<Option<Way>, Fault>
     requires count { (S.ReadSlots.state slots.old).count ≡ (W.drawn draw.now).slots }
     requires below { way.now.at < (S.ReadSlots.state slots.old).count }
-    ensures call { Displaces (W.drawn draw.now) (S.ReadSlots.state slots.old) (S.ReadSlots.state slots.new) way.now hand.now there.new result }
+    ensures call { Displaces (W.drawn draw.now) (S.ReadSlots.state slots.old)
+        (S.ReadSlots.state slots.new) way.now hand.now there.new result }
     ensures follows { S.ReadSlots.follows slots.old slots.new }
 {
     let count = draw.slots();
@@ -71,7 +72,8 @@ fn carry_on<S: Slots, W: Draw>(
 ) -> Result<(), Fault>
     requires count { (S.ReadSlots.state slots.old).count ≡ (W.drawn draw.now).slots }
     requires below { displaced.at < (S.ReadSlots.state slots.old).count }
-    ensures call { CarriesOn (W.drawn draw.now) (S.ReadSlots.state slots.old) (S.ReadSlots.state slots.new) displaced hand.old result }
+    ensures call { CarriesOn (W.drawn draw.now) (S.ReadSlots.state slots.old)
+        (S.ReadSlots.state slots.new) displaced hand.old result }
     ensures follows { S.ReadSlots.follows slots.old slots.new }
 {
     let mut spare = [0; BLOCK];
@@ -94,7 +96,8 @@ fn carry_on<S: Slots, W: Draw>(
 /// slots after it.
 pub fn insert<S: Slots, W: Draw>(slots: &mut S, draw: &W, page: &Page) -> Result<(), Fault>
     requires { (S.ReadSlots.state slots.old).count ≡ (W.drawn draw.now).slots }
-    ensures call { Inserts (W.drawn draw.now) (S.ReadSlots.state slots.old) (S.ReadSlots.state slots.new) page.now result }
+    ensures call { Inserts (W.drawn draw.now) (S.ReadSlots.state slots.old)
+        (S.ReadSlots.state slots.new) page.now result }
     ensures follows { S.ReadSlots.follows slots.old slots.new }
 {
     insert_from(slots, draw, draw.start(&page.label()), page)
@@ -109,7 +112,8 @@ pub fn insert_from<S: Slots, W: Draw>(
 ) -> Result<(), Fault>
     requires count { (S.ReadSlots.state slots.old).count ≡ (W.drawn draw.now).slots }
     requires start { start ≡ (W.drawn draw.now).start page.now.label }
-    ensures call { Inserts (W.drawn draw.now) (S.ReadSlots.state slots.old) (S.ReadSlots.state slots.new) page.now result }
+    ensures call { Inserts (W.drawn draw.now) (S.ReadSlots.state slots.old)
+        (S.ReadSlots.state slots.new) page.now result }
     ensures follows { S.ReadSlots.follows slots.old slots.new }
 {
     let mut there = [0; BLOCK];
@@ -136,7 +140,8 @@ pub fn overwrite<S: Slots, W: Draw>(
 ) -> Result<(), Fault>
     requires count { (S.ReadSlots.state slots.old).count ≡ (W.drawn _draw.now).slots }
     requires below { at < (S.ReadSlots.state slots.old).count }
-    ensures call { Overwrites (W.drawn _draw.now) (S.ReadSlots.state slots.old) (S.ReadSlots.state slots.new) at page.now result }
+    ensures call { Overwrites (W.drawn _draw.now) (S.ReadSlots.state slots.old)
+        (S.ReadSlots.state slots.new) at page.now result }
     ensures follows { S.ReadSlots.follows slots.old slots.new }
 {
     slots.set(at, page.as_slot())

@@ -30,7 +30,8 @@ impl MemSlots {
     /// the slots.
     pub fn new(alloc: Global, slots: u32, failing: Vec<u64>) -> Result<MemSlots, NoMemory>
         ensures count { IfOk result (λ made. (mem_state made).count ≡ slots) }
-        ensures empty { IfOk result (λ made. (mem_state made).slots ≡ replicate slots (zeros BLOCK)) }
+        ensures empty { IfOk result
+            (λ made. (mem_state made).slots ≡ replicate slots (zeros BLOCK)) }
         ensures listed { IfOk result (λ made. listed made ≡ failing.items) }
         ensures first { IfOk result (λ made. call_number made ≡ 0) }
         ensures faults { IfOk result (λ made. (mem_state made).faults ≡ 0) }
@@ -62,7 +63,11 @@ impl MemSlots {
     /// Counts a call, and says whether it is to fail.
     fn takes_fault(&mut self) -> bool
         ensures answer { result ≡ will_fail self.old }
-        ensures after { self.new ≡ record self.old { calls = raised self.old.calls; faults = if result then raised self.old.faults else self.old.faults } }
+        ensures after { self.new ≡ record self.old {
+          calls = raised self.old.calls;
+          faults =
+              if result then raised self.old.faults else self.old.faults;
+        } }
     {
         let fails = self.failing.contains(&self.calls);
         self.calls = self.calls.saturating_add(1);

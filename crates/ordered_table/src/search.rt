@@ -23,7 +23,8 @@ pub fn holds<S: OrderSlots, W: Draw>(
 ) -> Result<bool, Fault>
     requires count { (S.state slots.old).count ≡ (W.drawn _draw.now).slots }
     requires below { at < (S.state slots.old).count }
-    ensures call { Looks (W.drawn _draw.now) (S.state slots.old) (S.state slots.new) at label.now result }
+    ensures call { Looks (W.drawn _draw.now) (S.state slots.old)
+        (S.state slots.new) at label.now result }
     ensures follows { S.follows slots.old slots.new }
 {
     let Some(order) = slots.order(at, &label.to_bytes())? else {
@@ -42,7 +43,8 @@ fn find_by<S: ReadSlots, C: Compare<S>, W: Draw, L: Ledger>(
 ) -> Result<Option<u32>, Fault>
     requires count { (S.state slots.old).count ≡ (W.drawn draw.now).slots }
     requires start { start ≡ (W.drawn draw.now).start label.now }
-    ensures call { Finds (W.drawn draw.now) (S.state slots.old) (S.state slots.new) label.now steps.old steps.new result }
+    ensures call { Finds (W.drawn draw.now) (S.state slots.old)
+        (S.state slots.new) label.now steps.old steps.new result }
     ensures follows { S.follows slots.old slots.new }
 {
     let count = draw.slots();
@@ -76,7 +78,8 @@ pub fn find<S: ReadSlots, W: Draw, L: Ledger>(
     steps: &mut Steps<L>,
 ) -> Result<Option<u32>, Fault>
     requires { (S.state slots.old).count ≡ (W.drawn draw.now).slots }
-    ensures call { Finds (W.drawn draw.now) (S.state slots.old) (S.state slots.new) label.now steps.old steps.new result }
+    ensures call { Finds (W.drawn draw.now) (S.state slots.old)
+        (S.state slots.new) label.now steps.old steps.new result }
     ensures follows { S.follows slots.old slots.new }
 {
     find_by::<S, ByRead, W, L>(slots, draw, draw.start(label), label, steps)
@@ -92,7 +95,8 @@ pub fn find_from<S: OrderSlots, W: Draw, L: Ledger>(
 ) -> Result<Option<u32>, Fault>
     requires count { (S.state slots.old).count ≡ (W.drawn draw.now).slots }
     requires start { start ≡ (W.drawn draw.now).start label.now }
-    ensures call { Finds (W.drawn draw.now) (S.state slots.old) (S.state slots.new) label.now steps.old steps.new result }
+    ensures call { Finds (W.drawn draw.now) (S.state slots.old)
+        (S.state slots.new) label.now steps.old steps.new result }
     ensures follows { S.follows slots.old slots.new }
 {
     find_by::<S, ByOrder, W, L>(slots, draw, start, label, steps)

@@ -1,5 +1,6 @@
 -- Lemmas on the pages in slots.
-use Rattle.std.proofs.Common.{◌≡◌, ℕ, ◌==◌, List, [], ◌∷◌, if◌then◌else◌, take, drop, Option, Some, None, refl, sym, ap, ◌∙◌}
+use Rattle.std.proofs.Common.{◌≡◌, ℕ, ◌==◌, List, [], ◌∷◌, if◌then◌else◌, take, drop, Option, Some, None, refl, sym, ap}
+use Rattle.std.proofs.Common.{◌∙◌}
 use Rattle.std.specs.List.{filter_map, cons_option, AllByRecursion}
 use Rattle.store_model.specs.Labels.{Label}
 use Rattle.store_model.specs.Draws.{Draw, IsLawful}
@@ -20,7 +21,8 @@ unfolding page_in_slot
 page_in_slot-page page valid =
     let slot = page_bytes page in
     let shows = shown page slot valid refl in
-    let label : label_in (take 130 (drop 1 slot)) ≡ page.label = ap label_in (sym shows.label_bytes_are) ∙ label_in-label_bytes page.label valid.label in
+    let label : label_in (take 130 (drop 1 slot)) ≡ page.label =
+    ap label_in (sym shows.label_bytes_are) ∙ label_in-label_bytes page.label valid.label in
     ap (λ (n : ℕ). if n == 1 then Some (page_in (label_in (take 130 (drop 1 slot))) slot) else None) shows.first
     ∙ ap (λ (l : Label). Some (page_in l slot)) label ∙ ap Some shows.read
 
@@ -30,16 +32,22 @@ unfolding page_in_slot slot_bytes
 page_in_slot-free = refl
 
 -- the slots of a table of pages tell them
-told_by_slots : (table : Table) → AllByRecursion IsPage (pages_in table) → filter_map page_in_slot (slots_of table) ≡ pages_in table
+told_by_slots : (table : Table) → AllByRecursion IsPage (pages_in table)
+    → filter_map page_in_slot (slots_of table) ≡ pages_in table
 unfolding pages_in slot_bytes
 told_by_slots [] all = refl
-told_by_slots (None ∷ table) all = ap (λ (o : Option Page). cons_option o (filter_map page_in_slot (slots_of table))) page_in_slot-free ∙ told_by_slots table all
+told_by_slots (None ∷ table) all =
+    ap (λ (o : Option Page). cons_option o (filter_map page_in_slot (slots_of table))) page_in_slot-free
+    ∙ told_by_slots table all
 told_by_slots (Some page ∷ table) all =
-    ap (λ (o : Option Page). cons_option o (filter_map page_in_slot (slots_of table))) (page_in_slot-page page all.0) ∙ ap (λ (ps : List Page). page ∷ ps) (told_by_slots table all.1)
+    ap (λ (o : Option Page). cons_option o (filter_map page_in_slot (slots_of table))) (page_in_slot-page page all.0)
+    ∙ ap (λ (ps : List Page). page ∷ ps) (told_by_slots table all.1)
 
 -- slots that hold a map have its pages in them
-pub pages_in_held : (d : Draw) (slots : List (List ℕ)) (m : PageMap) → IsLawful d → HoldsPages d slots m → pages_in_slots slots ≡ m
+pub pages_in_held : (d : Draw) (slots : List (List ℕ)) (m : PageMap) → IsLawful d → HoldsPages d slots m
+    → pages_in_slots slots ≡ m
 unfolding pages_in_slots
 pages_in_held d slots m law held =
     let table = table_of_held_map d slots m law held in
-    ap (λ (ss : List (List ℕ)). map_of_pages (filter_map page_in_slot ss)) table.1.slots_are ∙ ap map_of_pages (told_by_slots table.0 table.1.ordered.pages) ∙ table.1.pages_are
+    ap (λ (ss : List (List ℕ)). map_of_pages (filter_map page_in_slot ss)) table.1.slots_are
+    ∙ ap map_of_pages (told_by_slots table.0 table.1.ordered.pages) ∙ table.1.pages_are

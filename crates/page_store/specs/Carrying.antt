@@ -12,12 +12,15 @@ use Rattle.table_memory.specs.Staging.{StagedPages, with_changes}
 -- the page under a label is taken away, if there is one
 pub record TakesPage {T : Type 0} (d : Draw) (old new : SlotsState) (l : Label) (result : Result T Fault) : Type 0 where
   pub calls : AreSlotCalls old new result
-  pub taken : (m : PageMap) → IsObservable old → HoldsPages d old.slots m → OnOk result (HoldsPages d new.slots (without_page m l))
+  pub taken : (m : PageMap) → IsObservable old → HoldsPages d old.slots m
+      → OnOk result (HoldsPages d new.slots (without_page m l))
 
 -- a page is put under its label, in the place of the one that was there; a new one asks for a free slot
-pub record LaysPage {T : Type 0} (d : Draw) (old new : SlotsState) (page : Page) (result : Result T Fault) : Type 0 where
+pub record LaysPage {T : Type 0} (d : Draw) (old new : SlotsState) (page : Page)
+    (result : Result T Fault) : Type 0 where
   pub calls : AreSlotCalls old new result
-  pub laid : (m : PageMap) → IsObservable old → HoldsPages d old.slots m → (page_at m page.label ≡ None → maps.len m < d.slots) → OnOk result (HoldsPages d new.slots (with_page m page))
+  pub laid : (m : PageMap) → IsObservable old → HoldsPages d old.slots m
+      → (page_at m page.label ≡ None → maps.len m < d.slots) → OnOk result (HoldsPages d new.slots (with_page m page))
 
 -- one change, where it leaves its label without a page, and where it has one
 abbrev pub taken_one : PageMap → Label → Option Page → PageMap
@@ -30,9 +33,11 @@ taken_by m [] = m
 taken_by m (change ∷ changes) = taken_by (taken_one m change.0 change.1) changes
 
 -- the pages of labels that changes leave without one are taken away
-pub record TakesPages {T : Type 0} (d : Draw) (old new : SlotsState) (changes : StagedPages) (result : Result T Fault) : Type 0 where
+pub record TakesPages {T : Type 0} (d : Draw) (old new : SlotsState) (changes : StagedPages)
+    (result : Result T Fault) : Type 0 where
   pub calls : AreSlotCalls old new result
-  pub taken : (m : PageMap) → IsObservable old → HoldsPages d old.slots m → OnOk result (HoldsPages d new.slots (taken_by m changes))
+  pub taken : (m : PageMap) → IsObservable old → HoldsPages d old.slots m
+      → OnOk result (HoldsPages d new.slots (taken_by m changes))
 
 -- what a change has under its label, a page or none, put into the map
 abbrev pub laid_one : PageMap → Option Page → PageMap
@@ -45,11 +50,16 @@ laid_by m [] = m
 laid_by m (page ∷ pages) = laid_by (laid_one m page) pages
 
 -- pages are laid in; with all of them there have to be no more pages than slots
-pub record LaysPages {T : Type 0} (d : Draw) (old new : SlotsState) (pages : List (Option Page)) (result : Result T Fault) : Type 0 where
+pub record LaysPages {T : Type 0} (d : Draw) (old new : SlotsState) (pages : List (Option Page))
+    (result : Result T Fault) : Type 0 where
   pub calls : AreSlotCalls old new result
-  pub laid : (m : PageMap) → IsObservable old → HoldsPages d old.slots m → maps.len (laid_by m pages) ≤ d.slots → OnOk result (HoldsPages d new.slots (laid_by m pages))
+  pub laid : (m : PageMap) → IsObservable old → HoldsPages d old.slots m → maps.len (laid_by m pages) ≤ d.slots
+      → OnOk result (HoldsPages d new.slots (laid_by m pages))
 
--- changes are carried out on slots; with them the map has to have each page under its label, and no more pages than slots
-pub record LaysChanges {T : Type 0} (d : Draw) (old new : SlotsState) (changes : StagedPages) (result : Result T Fault) : Type 0 where
+-- changes are carried out on slots; with them the map has to have each page under its label, and no more pages than
+-- slots
+pub record LaysChanges {T : Type 0} (d : Draw) (old new : SlotsState) (changes : StagedPages)
+    (result : Result T Fault) : Type 0 where
   pub calls : AreSlotCalls old new result
-  pub carried : (m : PageMap) → IsObservable old → HoldsPages d old.slots m → IsPageMap (with_changes m changes) → maps.len (with_changes m changes) ≤ d.slots → OnOk result (HoldsPages d new.slots (with_changes m changes))
+  pub carried : (m : PageMap) → IsObservable old → HoldsPages d old.slots m → IsPageMap (with_changes m changes)
+      → maps.len (with_changes m changes) ≤ d.slots → OnOk result (HoldsPages d new.slots (with_changes m changes))

@@ -54,8 +54,15 @@ version_code = code_by ℕ coded_ℕ number_of_version version_of_number version
 
 abbrev pub parameters_code : Coded Parameters
 parameters_code =
-    code_by (ℕ × (ℕ × (DrawKind × (List ℕ × Version)))) (coded× coded_ℕ (coded× coded_ℕ (coded× kind_code (coded× (coded_list coded_ℕ) version_code))))
-    (λ p. (p.slots, (p.height, (p.kind, (p.seed, p.version))))) (λ t. record { slots = t.0; height = t.1.0; kind = t.1.1.0; seed = t.1.1.1.0; version = t.1.1.1.1 }) (λ _. refl)
+    code_by (ℕ × (ℕ × (DrawKind × (List ℕ × Version))))
+    (coded× coded_ℕ (coded× coded_ℕ (coded× kind_code (coded× (coded_list coded_ℕ) version_code))))
+    (λ p. (p.slots, (p.height, (p.kind, (p.seed, p.version))))) (λ t. record {
+      slots = t.0;
+      height = t.1.0;
+      kind = t.1.1.0;
+      seed = t.1.1.1.0;
+      version = t.1.1.1.1;
+    }) (λ _. refl)
 
 abbrev pub staged_pages_code : Coded StagedPages
 staged_pages_code = coded_list (coded× label_code (coded_option page_code))
@@ -63,6 +70,20 @@ staged_pages_code = coded_list (coded× label_code (coded_option page_code))
 abbrev pub staged_code : {D W : Type 0} → Coded D → Coded W → Coded (StagedState D W)
 staged_code {D} {W} disk draw =
     code_by (Parameters × (W × (PageMap × (PageMap × (StagedPages × (Remembered × (D × (Bool × ℕ))))))))
-    (coded× parameters_code (coded× draw (coded× page_map_code (coded× page_map_code (coded× staged_pages_code (coded× remembered_code (coded× disk (coded× coded_bool coded_ℕ))))))))
+    (coded× parameters_code
+    (coded× draw (coded× page_map_code
+    (coded× page_map_code (coded× staged_pages_code
+    (coded× remembered_code (coded× disk (coded× coded_bool coded_ℕ))))))))
     (λ s. (s.params, (s.draw, (s.map, (s.table, (s.staged, (s.memo, (s.disk, (s.is_spent, s.lookups)))))))))
-    (λ t. record { params = t.0; draw = t.1.0; map = t.1.1.0; table = t.1.1.1.0; staged = t.1.1.1.1.0; memo = t.1.1.1.1.1.0; disk = t.1.1.1.1.1.1.0; is_spent = t.1.1.1.1.1.1.1.0; lookups = t.1.1.1.1.1.1.1.1 }) (λ _. refl)
+    (λ t. record {
+      params = t.0;
+      draw = t.1.0;
+      map = t.1.1.0;
+      table = t.1.1.1.0;
+      staged = t.1.1.1.1.0;
+      memo = t.1.1.1.1.1.0;
+      disk = t.1.1.1.1.1.1.0;
+      is_spent = t.1.1.1.1.1.1.1.0;
+      lookups = t.1.1.1.1.1.1.1.1;
+    })
+    (λ _. refl)

@@ -32,10 +32,13 @@ pub record LocatesAgain (d : Draw) (old new : SlotsState) (l : Label) (result : 
   pub calls : AreSlotCalls old new result
   pub reads : IsObservable old → new.slots ≡ old.slots
   pub within : IfOk result (λ found. IfSome found (λ at. at < old.count))
-  pub found : (m : PageMap) → IsObservable old → HoldsPages d old.slots m → IfOk result (λ found. IfSome found (IsSlotWith old.slots m l))
+  pub found : (m : PageMap) → IsObservable old → HoldsPages d old.slots m
+      → IfOk result (λ found. IfSome found (IsSlotWith old.slots m l))
 
 -- a search that tells whether there is a page under a label, with changes
-pub record LooksUp (d : Draw) (old new : SlotsState) (changes : StagedPages) (l : Label) (result : Result Bool Fault) : Type 0 where
+pub record LooksUp (d : Draw) (old new : SlotsState) (changes : StagedPages) (l : Label)
+    (result : Result Bool Fault) : Type 0 where
   pub calls : AreSlotCalls old new result
   pub reads : IsObservable old → new.slots ≡ old.slots
-  pub found : (m : PageMap) → IsObservable old → HoldsPages d old.slots m → IfOk result (λ is_there. is_there ≡ maps.contains_key (with_changes m changes) (label_bytes l))
+  pub found : (m : PageMap) → IsObservable old → HoldsPages d old.slots m
+      → IfOk result (λ is_there. is_there ≡ maps.contains_key (with_changes m changes) (label_bytes l))

@@ -25,5 +25,6 @@ abbrev pub slots_seen : {D : Type 0} {ghosts : declared.Ghosts D} → (D → Dis
 slots_seen state overlay = overlaid overlay.params.slots overlay.touched.entries (state overlay.disk)
 
 -- calls that only read the disk below
-abbrev pub Views : {D : Type 0} {ghosts : declared.Ghosts D} → (D → DiskState) → Overlay D ghosts → Overlay D ghosts → Type 0
+abbrev pub Views : {D : Type 0} {ghosts : declared.Ghosts D} → (D → DiskState) → Overlay D ghosts
+    → Overlay D ghosts → Type 0
 Views state old new = KeepsView old.params new.params (state old.disk) (state new.disk)

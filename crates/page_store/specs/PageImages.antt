@@ -1,5 +1,6 @@
 -- Images that hold pages in their table.
-use Rattle.std.specs.Prelude.{◌≡◌, ℕ, List, [], ◌==◌, if◌then◌else◌, Option, Some, None, map, length, take, drop, slice_get, slice_index}
+use Rattle.std.specs.Prelude.{◌≡◌, ℕ, List, [], ◌==◌, if◌then◌else◌, Option, Some, None, map, length, take, drop}
+use Rattle.std.specs.Prelude.{slice_get, slice_index}
 use Rattle.std.specs.List.{filter_map}
 use Rattle.std.specs.Option.{option_map_or}
 use Rattle.store_model.specs.Lists.{numbers_below}
@@ -31,7 +32,8 @@ table_slots slots image = map (table_slot slots image) (numbers_below slots)
 abbrev pub pages_in_table : ℕ → List ℕ → PageMap
 pages_in_table slots image = pages_in_slots (table_slots slots image)
 
--- the image is the layout of the pages: the header names the parameters, the journal is empty, and the table holds the pages
+-- the image is the layout of the pages: the header names the parameters, the journal is empty, and the table holds
+-- the pages
 pub record IsLayoutOf (d : Draw) (p : Parameters) (m : PageMap) (image : List ℕ) : Type 0 where
   pub header_is : take block_len image ≡ header p
   pub empty : HasEmptyJournal p.slots image

@@ -35,11 +35,13 @@ AnswersFull d m (Err causes.NoMemory) = d.slots < maps.len m → ⊥
 
 -- What a settle that ends with a commit of this kind does to an observable disk that stands at the one map, where the
 -- pages are those of the other.
-pub record SettlesDiskBy {T : Type 0} (kind : CommitKind) (d : Draw) (p : Parameters) (table map : PageMap) (old new : DiskState) (is_spent : Bool) (result : Result T SettleFault) : Type 0 where
+pub record SettlesDiskBy {T : Type 0} (kind : CommitKind) (d : Draw) (p : Parameters) (table map : PageMap)
+    (old new : DiskState) (is_spent : Bool) (result : Result T SettleFault) : Type 0 where
   pub full : AnswersFull d map result
   pub stands : OnOk result (SlotStandsAt d (params_by kind p) map new)
   -- a crash at any moment of the call leaves an image of the one map or of the other, and the disk reads one
-  pub crash : LeavesOnly old new (λ image. RepresentsPages d p table image ⊎ RepresentsPages d (params_by kind p) map image)
+  pub crash : LeavesOnly old new (λ image. RepresentsPages d p table image
+      ⊎ RepresentsPages d (params_by kind p) map image)
   pub reads : RepresentsPages d p table new.bytes ⊎ RepresentsPages d (params_by kind p) map new.bytes
   -- where the commit leaves the image, and where the settle is refused before the first write, the disk was only read
   pub still : LeavesPages kind table map → ReadsOnly old new
@@ -47,12 +49,14 @@ pub record SettlesDiskBy {T : Type 0} (kind : CommitKind) (d : Draw) (p : Parame
   pub too_many : (need slots : ℕ) → IsErrOf result (causes.Full need slots) → ReadsOnly old new
   -- the slots that differ are committed, and no others
   pub counts : CountsBy kind (slots_between d table map) old new result
-  -- the value is spent by a fault that came behind a write or a sync alone, and any other fault leaves the disk as it was
+  -- the value is spent by a fault that came behind a write or a sync alone, and any other fault leaves the disk as it
+  -- was
   pub spends : is_spent ≡ true → IsErrOf result causes.Disk × (Rose old.writes new.writes ⊎ Rose old.syncs new.syncs)
   pub goes_on : is_spent ≡ false → IsErrOf result causes.Disk → ReadsOnly old new
 
 -- The pages of a value that is not spent are settled, with a commit of this kind at the end.
-pub record SettlesBy {D W T : Type 0} (kind : CommitKind) (state : D → DiskState) (drawn : W → Draw) (old new : StagedState D W) (result : Result T SettleFault) : Type 0 where
+pub record SettlesBy {D W T : Type 0} (kind : CommitKind) (state : D → DiskState) (drawn : W → Draw)
+    (old new : StagedState D W) (result : Result T SettleFault) : Type 0 where
   pub params : new.params ≡ params_after kind old.params result
   pub draw : new.draw ≡ old.draw
   pub lookups : new.lookups ≡ old.lookups
@@ -64,31 +68,38 @@ pub record SettlesBy {D W T : Type 0} (kind : CommitKind) (state : D → DiskSta
   pub map : IsObservable (state old.disk) → new.is_spent ≡ false → new.map ≡ old.map
   pub table : IsObservable (state old.disk) → OnOk result (new.table ≡ old.map)
   pub table_stays : IsObservable (state old.disk) → new.is_spent ≡ false → OnErr result (new.table ≡ old.table)
-  pub observed : IsObservable (state old.disk) → SettlesDiskBy kind (drawn old.draw) old.params old.table old.map (state old.disk) (state new.disk) new.is_spent result
+  pub observed : IsObservable (state old.disk)
+      → SettlesDiskBy kind (drawn old.draw) old.params old.table old.map (state old.disk)
+      (state new.disk) new.is_spent result
 
 -- What a settle does to an observable disk that stands at the one map, where the pages are those of the other: its
 -- parameters stay, and where no page changed it is only read.
-abbrev pub SettlesDisk : {T : Type 0} → Draw → Parameters → PageMap → PageMap → DiskState → DiskState → Bool → Result T SettleFault → Type 0
+abbrev pub SettlesDisk : {T : Type 0} → Draw → Parameters → PageMap → PageMap → DiskState → DiskState → Bool
+    → Result T SettleFault → Type 0
 SettlesDisk d p table map old new is_spent result = SettlesDiskBy Plain d p table map old new is_spent result
 
 -- The pages of a value that is not spent are settled.
-abbrev pub Settles : {D W T : Type 0} → (D → DiskState) → (W → Draw) → StagedState D W → StagedState D W → Result T SettleFault → Type 0
+abbrev pub Settles : {D W T : Type 0} → (D → DiskState) → (W → Draw) → StagedState D W → StagedState D W
+    → Result T SettleFault → Type 0
 Settles state drawn old new result = SettlesBy Plain state drawn old new result
 
 -- They are settled, and the image is one of version 2 with them: after Ok the parameters are those of before under
 -- version 2, and that is written where no page changed too.
-abbrev pub SettlesUpgrade : {D W T : Type 0} → (D → DiskState) → (W → Draw) → StagedState D W → StagedState D W → Result T SettleFault → Type 0
+abbrev pub SettlesUpgrade : {D W T : Type 0} → (D → DiskState) → (W → Draw) → StagedState D W → StagedState D W
+    → Result T SettleFault → Type 0
 SettlesUpgrade state drawn old new result = SettlesBy Upgrade state drawn old new result
 
 -- ---- slots
 
 -- Changed slots lead the table of an image to the placement of a map of so many pages.
-pub record LeadsTo (d : Draw) (p : Parameters) (changes : Changes) (image : List ℕ) (m : PageMap) (pages : ℕ) : Type 0 where
+pub record LeadsTo (d : Draw) (p : Parameters) (changes : Changes) (image : List ℕ) (m : PageMap)
+    (pages : ℕ) : Type 0 where
   pub holds : HoldsPages d (table_slots p.slots (with_slots p.slots changes image)) m
   pub count : pages ≡ maps.len m
 
 -- What a settle of so many slots does to an observable disk that stands at the one map, where they lead to the other.
-pub record SettlesSlotsTo {T E : Type 0} (d : Draw) (p : Parameters) (table map : PageMap) (count : ℕ) (old new : DiskState) (result : Result T E) : Type 0 where
+pub record SettlesSlotsTo {T E : Type 0} (d : Draw) (p : Parameters) (table map : PageMap) (count : ℕ)
+    (old new : DiskState) (result : Result T E) : Type 0 where
   pub stands : OnOk result (SlotStandsAt d p map new)
   -- a crash at any moment of the call leaves an image of the one map or of the other, and the disk reads one
   pub crash : LeavesOnly old new (λ image. RepresentsPages d p table image ⊎ RepresentsPages d p map image)
@@ -100,7 +111,8 @@ pub record SettlesSlotsTo {T E : Type 0} (d : Draw) (p : Parameters) (table map 
   pub wrote : OnErr result (Rose old.writes new.writes)
 
 -- These slots are settled, of which nothing is staged.
-pub record SettlesSlots {D W T E : Type 0} (state : D → DiskState) (drawn : W → Draw) (changes : Changes) (pages : ℕ) (old new : StagedState D W) (result : Result T E) : Type 0 where
+pub record SettlesSlots {D W T E : Type 0} (state : D → DiskState) (drawn : W → Draw) (changes : Changes) (pages : ℕ)
+    (old new : StagedState D W) (result : Result T E) : Type 0 where
   pub params : new.params ≡ old.params
   pub draw : new.draw ≡ old.draw
   pub lookups : new.lookups ≡ old.lookups
@@ -110,7 +122,9 @@ pub record SettlesSlots {D W T E : Type 0} (state : D → DiskState) (drawn : W 
   pub runs : OnOk result (new.is_spent ≡ false)
   pub spends : OnErr result (new.is_spent ≡ true)
   -- after Ok the table has the pages to which the slots lead, and nothing is staged
-  pub table : IsObservable (state old.disk) → (m : PageMap) → LeadsTo (drawn old.draw) old.params changes (state old.disk).bytes m pages → OnOk result (new.table ≡ m)
+  pub table : IsObservable (state old.disk) → (m : PageMap)
+      → LeadsTo (drawn old.draw) old.params changes (state old.disk).bytes m pages → OnOk result (new.table ≡ m)
   pub none_staged : OnOk result (new.map ≡ new.table)
-  pub observed : IsObservable (state old.disk) → (m : PageMap) → LeadsTo (drawn old.draw) old.params changes (state old.disk).bytes m pages
+  pub observed : IsObservable (state old.disk) → (m : PageMap)
+      → LeadsTo (drawn old.draw) old.params changes (state old.disk).bytes m pages
       → SettlesSlotsTo (drawn old.draw) old.params old.table m changes.count (state old.disk) (state new.disk) result

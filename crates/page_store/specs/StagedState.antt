@@ -28,7 +28,8 @@ pub record StagedState (D W : Type 0) : Type 0 where
   pub lookups : ℕ
 
 -- the record of a value with these changes over its disk
-abbrev pub staged_state : {D W : Type 0} → (D → DiskState) → Parameters → W → D → StagedPages → Remembered → ℕ → Bool → StagedState D W
+abbrev pub staged_state : {D W : Type 0} → (D → DiskState) → Parameters → W → D → StagedPages → Remembered → ℕ
+    → Bool → StagedState D W
 staged_state state p draw disk changes memo lookups is_spent = record {
   params = p;
   draw = draw;
@@ -45,8 +46,10 @@ staged_state state p draw disk changes memo lookups is_spent = record {
 abbrev pub without_changes : {D W : Type 0} → StagedState D W → StagedState D W
 without_changes s = record s { map = s.table; staged = [] }
 
--- an observable disk stands at the pages in its table, with the changes they are pages under their labels, and both are counted
-pub record CountsPages (d : Draw) (p : Parameters) (disk : DiskState) (touched : List (ℕ × List ℕ)) (changes : StagedPages) (used settled : ℕ) : Type 0 where
+-- an observable disk stands at the pages in its table, with the changes they are pages under their labels, and both
+-- are counted
+pub record CountsPages (d : Draw) (p : Parameters) (disk : DiskState) (touched : List (ℕ × List ℕ))
+    (changes : StagedPages) (used settled : ℕ) : Type 0 where
   pub stands : SlotStandsAt d p (pages_in_table p.slots disk.bytes) disk
   pub valid : IsPageMap (with_changes (pages_in_table p.slots disk.bytes) changes)
   pub used_is : used ≡ maps.len (with_changes (pages_in_table p.slots disk.bytes) changes)
@@ -55,7 +58,8 @@ pub record CountsPages (d : Draw) (p : Parameters) (disk : DiskState) (touched :
   pub settled_is : settled ≡ maps.len (pages_in_table p.slots disk.bytes)
 
 -- what a value keeps
-pub record IsStaged (d : Draw) (p : Parameters) (disk : DiskState) (touched : List (ℕ × List ℕ)) (changes : StagedPages) (used settled : ℕ) (is_spent : Bool) : Type 0 where
+pub record IsStaged (d : Draw) (p : Parameters) (disk : DiskState) (touched : List (ℕ × List ℕ)) (changes : StagedPages)
+    (used settled : ℕ) (is_spent : Bool) : Type 0 where
   pub drawn : d.slots ≡ p.slots
   pub counted : IsObservable disk → is_spent ≡ false → CountsPages d p disk touched changes used settled
 
@@ -67,7 +71,13 @@ pub record IsTold {D W : Type 0} (state : D → DiskState) (s : StagedState D W)
 
 -- as a store of pages
 abbrev pub pages_state : {D W : Type 0} → (D → DiskState) → StagedState D W → PagesState
-pages_state state s = record { is_observable = IsTold state s; pages = s.map; faults = (state s.disk).faults; lookups = s.lookups; at_hand = IsKnown s.staged s.memo }
+pages_state state s = record {
+  is_observable = IsTold state s;
+  pages = s.map;
+  faults = (state s.disk).faults;
+  lookups = s.lookups;
+  at_hand = IsKnown s.staged s.memo;
+}
 
 -- Calls that stage changes write nothing: the disk is read only, and its table is as it was.
 pub record Follows {D W : Type 0} (state : D → DiskState) (old new : StagedState D W) : Type 0 where
@@ -76,12 +86,20 @@ pub record Follows {D W : Type 0} (state : D → DiskState) (old new : StagedSta
   pub runs : new.is_spent ≡ old.is_spent
   pub table : IsObservable (state old.disk) → new.table ≡ old.table
 
-pub Follows-refl : {D W : Type 0} (state : D → DiskState) (s : StagedState D W) → (IsObservable (state s.disk) → IsSound (state s.disk)) → Follows state s s
-Follows-refl state s sound = record { disk = KeepsView-refl s.params (state s.disk) sound; draw = refl; runs = refl; table = λ observable. refl }
+pub Follows-refl : {D W : Type 0} (state : D → DiskState) (s : StagedState D W)
+    → (IsObservable (state s.disk) → IsSound (state s.disk)) → Follows state s s
+Follows-refl state s sound = record {
+  disk = KeepsView-refl s.params (state s.disk) sound;
+  draw = refl;
+  runs = refl;
+  table = λ observable. refl;
+}
 
-pub Follows-trans : {D W : Type 0} (state : D → DiskState) (old mid new : StagedState D W) → Follows state old mid → Follows state mid new → Follows state old new
+pub Follows-trans : {D W : Type 0} (state : D → DiskState) (old mid new : StagedState D W) → Follows state old mid
+    → Follows state mid new → Follows state old new
 Follows-trans state old mid new first then = record {
-  disk = KeepsView-trans old.params mid.params new.params (state old.disk) (state mid.disk) (state new.disk) first.disk then.disk;
+  disk = KeepsView-trans old.params mid.params new.params (state old.disk) (state mid.disk)
+      (state new.disk) first.disk then.disk;
   draw = then.draw ∙ first.draw;
   runs = then.runs ∙ first.runs;
   table = λ observable. then.table (first.disk.observable ∙ observable) ∙ first.table observable;

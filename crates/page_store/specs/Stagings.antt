@@ -11,13 +11,15 @@ use Rattle.table_memory.specs.Memos.{Remembered, IsKnownPage}
 use Rattle.table_memory.specs.Staging.{StagedPages, with_change, with_changes}
 
 -- what it does to observable pages; one that fails leaves them
-pub record StagesChange {T : Type 0} (old new : PagesState) (l : Label) (change : Option Page) (result : Result T Fault) : Type 0 where
+pub record StagesChange {T : Type 0} (old new : PagesState) (l : Label) (change : Option Page)
+    (result : Result T Fault) : Type 0 where
   pub observable : IsObservable new
   pub changed : OnOk result (new.pages ≡ with_change old.pages l change)
   pub unchanged : OnErr result (new.pages ≡ old.pages)
 
 -- a page under a label, or none, in the place of what was there
-pub record Stages {T : Type 0} (old new : PagesState) (l : Label) (change : Option Page) (result : Result T Fault) : Type 0 where
+pub record Stages {T : Type 0} (old new : PagesState) (l : Label) (change : Option Page)
+    (result : Result T Fault) : Type 0 where
   pub faults : new.faults ≡ disk_faults_after old.faults result
   pub lookups : new.lookups ≡ old.lookups
   pub hidden : IsObservable new → IsObservable old

@@ -22,7 +22,8 @@ fn take_page<S: Slots + OrderSlots, W: Draw>(
     label: &Label,
 ) -> Result<(), Fault>
     requires { (S.ReadSlots.state slots.old).count ≡ (W.drawn finder.old.draw).slots }
-    ensures call { TakesPage (W.drawn finder.old.draw) (S.ReadSlots.state slots.old) (S.ReadSlots.state slots.new) label.now result }
+    ensures call { TakesPage (W.drawn finder.old.draw) (S.ReadSlots.state slots.old)
+        (S.ReadSlots.state slots.new) label.now result }
     ensures follows { S.ReadSlots.follows slots.old slots.new }
     ensures draw { finder.new.draw ≡ finder.old.draw }
 {
@@ -40,7 +41,8 @@ fn lay_page<S: Slots + OrderSlots, W: Draw>(
     page: &Page,
 ) -> Result<(), Fault>
     requires { (S.ReadSlots.state slots.old).count ≡ (W.drawn finder.old.draw).slots }
-    ensures call { LaysPage (W.drawn finder.old.draw) (S.ReadSlots.state slots.old) (S.ReadSlots.state slots.new) page.now result }
+    ensures call { LaysPage (W.drawn finder.old.draw) (S.ReadSlots.state slots.old)
+        (S.ReadSlots.state slots.new) page.now result }
     ensures follows { S.ReadSlots.follows slots.old slots.new }
     ensures draw { finder.new.draw ≡ finder.old.draw }
 {
@@ -64,7 +66,8 @@ fn take_pages<S: Slots + OrderSlots, W: Draw>(
     changes: &Changes,
 ) -> Result<(), Fault>
     requires { (S.ReadSlots.state slots.old).count ≡ (W.drawn finder.old.draw).slots }
-    ensures call { TakesPages (W.drawn finder.old.draw) (S.ReadSlots.state slots.old) (S.ReadSlots.state slots.new) changes.now.pages.entries result }
+    ensures call { TakesPages (W.drawn finder.old.draw) (S.ReadSlots.state slots.old)
+        (S.ReadSlots.state slots.new) changes.now.pages.entries result }
     ensures ordered { IsOrdered label_cmp changes.now.pages }
     ensures follows { S.ReadSlots.follows slots.old slots.new }
     ensures draw { finder.new.draw ≡ finder.old.draw }
@@ -85,7 +88,8 @@ fn lay_pages<S: Slots + OrderSlots, W: Draw>(
     changes: &Changes,
 ) -> Result<(), Fault>
     requires { (S.ReadSlots.state slots.old).count ≡ (W.drawn finder.old.draw).slots }
-    ensures call { LaysPages (W.drawn finder.old.draw) (S.ReadSlots.state slots.old) (S.ReadSlots.state slots.new) (values changes.now.pages) result }
+    ensures call { LaysPages (W.drawn finder.old.draw) (S.ReadSlots.state slots.old)
+        (S.ReadSlots.state slots.new) (values changes.now.pages) result }
     ensures follows { S.ReadSlots.follows slots.old slots.new }
     ensures draw { finder.new.draw ≡ finder.old.draw }
 {
@@ -106,7 +110,8 @@ pub fn lay_changes<S: Slots + OrderSlots, W: Draw>(
     changes: &Changes,
 ) -> Result<(), Fault>
     requires { (S.ReadSlots.state slots.old).count ≡ (W.drawn finder.old.draw).slots }
-    ensures call { LaysChanges (W.drawn finder.old.draw) (S.ReadSlots.state slots.old) (S.ReadSlots.state slots.new) changes.now.pages.entries result }
+    ensures call { LaysChanges (W.drawn finder.old.draw) (S.ReadSlots.state slots.old)
+        (S.ReadSlots.state slots.new) changes.now.pages.entries result }
     ensures follows { S.ReadSlots.follows slots.old slots.new }
     ensures draw { finder.new.draw ≡ finder.old.draw }
 {

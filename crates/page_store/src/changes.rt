@@ -1,6 +1,7 @@
 //! What is staged: pages that were changed and are not settled yet.
 
-ghost use Rattle.std.specs.Prelude.{◌≡◌, ◌≢◌, ◌↔◌, [], true, false, None, Some, IfSome, IsSome, IsNone, IsTrue, Ok, OnOk, OnErr};
+ghost use Rattle.std.specs.Prelude.{◌≡◌, ◌≢◌, ◌↔◌, [], true, false, None, Some, IfSome, IsSome, IsNone, IsTrue, Ok};
+ghost use Rattle.std.specs.Prelude.{OnOk, OnErr};
 ghost use Rattle.std.specs.BTreeMap.{insert_entry};
 ghost use Rattle.store_model.specs.Labels.{label_bytes, label_cmp};
 ghost use Rattle.store_model.specs.Pages as model;
@@ -28,7 +29,8 @@ pub struct Changes {
 fn insert_into(change: &mut Option<Boxed<Page>>, at: u32, cell: &Cell) -> bool
     ensures done { result ≡ true → InsertsCell change.old change.new at cell.now }
     ensures kept { result ≡ false → change.new ≡ change.old }
-    ensures takes { (page : model.Page) → change.old ≡ Some page → TakesCell page at cell.now → result ≡ true }
+    ensures takes { (page : model.Page) → change.old ≡ Some page
+        → TakesCell page at cell.now → result ≡ true }
 {
     match change {
         Some(page) => page.insert(at, cell),
@@ -73,7 +75,8 @@ impl Changes {
     /// Keeps a change under its label, in the place of the one that was kept. After want of memory the changes are as
     /// they were.
     pub fn keep(&mut self, label: Label, change: Option<Boxed<Page>>) -> Result<(), NoMemory>
-        ensures ok { OnOk result (self.new.pages.entries ≡ insert_entry label_cmp self.old.pages.entries label change) }
+        ensures ok { OnOk result (self.new.pages.entries
+            ≡ insert_entry label_cmp self.old.pages.entries label change) }
         ensures err { OnErr result (self.new.pages.entries ≡ self.old.pages.entries) }
     {
         self.spares
@@ -90,7 +93,8 @@ impl Changes {
         label: &Label,
     ) -> Option<&'a Option<Boxed<Page>>>
         requires { place ≡ memo_place (label_bytes label.now) }
-        ensures found { IfSome result (λ page. IsKnownPage self.now.pages.entries memo.now label.now page.now) }
+        ensures found { IfSome result
+            (λ page. IsKnownPage self.now.pages.entries memo.now label.now page.now) }
         ensures all { IsKnown self.now.pages.entries memo.now label.now → IsSome result }
         ensures unstaged { IsNone result → staged_at self.now.pages.entries label.now ≡ None }
     {
@@ -113,10 +117,13 @@ impl Changes {
     /// Inserts a cell into the page that is staged under the label, where it lies, and answers whether it did, or that
     /// nothing is staged there. Where it did not the changes are as they were. It takes no memory.
     fn insert_staged(&mut self, label: &Label, at: u32, cell: &Cell) -> Option<bool>
-        ensures done { (memo : Remembered) → result ≡ Some true → StagesCell self.old.pages.entries self.new.pages.entries memo label.now at cell.now }
+        ensures done { (memo : Remembered) → result ≡ Some true
+            → StagesCell self.old.pages.entries self.new.pages.entries memo label.now at cell.now }
         ensures kept { result ≢ Some true → self.new.pages.entries ≡ self.old.pages.entries }
         ensures absent { result ≡ None ↔ staged_at self.old.pages.entries label.now ≡ None }
-        ensures takes { (page : model.Page) → staged_at self.old.pages.entries label.now ≡ Some (Some page) → TakesCell page at cell.now → result ≡ Some true }
+        ensures takes { (page : model.Page)
+            → staged_at self.old.pages.entries label.now ≡ Some (Some page)
+            → TakesCell page at cell.now → result ≡ Some true }
     {
         match self.pages.get_mut(label) {
             Some(change) => Some(insert_into(change, at, cell)),
@@ -134,7 +141,9 @@ impl Changes {
         cell: &Cell,
     ) -> Result<(), NoMemory>
         requires { staged_at self.old.pages.entries label.now ≡ None }
-        ensures ok { OnOk result (StagesCell self.old.pages.entries self.new.pages.entries memo.now label.now at cell.now) }
+        ensures ok { OnOk result
+            (StagesCell self.old.pages.entries self.new.pages.entries memo.now label.now at
+            cell.now) }
         ensures err { OnErr result (self.new.pages.entries ≡ self.old.pages.entries) }
     {
         let Some(Some(page)) = memo.recall(memo_place(label), label) else {
@@ -157,9 +166,13 @@ impl Changes {
         at: u32,
         cell: &Cell,
     ) -> Result<(), NoMemory>
-        ensures ok { OnOk result (StagesCell self.old.pages.entries self.new.pages.entries memo.now label.now at cell.now) }
+        ensures ok { OnOk result
+            (StagesCell self.old.pages.entries self.new.pages.entries memo.now label.now at
+            cell.now) }
         ensures err { OnErr result (self.new.pages.entries ≡ self.old.pages.entries) }
-        ensures takes { (page : model.Page) → staged_at self.old.pages.entries label.now ≡ Some (Some page) → TakesCell page at cell.now → result ≡ Ok tt }
+        ensures takes { (page : model.Page)
+            → staged_at self.old.pages.entries label.now ≡ Some (Some page)
+            → TakesCell page at cell.now → result ≡ Ok tt }
     {
         match self.insert_staged(label, at, cell) {
             Some(true) => Ok(()),

@@ -23,7 +23,8 @@ fn locate_counted<S: OrderSlots, W: Draw, L: Ledger>(
     requires some { 0 < L.parts }
     requires count { (S.state slots.old).count ≡ (W.drawn draw.now).slots }
     requires start { start ≡ (W.drawn draw.now).start label.now }
-    ensures call { Locates (W.drawn draw.now) (S.state slots.old) (S.state slots.new) label.now result }
+    ensures call { Locates (W.drawn draw.now) (S.state slots.old)
+        (S.state slots.new) label.now result }
     ensures follows { S.follows slots.old slots.new }
 {
     find_from(slots, draw, start, label, &mut Steps::<L>::new(blank))
@@ -36,7 +37,8 @@ fn locate_again<S: OrderSlots, W: Draw>(
     label: &Label,
 ) -> Result<Option<u32>, Fault>
     requires { (S.state slots.old).count ≡ (W.drawn finder.now.draw).slots }
-    ensures call { LocatesAgain (W.drawn finder.now.draw) (S.state slots.old) (S.state slots.new) label.now result }
+    ensures call { LocatesAgain (W.drawn finder.now.draw) (S.state slots.old)
+        (S.state slots.new) label.now result }
     ensures follows { S.follows slots.old slots.new }
 {
     let at = finder.hint(label);
@@ -57,7 +59,8 @@ pub fn locate<S: OrderSlots, W: Draw>(
     label: &Label,
 ) -> Result<Option<u32>, Fault>
     requires { (S.state slots.old).count ≡ (W.drawn finder.old.draw).slots }
-    ensures call { Locates (W.drawn finder.old.draw) (S.state slots.old) (S.state slots.new) label.now result }
+    ensures call { Locates (W.drawn finder.old.draw) (S.state slots.old)
+        (S.state slots.new) label.now result }
     ensures follows { S.follows slots.old slots.new }
     ensures draw { finder.new.draw ≡ finder.old.draw }
 {

@@ -27,7 +27,8 @@ pub struct Lookup<D: Disk, W: Draw> {
     /// What was found in the slots.
     pub memo: PageMemo,
     pub ghost drawn: { overlay.params.slots ≡ (W.drawn finder.draw).slots },
-    pub ghost remembered: { IsMemoOf (W.drawn finder.draw) (overlaid overlay.params.slots overlay.touched.entries (D.state overlay.disk)) memo },
+    pub ghost remembered: { IsMemoOf (W.drawn finder.draw)
+        (overlaid overlay.params.slots overlay.touched.entries (D.state overlay.disk)) memo },
 }
 
 impl<D: Disk, W: Draw> Lookup<D, W> {
@@ -36,8 +37,10 @@ impl<D: Disk, W: Draw> Lookup<D, W> {
     // It stands apart from `learn`, each call of which would clear its page.
     #[inline(never)]
     fn remember_at(&mut self, at: u32, label: &Label) -> Result<(), Fault>
-        requires { Locates (W.drawn self.old.finder.draw) (slots_seen D.state self.old.overlay) (slots_seen D.state self.old.overlay) label.now (Ok (Some at)) }
-        ensures call { Consults (slots_seen D.state self.old.overlay) (slots_seen D.state self.new.overlay) result }
+        requires { Locates (W.drawn self.old.finder.draw) (slots_seen D.state self.old.overlay)
+            (slots_seen D.state self.old.overlay) label.now (Ok (Some at)) }
+        ensures call { Consults (slots_seen D.state self.old.overlay)
+            (slots_seen D.state self.new.overlay) result }
         ensures follows { Views D.state self.old.overlay self.new.overlay }
         ensures draw { self.new.finder.draw ≡ self.old.finder.draw }
     {
@@ -51,11 +54,13 @@ impl<D: Disk, W: Draw> Lookup<D, W> {
     /// by the memo. It is not remembered where there is no memory for it. Where it is known the call only answers.
     pub fn learn(&mut self, changes: &Changes, place: usize, label: &Label) -> Result<(), Fault>
         requires { place ≡ memo_place (label_bytes label.now) }
-        ensures call { Consults (slots_seen D.state self.old.overlay) (slots_seen D.state self.new.overlay) result }
+        ensures call { Consults (slots_seen D.state self.old.overlay)
+            (slots_seen D.state self.new.overlay) result }
         ensures follows { Views D.state self.old.overlay self.new.overlay }
         ensures draw { self.new.finder.draw ≡ self.old.finder.draw }
         ensures known { IsKnown changes.now.pages.entries self.old.memo label.now → result ≡ Ok tt }
-        ensures kept { IsKnown changes.now.pages.entries self.old.memo label.now → self.new.memo ≡ self.old.memo }
+        ensures kept { IsKnown changes.now.pages.entries self.old.memo label.now
+            → self.new.memo ≡ self.old.memo }
     {
         if changes.knows(&self.memo, place, label) {
             return Ok(());
@@ -69,7 +74,8 @@ impl<D: Disk, W: Draw> Lookup<D, W> {
 
     /// Whether there is a page under the label, by the changes, or else by the memo, or else by the slots.
     pub fn has_page(&mut self, changes: &Changes, label: &Label) -> Result<bool, Fault>
-        ensures call { LooksUp (W.drawn self.old.finder.draw) (slots_seen D.state self.old.overlay) (slots_seen D.state self.new.overlay) changes.now.pages.entries label.now result }
+        ensures call { LooksUp (W.drawn self.old.finder.draw) (slots_seen D.state self.old.overlay)
+            (slots_seen D.state self.new.overlay) changes.now.pages.entries label.now result }
         ensures follows { Views D.state self.old.overlay self.new.overlay }
         ensures draw { self.new.finder.draw ≡ self.old.finder.draw }
     {

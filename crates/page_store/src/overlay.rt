@@ -34,8 +34,10 @@ pub struct Overlay<D: Disk> {
     /// Boxes for slots that are to be written.
     pub spares: Spares<Slot>,
     pub ghost sized: { (D.state disk).size ≡ image_len params.slots },
-    pub ghost within: { (i : ℕ) (slot : List ℕ) → touched_at touched.entries i ≡ Some slot → i < params.slots },
-    pub ghost filled: { (i : ℕ) (slot : List ℕ) → touched_at touched.entries i ≡ Some slot → length slot ≡ block_len },
+    pub ghost within: { (i : ℕ) (slot : List ℕ)
+        → touched_at touched.entries i ≡ Some slot → i < params.slots },
+    pub ghost filled: { (i : ℕ) (slot : List ℕ) → touched_at touched.entries i ≡ Some slot
+        → length slot ≡ block_len },
     pub ghost cached: { IsSlotCacheOf params.slots (D.state disk) cache },
 }
 
@@ -82,15 +84,21 @@ impl<D: Disk> ReadSlots for Overlay<D> {
 
     ghost state = { λ o. overlaid (params_of o).slots (touched_of o) (D.state (disk_of o)) };
 
-    ghost follows = { λ old new. KeepsView (params_of old) (params_of new) (D.state (disk_of old)) (D.state (disk_of new)) };
+    ghost follows = { λ old new. KeepsView (params_of old) (params_of new) (D.state (disk_of old))
+        (D.state (disk_of new)) };
 
-    ghost counted = { λ o observable. overlaid_count (params_of o).slots (touched_of o) (D.state (disk_of o)) };
+    ghost counted = { λ o observable. overlaid_count (params_of o).slots (touched_of o)
+        (D.state (disk_of o)) };
 
-    ghost whole = { λ o observable. overlaid_whole (params_of o).slots (touched_of o) (D.state (disk_of o)) (D.sound (disk_of o) observable) o.sized o.filled };
+    ghost whole = { λ o observable. overlaid_whole (params_of o).slots (touched_of o)
+        (D.state (disk_of o)) (D.sound (disk_of o) observable) o.sized o.filled };
 
-    ghost follows_refl = { λ o. KeepsView-refl (params_of o) (D.state (disk_of o)) (D.sound (disk_of o)) };
+    ghost follows_refl = { λ o. KeepsView-refl (params_of o) (D.state (disk_of o))
+        (D.sound (disk_of o)) };
 
-    ghost follows_trans = { λ old mid new. KeepsView-trans (params_of old) (params_of mid) (params_of new) (D.state (disk_of old)) (D.state (disk_of mid)) (D.state (disk_of new)) };
+    ghost follows_trans = { λ old mid new.
+        KeepsView-trans (params_of old) (params_of mid) (params_of new) (D.state (disk_of old))
+        (D.state (disk_of mid)) (D.state (disk_of new)) };
 
     fn get(&mut self, at: u32, into: &mut Slot) -> Result<(), Fault> {
         if let Some(slot) = self.touched.get(&at) {

@@ -21,8 +21,11 @@ pub fn find_slots<D: Disk, W: Draw>(
     changes: &Changes,
 ) -> Result<ChangedSlots, Fault>
     requires { (params_of overlay.old).slots ≡ (W.drawn finder.old.draw).slots }
-    ensures call { FindsSlots (W.drawn finder.old.draw) (params_of overlay.old) (touched_of overlay.old) changes.now.pages.entries (D.state (disk_of overlay.old)) (D.state (disk_of overlay.new)) result }
-    ensures follows { KeepsView (params_of overlay.old) (params_of overlay.new) (D.state (disk_of overlay.old)) (D.state (disk_of overlay.new)) }
+    ensures call { FindsSlots (W.drawn finder.old.draw) (params_of overlay.old)
+        (touched_of overlay.old) changes.now.pages.entries (D.state (disk_of overlay.old))
+        (D.state (disk_of overlay.new)) result }
+    ensures follows { KeepsView (params_of overlay.old) (params_of overlay.new)
+        (D.state (disk_of overlay.old)) (D.state (disk_of overlay.new)) }
     ensures draw { finder.new.draw ≡ finder.old.draw }
 {
     lay_changes(overlay, finder, changes)?;

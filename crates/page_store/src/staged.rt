@@ -1,6 +1,7 @@
 //! The staged pages.
 
-ghost use Rattle.std.specs.Prelude.{[], ◌≡◌, ◌≢◌, ◌↔◌, ◌≤◌, ◌<◌, ℕ, Bool, true, false, min, None, Some, IsSome, IsOk, IfOk, Ok, OnOk, OnErr};
+ghost use Rattle.std.specs.Prelude.{[], ◌≡◌, ◌≢◌, ◌↔◌, ◌≤◌, ◌<◌, ℕ, Bool, true, false, min, None, Some, IsSome, IsOk};
+ghost use Rattle.std.specs.Prelude.{IfOk, Ok, OnOk, OnErr};
 ghost use Rattle.std.specs.FinMap as maps;
 ghost use Rattle.store_base.specs.Faults.{disk_faults_after};
 ghost use Rattle.store_model.specs.Labels.{label_bytes};
@@ -56,9 +57,12 @@ impl<D: Disk, W: Draw> Model for Staged<D, W> {
 
     ghost coded = { staged_code D.code W.code };
 
-    ghost view = { λ s. staged_state D.state s.lookup.overlay.params s.lookup.finder.draw s.lookup.overlay.disk s.changes.pages.entries s.lookup.memo s.lookups s.is_spent };
+    ghost view = { λ s. staged_state D.state s.lookup.overlay.params s.lookup.finder.draw
+        s.lookup.overlay.disk s.changes.pages.entries s.lookup.memo s.lookups s.is_spent };
 
-    ghost invariant = { λ s. IsStaged (W.drawn s.lookup.finder.draw) s.lookup.overlay.params (D.state s.lookup.overlay.disk) s.lookup.overlay.touched.entries s.changes.pages.entries s.used s.settled s.is_spent };
+    ghost invariant = { λ s. IsStaged (W.drawn s.lookup.finder.draw)
+        s.lookup.overlay.params (D.state s.lookup.overlay.disk)
+        s.lookup.overlay.touched.entries s.changes.pages.entries s.used s.settled s.is_spent };
 }
 
 /// How many pages there are, of so many, once one label was given a page or lost it. A count that would come to 2^32
@@ -98,8 +102,11 @@ impl<D: Disk, W: Draw> Staged<D, W> {
     ) -> Staged<D, W>
         requires size { (D.state disk).size ≡ image_len params.now.slots }
         requires drawn { (W.drawn draw).slots ≡ params.now.slots }
-        requires stands { IsObservable (D.state disk) → SlotStandsAt (W.drawn draw) params.now (pages_in_table params.now.slots (D.state disk).bytes) (D.state disk) }
-        requires count { IsObservable (D.state disk) → pages ≡ maps.len (pages_in_table params.now.slots (D.state disk).bytes) }
+        requires stands { IsObservable (D.state disk)
+            → SlotStandsAt (W.drawn draw)
+            params.now (pages_in_table params.now.slots (D.state disk).bytes) (D.state disk) }
+        requires count { IsObservable (D.state disk)
+            → pages ≡ maps.len (pages_in_table params.now.slots (D.state disk).bytes) }
         requires empty { cache ≡ [] }
         ensures params { result.params ≡ params.now }
         ensures drawn { result.draw ≡ draw }
@@ -125,7 +132,8 @@ impl<D: Disk, W: Draw> Staged<D, W> {
 
     /// How many pages there are now. It takes no memory.
     pub fn used(&self) -> u32
-        ensures { IsObservable (D.state self.now.disk) → self.now.is_spent ≡ false → result ≡ maps.len self.now.map }
+        ensures { IsObservable (D.state self.now.disk) → self.now.is_spent ≡ false
+            → result ≡ maps.len self.now.map }
     {
         self.used
     }
@@ -178,8 +186,10 @@ impl<D: Disk, W: Draw> Staged<D, W> {
     /// `DiskFault` the pages are as they were.
     pub fn digest(&mut self) -> Result<[u8; 32], DiskFault>
         ensures calls { AreCalls (D.state self.old.disk) (D.state self.new.disk) result }
-        ensures reads { IsObservable (D.state self.old.disk) → ReadsOnly (D.state self.old.disk) (D.state self.new.disk) }
-        ensures digest { IsObservable (D.state self.old.disk) → IfOk result (λ digest. digest ≡ sha256 (D.state self.old.disk).bytes) }
+        ensures reads { IsObservable (D.state self.old.disk)
+            → ReadsOnly (D.state self.old.disk) (D.state self.new.disk) }
+        ensures digest { IsObservable (D.state self.old.disk)
+            → IfOk result (λ digest. digest ≡ sha256 (D.state self.old.disk).bytes) }
         ensures map { IsObservable (D.state self.old.disk) → self.new.map ≡ self.old.map }
         ensures runs { self.new.is_spent ≡ self.old.is_spent }
         ensures follows { Follows D.state self.old self.new }
@@ -191,7 +201,8 @@ impl<D: Disk, W: Draw> Staged<D, W> {
     /// for want of memory. It takes no memory.
     fn shown(&self, place: usize, label: &Label) -> Result<Option<&Page>, Fault>
         requires { place ≡ memo_place (label_bytes label.now) }
-        ensures found { IsTold D.state self.now → IfOk (looked_at result) (λ page. page ≡ page_at self.now.map label.now) }
+        ensures found { IsTold D.state self.now
+            → IfOk (looked_at result) (λ page. page ≡ page_at self.now.map label.now) }
         ensures faults { (count : ℕ) → disk_faults_after count (looked_at result) ≡ count }
         ensures known { IsOk result ↔ IsKnown self.now.staged self.now.memo label.now }
     {
@@ -205,8 +216,10 @@ impl<D: Disk, W: Draw> Staged<D, W> {
     /// than 2^32 - 1 of them. After a fault the pages are as they were.
     fn stage(&mut self, label: Label, change: Option<Boxed<Page>>) -> Result<(), Fault>
         requires fits { (m : PageMap) → IsPageMap m → IsPageMap (with_change m label change) }
-        requires few { IsSome change → IsTold D.state self.old → maps.len self.old.map < most_pages }
-        ensures call { Stages (pages_state D.state self.old) (pages_state D.state self.new) label change result }
+        requires few { IsSome change → IsTold D.state self.old
+            → maps.len self.old.map < most_pages }
+        ensures call { Stages (pages_state D.state self.old)
+            (pages_state D.state self.new) label change result }
         ensures follows { Follows D.state self.old self.new }
     {
         let is_there = self.lookup.has_page(&self.changes, &label)?;
@@ -247,19 +260,22 @@ impl<D: Disk, W: Draw> Staged<D, W> {
         self.settle_by(CommitKind::Upgrade)
     }
 
-    /// Changes slots of the table together, which lead to the placement of so many pages, where nothing is staged. It takes
-    /// no memory: whoever makes a whole table hands its slots over, and no page is staged.
+    /// Changes slots of the table together, which lead to the placement of so many pages, where nothing is staged. It
+    /// takes no memory: whoever makes a whole table hands its slots over, and no page is staged.
     ///
-    /// A commit of d slots makes 5d + 2 writes and 5 syncs, and one of none makes none. Each image that a crash at any
-    /// moment of the call may leave holds the pages that the table had or those to which the slots lead. After Ok nothing
-    /// is kept of the table that was.
-    /// `DiskFault`: it came at a write or behind one. The value is spent, and the disk has the one pages or the other.
+    /// A commit of d slots makes 5d + 2 writes and 5 syncs, and one of none makes none. Each image that a crash at
+    /// any moment of the call may leave holds the pages that the table had or those to which the slots lead. After Ok
+    /// nothing is kept of the table that was. `DiskFault`: it came at a write or behind one. The value is spent, and
+    /// the disk has the one pages or the other.
     pub fn settle_slots<S: SlotChanges>(&mut self, changes: &S, pages: u32) -> Result<(), DiskFault>
         requires runs { self.old.is_spent ≡ false }
         requires none_staged { self.old.staged ≡ [] }
         requires changes { AreChanges self.old.params.slots (S.changes changes.now) }
-        requires table { IsObservable (D.state self.old.disk) → (m : PageMap) × LeadsTo (W.drawn self.old.draw) self.old.params (S.changes changes.now) (D.state self.old.disk).bytes m pages }
-        ensures call { SettlesSlots D.state W.drawn (S.changes changes.now) pages self.old self.new result }
+        requires table { IsObservable (D.state self.old.disk)
+            → (m : PageMap) × LeadsTo (W.drawn self.old.draw)
+            self.old.params (S.changes changes.now) (D.state self.old.disk).bytes m pages }
+        ensures call { SettlesSlots D.state W.drawn (S.changes changes.now) pages
+            self.old self.new result }
     {
         let Lookup {
             overlay,

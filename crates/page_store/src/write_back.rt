@@ -28,10 +28,14 @@ fn commit_as<D: Disk>(
     requires size { (D.state disk.old).size ≡ image_len params.now.slots }
     requires changes { AreChanges params.now.slots (changes_of changed.now.slots.items) }
     requires durable { IsObservable (D.state disk.old) → IsDurable (D.state disk.old) }
-    requires empty { IsObservable (D.state disk.old) → HasEmptyJournal params.now.slots (D.state disk.old).bytes }
+    requires empty { IsObservable (D.state disk.old)
+        → HasEmptyJournal params.now.slots (D.state disk.old).bytes }
     ensures calls { AreCalls (D.state disk.old) (D.state disk.new) result }
-    ensures observed { IsObservable (D.state disk.old) → CommitsAs kind params.now.slots (changes_of changed.now.slots.items) (D.state disk.old) (D.state disk.new) result }
-    ensures none { kind ≡ CommitKind.Plain → (changes_of changed.now.slots.items).count ≡ 0 → disk.new ≡ disk.old }
+    ensures observed { IsObservable (D.state disk.old)
+        → CommitsAs kind params.now.slots (changes_of changed.now.slots.items) (D.state disk.old)
+        (D.state disk.new) result }
+    ensures none { kind ≡ CommitKind.Plain → (changes_of changed.now.slots.items).count ≡ 0
+        → disk.new ≡ disk.old }
 {
     match kind {
         CommitKind::Plain => Journal::commit(disk, params, changed),
@@ -53,9 +57,11 @@ pub fn commit_slots<D: Disk>(
     requires size { (D.state disk.old).size ≡ image_len params.now.slots }
     requires changes { AreChanges params.now.slots (changes_of changed.slots.items) }
     requires durable { IsObservable (D.state disk.old) → IsDurable (D.state disk.old) }
-    requires empty { IsObservable (D.state disk.old) → HasEmptyJournal params.now.slots (D.state disk.old).bytes }
+    requires empty { IsObservable (D.state disk.old)
+        → HasEmptyJournal params.now.slots (D.state disk.old).bytes }
     requires cached { IsSlotCacheOf params.now.slots (D.state disk.old) cache.old }
-    ensures call { CommitsSlots kind D.state params.now.slots (changes_of changed.slots.items) disk.old disk.new cache.new result }
+    ensures call { CommitsSlots kind D.state params.now.slots (changes_of changed.slots.items)
+        disk.old disk.new cache.new result }
 {
     match commit_as(disk, params, &changed, kind) {
         Ok(()) => {
@@ -81,9 +87,12 @@ pub fn commit_anew<D: Disk, S: SlotChanges>(
     requires size { (D.state disk.old).size ≡ image_len params.now.slots }
     requires changes { AreChanges params.now.slots (S.changes changes.now) }
     requires durable { IsObservable (D.state disk.old) → IsDurable (D.state disk.old) }
-    requires empty { IsObservable (D.state disk.old) → HasEmptyJournal params.now.slots (D.state disk.old).bytes }
+    requires empty { IsObservable (D.state disk.old)
+        → HasEmptyJournal params.now.slots (D.state disk.old).bytes }
     ensures calls { AreCalls (D.state disk.old) (D.state disk.new) result }
-    ensures observed { IsObservable (D.state disk.old) → CommitsAs CommitKind.Plain params.now.slots (S.changes changes.now) (D.state disk.old) (D.state disk.new) result }
+    ensures observed { IsObservable (D.state disk.old)
+        → CommitsAs CommitKind.Plain params.now.slots (S.changes changes.now) (D.state disk.old)
+        (D.state disk.new) result }
     ensures none { (S.changes changes.now).count ≡ 0 → disk.new ≡ disk.old }
     ensures cached { IsSlotCacheOf params.now.slots (D.state disk.new) cache.new }
 {

@@ -1,7 +1,8 @@
 -- The order of paths is an order by which `Path` is compared and sorted.
 use Rattle.std.specs.Prelude.{◌≡◌, Some, nat_eq}
 use Rattle.std.specs.Cmp.{IsPartialOrder, Agrees}
-use Rattle.std.specs.Cmp.Lexicographic.{pointwise, slice_partial_cmp, lists_po, lists_agrees, lists_ties, texts_po, texts_ties}
+use Rattle.std.specs.Cmp.Lexicographic.{pointwise, slice_partial_cmp, lists_po, lists_agrees, lists_ties, texts_po}
+use Rattle.std.specs.Cmp.Lexicographic.{texts_ties}
 use Rattle.std.specs.Ordering.{eq_by_cmp}
 use Rattle.std.proofs.Common.{refl, subst}
 use Rattle.store_model.specs.Paths.{Path, name_cmp, path_cmp}

@@ -31,7 +31,10 @@ impl Model for AttrName {
 
     ghost invariant = { λ n. IsNameField n.bytes n.len (take n.len n.bytes) };
 
-    ghost inverse = { λ name. record { bytes = zero_filled attribute_name_limit name; len = length name } };
+    ghost inverse = { λ name. record {
+      bytes = zero_filled attribute_name_limit name;
+      len = length name;
+    } };
 }
 
 impl AttrName {
@@ -40,7 +43,8 @@ impl AttrName {
 
     /// The name that a text is; nothing where it is no name, or one of more than 32 bytes.
     pub fn parse(text: &[u8]) -> Option<AttrName>
-        ensures some { IfSome result (λ name. (name ≡ text.now) × IsTrue (model.is_attribute_name name)) }
+        ensures some { IfSome result (λ name. (name ≡ text.now)
+            × IsTrue (model.is_attribute_name name)) }
         ensures none { IsNone result ↔ (model.is_attribute_name text.now ≡ false) }
     {
         if text.len() > AttrName::MAX_LEN || !is_name(text) {
@@ -67,7 +71,8 @@ impl AttrName {
 pub fn attr_key(path: &Path, name: &AttrName) -> Option<Key>
     ensures value { IfSome result (λ key. key ≡ model.attribute_key path.now name.now) }
     ensures valid { IfSome result IsKey }
-    ensures none { IsNone result ↔ ((model.is_root path.now ≡ true) ⊎ (model.fits_attribute path.now name.now ≡ false)) }
+    ensures none { IsNone result
+        ↔ ((model.is_root path.now ≡ true) ⊎ (model.fits_attribute path.now name.now ≡ false)) }
     ensures path { IsTrue (model.is_path path.now) }
     ensures name { IsTrue (model.is_attribute_name name.now) }
 {

@@ -1,9 +1,11 @@
 //! Paths, held as the fields of keys.
 
-ghost use Rattle.std.specs.Prelude.{◌≡◌, ◌<◌, ◌≤◌, ◌+◌, ◌-◌, ◌^◌, ◌↔◌, ℕ, [], ◌++◌, length, take, slice_set, true, false, nat_eq, Some, None, IfOk, IfSome, IfNone, IsErrOf, IsSome, IsNone, IsTrue};
+ghost use Rattle.std.specs.Prelude.{◌≡◌, ◌<◌, ◌≤◌, ◌+◌, ◌-◌, ◌^◌, ◌↔◌, ℕ, [], ◌++◌, length, take, slice_set, true};
+ghost use Rattle.std.specs.Prelude.{false, nat_eq, Some, None, IfOk, IfSome, IfNone, IsErrOf, IsSome, IsNone, IsTrue};
 ghost use Rattle.std.specs.Cmp.{partial_equiv_from_equiv};
 ghost use Rattle.std.proofs.Common.{refl};
-ghost use Rattle.std.specs.Cmp.Lexicographic.{pointwise, lists_equiv, lists_total, nat_list_eq_equiv, nat_list_cmp_total};
+ghost use Rattle.std.specs.Cmp.Lexicographic.{pointwise, lists_equiv, lists_total, nat_list_eq_equiv};
+ghost use Rattle.std.specs.Cmp.Lexicographic.{nat_list_cmp_total};
 ghost use Rattle.path_keys.specs.PathOrder.{paths_po, paths_ties};
 ghost use Rattle.std.specs.Int.{w32, to_be_bytes};
 ghost use Rattle.std.specs.declared.cmp.Ordering.TheVariants.{Less};
@@ -83,8 +85,10 @@ impl Path {
         ensures value { IfOk result (λ p. path_of text.now ≡ Some p) }
         ensures valid { IfOk result (λ p. IsTrue (model.is_path p)) }
         ensures syntax { IsErrOf result PathFault.Syntax ↔ (path_of text.now ≡ None) }
-        ensures too_long { IsErrOf result PathFault.TooLong ↔ (IsSome (path_of text.now) × (FIELD_LEN < length text.now)) }
-        ensures too_long_field { IsErrOf result PathFault.TooLong → IfSome (path_of text.now) (λ p. model.fits_field p ≡ false) }
+        ensures too_long { IsErrOf result PathFault.TooLong
+            ↔ (IsSome (path_of text.now) × (FIELD_LEN < length text.now)) }
+        ensures too_long_field { IsErrOf result PathFault.TooLong
+            → IfSome (path_of text.now) (λ p. model.fits_field p ≡ false) }
     {
         let Some((first, names)) = text.split_first() else {
             return Err(PathFault::Syntax);
@@ -129,7 +133,8 @@ impl Path {
     /// The key whose field has these bytes behind the path's names, and zeros behind them.
     pub(crate) fn key_behind(&self, behind: &[u8], block: u32) -> Key
         requires { model.field_len self.now + length behind.now ≤ FIELD_LEN }
-        ensures value { result ≡ zero_filled FIELD_LEN (model.name_bytes self.now ++ behind.now) ++ to_be_bytes w32 block }
+        ensures value { result ≡ zero_filled FIELD_LEN (model.name_bytes self.now ++ behind.now)
+            ++ to_be_bytes w32 block }
         ensures valid { IsKey result }
     {
         let start = self.len as usize;
@@ -146,7 +151,8 @@ impl Path {
         ensures none { IfNone result (HasNoPath (take FIELD_LEN key.now)) }
 
         // Each key of a path other than the root is read.
-        ensures only { (p : model.Path) (block : ℕ) → IsTrue (model.is_path p) → model.is_root p ≡ false
+        ensures only { (p : model.Path) (block : ℕ) → IsTrue (model.is_path p)
+            → model.is_root p ≡ false
             → block < 2 ^ 32 → key.now ≡ model.key p block → result ≡ Some (p, block) }
     {
         let (field, block) = key.as_bytes().split_at(FIELD_LEN);
@@ -222,16 +228,20 @@ impl Path {
         ensures path { IsTrue (model.is_path self.now) }
 
         // It stands behind the keys of the subtree, attributes among them.
-        ensures above { (q : model.Path) (block : ℕ) → IsTrue (model.is_place q) → IsTrue (model.is_at_or_inside q self.now)
+        ensures above { (q : model.Path) (block : ℕ) → IsTrue (model.is_place q)
+            → IsTrue (model.is_at_or_inside q self.now)
             → model.key_cmp (model.key q block) result ≡ Less }
 
         // And it stands before the keys of each path behind this one that is not in the subtree,
-        ensures below { (q : model.Path) (block : ℕ) → IsTrue (model.is_path q) → model.is_at_or_inside q self.now ≡ false
+        ensures below { (q : model.Path) (block : ℕ) → IsTrue (model.is_path q)
+            → model.is_at_or_inside q self.now ≡ false
             → model.path_cmp self.now q ≡ Less → model.key_cmp result (model.key q block) ≡ Less }
 
         // and not behind those of each such place.
-        ensures not_above { (q : model.Path) (block : ℕ) → IsTrue (model.is_place q) → model.is_at_or_inside q self.now ≡ false
-            → model.path_cmp self.now q ≡ Less → is_le (model.key_cmp result (model.key q block)) ≡ true }
+        ensures not_above { (q : model.Path) (block : ℕ) → IsTrue (model.is_place q)
+            → model.is_at_or_inside q self.now ≡ false
+            → model.path_cmp self.now q ≡ Less
+            → is_le (model.key_cmp result (model.key q block)) ≡ true }
     {
         let mut bytes = *self.key(0).as_bytes();
         bytes[self.len as usize - 1] = 1;
@@ -244,19 +254,25 @@ impl Path {
         ensures path { IsTrue (model.is_path self.now) }
 
         // It stands behind the path's blocks, but for the last one that there could be,
-        ensures blocks { (block : ℕ) → block < 2 ^ 32 - 1 → model.key_cmp (model.key self.now block) result ≡ Less }
+        ensures blocks { (block : ℕ) → block < 2 ^ 32 - 1
+            → model.key_cmp (model.key self.now block) result ≡ Less }
 
         // behind its attributes,
-        ensures attributes { (a : model.Name) (block : ℕ) → IsTrue (model.is_attribute_name a) → IsTrue (model.fits_attribute self.now a)
-            → block < 2 ^ 32 → model.key_cmp (model.key (model.attribute_place self.now a) block) result ≡ Less }
+        ensures attributes { (a : model.Name) (block : ℕ) → IsTrue (model.is_attribute_name a)
+            → IsTrue (model.fits_attribute self.now a)
+            → block < 2 ^ 32
+            → model.key_cmp (model.key (model.attribute_place self.now a) block) result ≡ Less }
 
         // and not behind what lies below it.
-        ensures below { (q : model.Path) (block : ℕ) → IsTrue (model.is_path q) → IsTrue (model.is_inside q self.now)
+        ensures below { (q : model.Path) (block : ℕ) → IsTrue (model.is_path q)
+            → IsTrue (model.is_inside q self.now)
             → block < 2 ^ 32 → is_le (model.key_cmp result (model.key q block)) ≡ true }
 
         // Nor does it stand behind the keys of each path behind this one that is not in the subtree.
-        ensures behind { (q : model.Path) (block : ℕ) → IsTrue (model.is_path q) → model.is_at_or_inside q self.now ≡ false
-            → model.path_cmp self.now q ≡ Less → is_le (model.key_cmp result (model.key q block)) ≡ true }
+        ensures behind { (q : model.Path) (block : ℕ) → IsTrue (model.is_path q)
+            → model.is_at_or_inside q self.now ≡ false
+            → model.path_cmp self.now q ≡ Less
+            → is_le (model.key_cmp result (model.key q block)) ≡ true }
     {
         if self.len as usize == FIELD_LEN {
             return self.key(u32::MAX);

@@ -12,10 +12,14 @@ use store_base::Key;
 /// The key with the new path in the stead of the old one, at which or below which its place lies; nothing where its
 /// field would have more than 120 bytes. Attributes are moved as paths are.
 pub fn replant(key: &Key, old: &Path, new: &Path) -> Option<Key>
-    ensures value { (place : model.Path) (block : ℕ) → IsTrue (model.is_place place) → IsTrue (model.is_at_or_inside place old.now)
-        → block < 2 ^ 32 → key.now ≡ model.key place block → IfSome result (λ k. k ≡ model.key (model.replanted old.now new.now place) block) }
-    ensures none { (place : model.Path) (block : ℕ) → IsTrue (model.is_place place) → IsTrue (model.is_at_or_inside place old.now)
-        → block < 2 ^ 32 → key.now ≡ model.key place block → (IsNone result ↔ (model.fits_field (model.replanted old.now new.now place) ≡ false)) }
+    ensures value { (place : model.Path) (block : ℕ) → IsTrue (model.is_place place)
+        → IsTrue (model.is_at_or_inside place old.now)
+        → block < 2 ^ 32 → key.now ≡ model.key place block
+        → IfSome result (λ k. k ≡ model.key (model.replanted old.now new.now place) block) }
+    ensures none { (place : model.Path) (block : ℕ) → IsTrue (model.is_place place)
+        → IsTrue (model.is_at_or_inside place old.now)
+        → block < 2 ^ 32 → key.now ≡ model.key place block
+        → (IsNone result ↔ (model.fits_field (model.replanted old.now new.now place) ≡ false)) }
     ensures valid { IfSome result IsKey }
 {
     let (field, block) = key.as_bytes().split_at(FIELD_LEN);
@@ -28,7 +32,8 @@ pub fn replant(key: &Key, old: &Path, new: &Path) -> Option<Key>
 
 /// The last key that stands at the key's place: the one with the greatest block number.
 pub fn last_at(key: &Key) -> Key
-    ensures value { (place : model.Path) (block : ℕ) → IsTrue (model.is_place place) → block < 2 ^ 32 → key.now ≡ model.key place block
+    ensures value { (place : model.Path) (block : ℕ) → IsTrue (model.is_place place)
+        → block < 2 ^ 32 → key.now ≡ model.key place block
         → result ≡ model.key place (2 ^ 32 - 1) }
     ensures valid { IsKey result }
 {
@@ -40,7 +45,8 @@ pub fn last_at(key: &Key) -> Key
 /// What stands at a place in its field: parts, each with a byte 0 behind it.
 fn place_names(field: &[u8]) -> &[u8]
     requires { length field.now ≡ FIELD_LEN }
-    ensures { (place : model.Path) → IsTrue (model.is_place place) → field.now ≡ model.field place → result.now ≡ model.name_bytes place }
+    ensures { (place : model.Path) → IsTrue (model.is_place place) → field.now ≡ model.field place
+        → result.now ≡ model.name_bytes place }
 {
     match used_len(field) {
         0 => &field[..0],

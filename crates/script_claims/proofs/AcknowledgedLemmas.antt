@@ -1,5 +1,6 @@
 -- What was acknowledged stays: from what a call that answers a script promises.
-use Rattle.std.proofs.Common.{◌≡◌, inl, inr, ℕ, List, ◌++◌, length, take, refl, sym, ap, ◌∙◌, subst, ⊎_elim, arith, length-append}
+use Rattle.std.proofs.Common.{◌≡◌, inl, inr, ℕ, List, ◌++◌, length, take, refl, sym, ap, ◌∙◌, subst, ⊎_elim, arith}
+use Rattle.std.proofs.Common.{length-append}
 use Rattle.store_model.specs.Parameters.{Parameters}
 use Rattle.store_model.specs.Trees.{Tree}
 use Rattle.store_model.specs.Images.{Represents}
@@ -19,10 +20,12 @@ use Rattle.script_claims.proofs.RunWays.{EndsAsRun, between, cut_short, way, ima
 use Rattle.script_claims.proofs.CrashLemmas.{wrote_in_part}
 
 -- of any call that has a text for each line
-pub script_keeps_acknowledged : {word : Subcommand} {texts : Tree → List ℕ → Parameters → List (List ℕ)} {trees : Tree → List ℕ → Parameters → ℕ → Tree} → EndsAsRun word
+pub script_keeps_acknowledged : {word : Subcommand} {texts : Tree → List ℕ → Parameters → List (List ℕ)} {trees : Tree
+    → List ℕ → Parameters → ℕ → Tree} → EndsAsRun word
     → (t : Tree) (p : Parameters) (disk : Disk) (source : SourceMemory) (sink : SinkMemory) (after : Ended)
     → length (texts t source.left p) ≡ length (lines source.left)
-    → AnswersScript word texts trees meaning source_state sink_state (outside_of disk source sink) after → MayLeaveOnly (meaning disk) (λ image. Represents image t p)
+    → AnswersScript word texts trees meaning source_state sink_state (outside_of disk source sink) after
+    → MayLeaveOnly (meaning disk) (λ image. Represents image t p)
     → KeepsAcknowledged (texts t source.left p) (trees t source.left p) t p source sink after
 script_keeps_acknowledged {word} {texts} {trees} as_run t p disk source sink after one_each answers only =
     let on_disk = answers.observed refl in
@@ -35,7 +38,11 @@ script_keeps_acknowledged {word} {texts} {trees} as_run t p disk source sink aft
       ends = way as_run t p disk source sink after answers represents;
       image = λ whole.
           let stands = from.image.between (between after.status whole) in
-          record { bytes = stands.layout_is; durable = λ image leaves. (on_disk.crashes refl t p only).between (between after.status whole) image leaves ∙ stands.layout_is };
+          record {
+            bytes = stands.layout_is;
+            durable = λ image leaves. (on_disk.crashes refl t p only).between (between after.status whole) image
+                leaves ∙ stands.layout_is;
+          };
       disk_fault = from.image.fault;
       no_memory = λ e.
           ⊎_elim
@@ -48,19 +55,33 @@ script_keeps_acknowledged {word} {texts} {trees} as_run t p disk source sink aft
       too_long = λ e.
           let many = limit.too_long e in (
             omega (arith, many.count_is, ap length many.taken_is, length-append many.taken after.source.left),
-            told.counted.ended_in_limit e ∙ ap (λ (bytes : List ℕ). length (ended_lines (take script_limit bytes))) (sym told.taken_is),
+            told.counted.ended_in_limit e
+                ∙ ap (λ (bytes : List ℕ). length (ended_lines (take script_limit bytes))) (sym told.taken_is),
           );
       in_limit = λ other.
           let few = limit.within other in
-          omega (arith, few.1, (few.2).count_is, ap length (few.2).taken_is, length-append (few.2).taken after.source.left);
+          omega (
+            arith,
+            few.1,
+            (few.2).count_is,
+            ap length
+                (few.2).taken_is,
+            length-append (few.2).taken after.source.left,
+          );
       some_line = told.counted.some_line;
       counted = omega (arith, told.counted.counted, one_each);
-      replied = λ early. wrote.written_is ∙ ap (λ (text : List ℕ). sink.written ++ text) (wrote.promised.answered (cut_short after.status early));
-      in_part = wrote_in_part after.status after.done (texts t source.left p) sink.written after.sink.written wrote.written wrote.written_is wrote.promised;
+      replied = λ early. wrote.written_is ∙ ap (λ (text : List ℕ). sink.written ++ text)
+          (wrote.promised.answered (cut_short after.status early));
+      in_part = wrote_in_part after.status after.done (texts t source.left p)
+          sink.written after.sink.written wrote.written wrote.written_is wrote.promised;
     }
 
 -- of a run
-pub keeps_acknowledged : (t : Tree) (p : Parameters) (disk : Disk) (source : SourceMemory) (sink : SinkMemory) (after : Ended)
-    → IsRun meaning source_state sink_state (outside_of disk source sink) after → MayLeaveOnly (meaning disk) (λ image. Represents image t p)
+pub keeps_acknowledged : (t : Tree) (p : Parameters) (disk : Disk) (source : SourceMemory)
+    (sink : SinkMemory) (after : Ended)
+    → IsRun meaning source_state sink_state (outside_of disk source sink) after
+    → MayLeaveOnly (meaning disk) (λ image. Represents image t p)
     → KeepsAcknowledged (run_texts t source.left p) (run_trees t source.left p) t p source sink after
-keeps_acknowledged t p disk source sink after run only = script_keeps_acknowledged (λ status ends. ends) t p disk source sink after (length-run_texts t source.left p) run only
+keeps_acknowledged t p disk source sink after run only =
+    script_keeps_acknowledged (λ status ends. ends) t p disk source sink after
+    (length-run_texts t source.left p) run only

@@ -1,5 +1,7 @@
--- A crash loses nothing of what was acknowledged: from what a call that answers a script promises, and from the run behind it.
-use Rattle.std.proofs.Common.{◌≡◌, ◌⊎◌, inl, inr, ℕ, ◌+◌, ◌-◌, ◌≤◌, List, [], ◌++◌, length, take, drop, refl, sym, ap, ◌∙◌, subst, ⊎_elim, arith}
+-- A crash loses nothing of what was acknowledged: from what a call that answers a script promises, and from the run
+-- behind it.
+use Rattle.std.proofs.Common.{◌≡◌, ◌⊎◌, inl, inr, ℕ, ◌+◌, ◌-◌, ◌≤◌, List, [], ◌++◌, length, take, drop, refl, sym, ap}
+use Rattle.std.proofs.Common.{◌∙◌, subst, ⊎_elim, arith}
 use Rattle.std.specs.List.{concat}
 use Rattle.std.proofs.lemmas.List.{append-nil, take_all}
 use Rattle.store_model.specs.Parameters.{Parameters}
@@ -22,13 +24,15 @@ use Rattle.script_claims.specs.declared.crash.Crash.{Crash}
 use Rattle.script_claims.specs.Acknowledged.{EndsWhole, EndsEarly}
 use Rattle.script_claims.specs.Answered.{AnswersScript as IsAnswered}
 use Rattle.script_claims.specs.Crashes.{WroteReplies, RunsBehind, LosesNothing}
-use Rattle.script_claims.specs.Machines.{Disk, Ended, HasImage, MayLeave, MightHaveLeft, RepresentsSomeTree, bytes_of, meaning}
+use Rattle.script_claims.specs.Machines.{Disk, Ended, HasImage, MayLeave, MightHaveLeft, RepresentsSomeTree, bytes_of}
+use Rattle.script_claims.specs.Machines.{meaning}
 use Rattle.script_claims.proofs.RunWays.{EndsAsRun, between, cut_short, way, layout_after, read_is}
 
 -- ---- what was written
 
 -- just so many texts
-abbrev wrote_whole : (count : ℕ) (texts : List (List ℕ)) (before after : List ℕ) → after ≡ before ++ concat (take count texts) → WroteReplies count texts before after
+abbrev wrote_whole : (count : ℕ) (texts : List (List ℕ)) (before after : List ℕ)
+    → after ≡ before ++ concat (take count texts) → WroteReplies count texts before after
 wrote_whole count texts before after is = record {
   part = [];
   rest = concat (take 1 (drop count texts));
@@ -37,18 +41,25 @@ wrote_whole count texts before after is = record {
 }
 
 -- those of all lines but the last, and a part of that one's
-pub wrote_in_part : (status : Status) (done : ℕ) (texts : List (List ℕ)) (before after : List ℕ) (written : List ℕ) → after ≡ before ++ written → PromisesReplies status done texts written → status ≡ statuses.SinkFault
+pub wrote_in_part : (status : Status) (done : ℕ) (texts : List (List ℕ)) (before after : List ℕ) (written : List ℕ)
+    → after ≡ before ++ written → PromisesReplies status done texts written → status ≡ statuses.SinkFault
     → WroteReplies (done - 1) texts before after
 wrote_in_part status done texts before after written is promised e =
     let wrote = promised.in_part e in
-    record { part = wrote.part; rest = wrote.front.rest; next_is = wrote.front.whole; written_is = is ∙ ap (λ (text : List ℕ). before ++ text) wrote.written_is }
+    record {
+      part = wrote.part;
+      rest = wrote.front.rest;
+      next_is = wrote.front.whole;
+      written_is = is ∙ ap (λ (text : List ℕ). before ++ text) wrote.written_is;
+    }
 
 -- ---- the run behind the crash
 
 -- the tree after no line
 after_none : (u : Tree) (p : Parameters) (left : List ℕ) → left ≡ [] → tree_after u (lines left) p ≡ u
 unfolding tree_after tree_by state_by
-after_none u p left e = ap (λ (text : List ℕ). tree_after u (lines text) p) e ∙ ap (λ (texts : List (List ℕ)). tree_after u texts p) lines-none
+after_none u p left e = ap (λ (text : List ℕ). tree_after u (lines text) p) e
+    ∙ ap (λ (texts : List (List ℕ)). tree_after u texts p) lines-none
 
 -- a run of no line
 pub runs_behind : (t : Tree) (p : Parameters) (disk : Disk) (source : SourceMemory) (sink : SinkMemory) (next : Ended)
@@ -67,9 +78,11 @@ runs_behind t p disk source sink next none disk_faults source_faults sink_faults
 
 -- ---- what is left behind a call
 
-module _ {word : Subcommand} {texts_of : Tree → List ℕ → Parameters → List (List ℕ)} {trees_of : Tree → List ℕ → Parameters → ℕ → Tree} (as_run : EndsAsRun word)
+module _ {word : Subcommand} {texts_of : Tree → List ℕ → Parameters → List (List ℕ)} {trees_of : Tree → List ℕ
+    → Parameters → ℕ → Tree} (as_run : EndsAsRun word)
     (t : Tree) (p : Parameters) (failing : Disk) (source : SourceMemory) (sink : SinkMemory) (first : Ended)
-    (answers : AnswersScript word texts_of trees_of meaning source_state sink_state (outside_of failing source sink) first)
+    (answers : AnswersScript word texts_of trees_of meaning source_state sink_state
+    (outside_of failing source sink) first)
     (only : MayLeaveOnly (meaning failing) (λ image. Represents image t p))
     (laid_out : (k : ℕ) → Represents (layout (trees_of t source.left p k) p) (trees_of t source.left p k) p) where
   abbrev texts : List (List ℕ)
@@ -95,19 +108,24 @@ module _ {word : Subcommand} {texts_of : Tree → List ℕ → Parameters → Li
   written_so : EndsEarly first.status → first.sink.written ≡ sink.written ++ concat (take first.done texts)
   written_so early =
       let wrote = ((answers.observed refl).runs refl t p represents).replies.written refl in
-      wrote.written_is ∙ ap (λ (text : List ℕ). sink.written ++ text) (wrote.promised.answered (cut_short first.status early))
+      wrote.written_is ∙ ap (λ (text : List ℕ). sink.written ++ text)
+      (wrote.promised.answered (cut_short first.status early))
 
   -- where nothing is pending behind the run, what is left is the image of the tree after the lines
-  whole_left : EndsWhole first.status → (left : List ℕ) → MayLeave first.disk left → Represents left (trees first.done) p
+  whole_left : EndsWhole first.status → (left : List ℕ) → MayLeave first.disk left
+      → Represents left (trees first.done) p
   whole_left whole left leaves =
       let on_disk = answers.observed refl in
       let stands = (on_disk.runs refl t p represents).image.between (between first.status whole) in
-      left_represents first.done left ((on_disk.crashes refl t p only).between (between first.status whole) left leaves ∙ stands.layout_is)
+      left_represents first.done left
+      ((on_disk.crashes refl t p only).between (between first.status whole) left leaves ∙ stands.layout_is)
 
-  stands_left : (k : ℕ) (left : List ℕ) → Stands (meaning first.disk) (trees k) p → MayLeave first.disk left → Represents left (trees k) p
+  stands_left : (k : ℕ) (left : List ℕ) → Stands (meaning first.disk) (trees k) p → MayLeave first.disk left
+      → Represents left (trees k) p
   stands_left k left stands leaves = left_represents k left (stands.durable left leaves ∙ stands.layout_is)
 
-  memory_left : first.status ≡ statuses.NoMemory → (left : List ℕ) → MayLeave first.disk left → Represents left (trees first.done) p
+  memory_left : first.status ≡ statuses.NoMemory → (left : List ℕ) → MayLeave first.disk left
+      → Represents left (trees first.done) p
   memory_left e left leaves =
       let on_disk = answers.observed refl in
       ⊎_elim
@@ -118,7 +136,8 @@ module _ {word : Subcommand} {texts_of : Tree → List ℕ → Parameters → Li
       ((on_disk.runs refl t p represents).image.no_memory e))
       ((on_disk.crashes refl t p only).no_memory e)
 
-  early_left : EndsEarly first.status → (left : List ℕ) → MayLeave first.disk left → Represents left (trees first.done) p ⊎ Represents left (trees (first.done + 1)) p
+  early_left : EndsEarly first.status → (left : List ℕ) → MayLeave first.disk left
+      → Represents left (trees first.done) p ⊎ Represents left (trees (first.done + 1)) p
   early_left (inl e) left leaves = inl (whole_left (inr (inl e)) left leaves)
   early_left (inr (inl e)) left leaves = ((answers.observed refl).crashes refl t p only).fault e left leaves
   early_left (inr (inr (inl e))) left leaves = inl (whole_left (inr (inr (inr e))) left leaves)
@@ -139,7 +158,9 @@ module _ {word : Subcommand} {texts_of : Tree → List ℕ → Parameters → Li
       record {
         count = first.done;
         replied = wrote_whole first.done texts sink.written first.sink.written
-            (wrote.written_is ∙ ap (λ (text : List ℕ). sink.written ++ text) (wrote.promised.all e ∙ ap concat (sym (take_all first.done texts (omega (arith, (told.counted.all e).1))))));
+            (wrote.written_is ∙ ap (λ (text : List ℕ). sink.written ++ text)
+            (wrote.promised.all e ∙ ap concat
+            (sym (take_all first.done texts (omega (arith, (told.counted.all e).1))))));
         image = inl (whole_left (inl e) left leaves);
         in_part = inl refl;
       }
@@ -152,14 +173,16 @@ module _ {word : Subcommand} {texts_of : Tree → List ℕ → Parameters → Li
       let is = subst (λ (k : ℕ). Represents left (trees k) p) (sym next) (whole_left (inr (inr (inl e))) left leaves) in
       record {
         count = first.done - 1;
-        replied = wrote_in_part first.status first.done texts sink.written first.sink.written wrote.written wrote.written_is wrote.promised e;
+        replied = wrote_in_part first.status first.done texts
+            sink.written first.sink.written wrote.written wrote.written_is wrote.promised e;
         image = inr is;
         in_part = inr is;
       }
   left_whole (inr (inr (inr e))) left leaves = left_early (inr (inr (inl e))) left leaves
 
   pub left_behind : (left : List ℕ) → MayLeave first.disk left → LeftBehind left
-  left_behind left leaves = ⊎_elim (λ whole. left_whole whole left leaves) (λ early. left_early early left leaves) (way as_run t p failing source sink first answers represents)
+  left_behind left leaves = ⊎_elim (λ whole. left_whole whole left leaves) (λ early. left_early early left leaves)
+      (way as_run t p failing source sink first answers represents)
 
   -- ---- a crash at some moment
 
@@ -167,12 +190,14 @@ module _ {word : Subcommand} {texts_of : Tree → List ℕ → Parameters → Li
   abbrev LeftOnTheWay : List ℕ → Type 0
   LeftOnTheWay left = RepresentsSomeTree (first.done + 1) trees p left
 
-  on_the_way_whole : (first.status ≡ statuses.DiskFault → ⊥) → (left : List ℕ) → MightHaveLeft (meaning failing).clock first.disk left → LeftOnTheWay left
+  on_the_way_whole : (first.status ≡ statuses.DiskFault → ⊥) → (left : List ℕ)
+      → MightHaveLeft (meaning failing).clock first.disk left → LeftOnTheWay left
   on_the_way_whole other left leaves =
       let one = (((answers.observed refl).crashes refl t p only).during other).each left leaves in
       record { count = one.0; in_limit = omega (arith, one.1); represents = one.2 }
 
-  on_the_way_fault : first.status ≡ statuses.DiskFault → (left : List ℕ) → MightHaveLeft (meaning failing).clock first.disk left → LeftOnTheWay left
+  on_the_way_fault : first.status ≡ statuses.DiskFault → (left : List ℕ)
+      → MightHaveLeft (meaning failing).clock first.disk left → LeftOnTheWay left
   on_the_way_fault e left leaves =
       let one = (((answers.observed refl).crashes refl t p only).during_fault e).each left leaves in
       record { count = one.0; in_limit = one.1; represents = one.2 }
@@ -181,19 +206,28 @@ module _ {word : Subcommand} {texts_of : Tree → List ℕ → Parameters → Li
   on_the_way left leaves = by_way (way as_run t p failing source sink first answers represents)
     where
       by_way : EndsWhole first.status ⊎ EndsEarly first.status → LeftOnTheWay left
-      by_way (inl (inl e)) = on_the_way_whole (λ d. let both : statuses.Done ≡ statuses.DiskFault = sym e ∙ d in cc) left leaves
-      by_way (inl (inr (inl e))) = on_the_way_whole (λ d. let both : statuses.SourceFault ≡ statuses.DiskFault = sym e ∙ d in cc) left leaves
-      by_way (inl (inr (inr (inl e)))) = on_the_way_whole (λ d. let both : statuses.SinkFault ≡ statuses.DiskFault = sym e ∙ d in cc) left leaves
-      by_way (inl (inr (inr (inr e)))) = on_the_way_whole (λ d. let both : statuses.TooLong ≡ statuses.DiskFault = sym e ∙ d in cc) left leaves
-      by_way (inr (inl e)) = on_the_way_whole (λ d. let both : statuses.SourceFault ≡ statuses.DiskFault = sym e ∙ d in cc) left leaves
+      by_way (inl (inl e)) = on_the_way_whole (λ d. let both : statuses.Done ≡ statuses.DiskFault =
+          sym e ∙ d in cc) left leaves
+      by_way (inl (inr (inl e))) = on_the_way_whole (λ d. let both : statuses.SourceFault ≡ statuses.DiskFault =
+          sym e ∙ d in cc) left leaves
+      by_way (inl (inr (inr (inl e)))) =
+          on_the_way_whole (λ d. let both : statuses.SinkFault ≡ statuses.DiskFault = sym e ∙ d in cc) left leaves
+      by_way (inl (inr (inr (inr e)))) =
+          on_the_way_whole (λ d. let both : statuses.TooLong ≡ statuses.DiskFault = sym e ∙ d in cc) left leaves
+      by_way (inr (inl e)) = on_the_way_whole (λ d. let both : statuses.SourceFault ≡ statuses.DiskFault =
+          sym e ∙ d in cc) left leaves
       by_way (inr (inr (inl e))) = on_the_way_fault e left leaves
-      by_way (inr (inr (inr (inl e)))) = on_the_way_whole (λ d. let both : statuses.TooLong ≡ statuses.DiskFault = sym e ∙ d in cc) left leaves
-      by_way (inr (inr (inr (inr e)))) = on_the_way_whole (λ d. let both : statuses.NoMemory ≡ statuses.DiskFault = sym e ∙ d in cc) left leaves
+      by_way (inr (inr (inr (inl e)))) =
+          on_the_way_whole (λ d. let both : statuses.TooLong ≡ statuses.DiskFault = sym e ∙ d in cc) left leaves
+      by_way (inr (inr (inr (inr e)))) =
+          on_the_way_whole (λ d. let both : statuses.NoMemory ≡ statuses.DiskFault = sym e ∙ d in cc) left leaves
 
 -- ---- both calls
 
-pub script_loses_nothing : {word : Subcommand} {texts_of : Tree → List ℕ → Parameters → List (List ℕ)} {trees_of : Tree → List ℕ → Parameters → ℕ → Tree} → EndsAsRun word
-    → (t : Tree) (p : Parameters) (failing : Disk) (source : SourceMemory) (sink : SinkMemory) (left : List ℕ) (crash : Crash)
+pub script_loses_nothing : {word : Subcommand} {texts_of : Tree → List ℕ → Parameters → List (List ℕ)} {trees_of : Tree
+    → List ℕ → Parameters → ℕ → Tree} → EndsAsRun word
+    → (t : Tree) (p : Parameters) (failing : Disk) (source : SourceMemory) (sink : SinkMemory)
+    (left : List ℕ) (crash : Crash)
     → AnswersScript word texts_of trees_of meaning source_state sink_state (outside_of failing source sink) crash.first
     → MayLeaveOnly (meaning failing) (λ image. Represents image t p)
     → ((k : ℕ) → Represents (layout (trees_of t source.left p k) p) (trees_of t source.left p k) p)
@@ -217,11 +251,13 @@ script_loses_nothing as_run t p failing source sink left crash first only laid_o
           record { count = found.count; in_limit = found.in_limit; image = (behind _ found.represents).image e };
     }
 
-pub loses_nothing : (t : Tree) (p : Parameters) (failing : Disk) (source : SourceMemory) (sink : SinkMemory) (left : List ℕ) (crash : Crash)
+pub loses_nothing : (t : Tree) (p : Parameters) (failing : Disk) (source : SourceMemory) (sink : SinkMemory)
+    (left : List ℕ) (crash : Crash)
     → IsRun meaning source_state sink_state (outside_of failing source sink) crash.first
     → MayLeaveOnly (meaning failing) (λ image. Represents image t p)
     → ((u : Tree) → Represents left u p → RunsBehind u p crash.next)
     → LosesNothing (run_texts t source.left p) (run_trees t source.left p) p failing.disk sink left crash
 loses_nothing t p failing source sink left crash run only behind =
     script_loses_nothing (λ status ends. ends) t p failing source sink left crash run only
-    (λ k. layout_after t p (bytes_of failing) (take k (lines source.left)) (read_is failing (λ image. Represents image t p) only)) behind
+    (λ k. layout_after t p (bytes_of failing) (take k (lines source.left))
+    (read_is failing (λ image. Represents image t p) only)) behind

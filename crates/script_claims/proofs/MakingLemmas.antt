@@ -22,32 +22,47 @@ use Rattle.script_claims.specs.Machines.{Disk, Ended, HasImage, bytes_of, meanin
 use Rattle.script_claims.proofs.RunWays.{image_of}
 
 -- a format that ended with 0 leaves the image of the empty tree
-pub formatted : (p : Parameters) (disk : Disk) (source : SourceMemory) (sink : SinkMemory) (after : Ended) → IsFormat meaning p (outside_of disk source sink) after → after.status ≡ statuses.Done → HasImage after.disk empty_tree p
+pub formatted : (p : Parameters) (disk : Disk) (source : SourceMemory) (sink : SinkMemory) (after : Ended)
+    → IsFormat meaning p (outside_of disk source sink) after → after.status ≡ statuses.Done
+    → HasImage after.disk empty_tree p
 formatted p disk source sink after format e = image_of after.disk empty_tree p ((format.observed refl).formatted e)
 
 -- an image of a tree that fits represents it
-pub represented : (disk : Disk) (t : Tree) (p : Parameters) → IsFitting t p → HasImage disk t p → Represents (bytes_of disk) t p
-represented disk t p is image = subst (λ (bytes : List ℕ). Represents bytes t p) (sym image.bytes) (Represents-layout t p is.in_range is.tree is.fits)
+pub represented : (disk : Disk) (t : Tree) (p : Parameters) → IsFitting t p → HasImage disk t p
+    → Represents (bytes_of disk) t p
+represented disk t p is image = subst (λ (bytes : List ℕ). Represents bytes t p) (sym image.bytes)
+    (Represents-layout t p is.in_range is.tree is.fits)
 
 -- the tree after lines fits
-pub after_fits : (t : Tree) (p : Parameters) (texts : List (List ℕ)) → IsFitting t p → IsFitting (tree_after t texts p) p
-after_fits t p texts is = record { in_range = is.in_range; tree = IsTree-tree_after t texts p is.tree; fits = Fits-tree_after t texts p is.tree is.fits }
+pub after_fits : (t : Tree) (p : Parameters) (texts : List (List ℕ)) → IsFitting t p
+    → IsFitting (tree_after t texts p) p
+after_fits t p texts is = record {
+  in_range = is.in_range;
+  tree = IsTree-tree_after t texts p is.tree;
+  fits = Fits-tree_after t texts p is.tree is.fits;
+}
 
 -- so does the tree that scripts leave of the empty one
-pub made_fits : (scripts : List SourceMemory) (p : Parameters) → IsFitting empty_tree p → IsFitting (made_tree scripts p) p
+pub made_fits : (scripts : List SourceMemory) (p : Parameters) → IsFitting empty_tree p
+    → IsFitting (made_tree scripts p) p
 made_fits scripts p is = after_fits empty_tree p (flat_map (λ (s : SourceMemory). lines s.left) scripts) is
 
 -- the tree after one script more
 pub one_more : (t : Tree) (p : Parameters) (scripts : List SourceMemory) (script : SourceMemory)
-    → tree_after (tree_after t (flat_map (λ (s : SourceMemory). lines s.left) scripts) p) (lines script.left) p ≡ tree_after t (flat_map (λ (s : SourceMemory). lines s.left) (scripts ++ script ∷ [])) p
+    → tree_after (tree_after t (flat_map (λ (s : SourceMemory). lines s.left) scripts) p) (lines script.left) p
+    ≡ tree_after t (flat_map (λ (s : SourceMemory). lines s.left) (scripts ++ script ∷ [])) p
 one_more t p scripts script =
     let of = λ (s : SourceMemory). lines s.left in
-    sym (ap (λ (texts : List (List ℕ)). tree_after t texts p) (flat_map-append of scripts (script ∷ []) ∙ ap (λ (texts : List (List ℕ)). flat_map of scripts ++ texts) (append-nil (lines script.left)))
+    sym (ap (λ (texts : List (List ℕ)). tree_after t texts p)
+    (flat_map-append of scripts (script ∷ [])
+    ∙ ap (λ (texts : List (List ℕ)). flat_map of scripts ++ texts) (append-nil (lines script.left)))
     ∙ tree_after-append t (flat_map of scripts) (lines script.left) p)
 
 -- two images of trees that scripts made
-pub equal_contents : (p : Parameters) (first_scripts second_scripts : List SourceMemory) (first second : Disk) → IsFitting empty_tree p
-    → HasImage first (made_tree first_scripts p) p → HasImage second (made_tree second_scripts p) p → EqualContentsEqualBytes first_scripts second_scripts p first second
+pub equal_contents : (p : Parameters) (first_scripts second_scripts : List SourceMemory) (first second : Disk)
+    → IsFitting empty_tree p
+    → HasImage first (made_tree first_scripts p) p → HasImage second (made_tree second_scripts p) p
+    → EqualContentsEqualBytes first_scripts second_scripts p first second
 equal_contents p first_scripts second_scripts first second empty one other =
     let a = made_fits first_scripts p empty in
     let b = made_fits second_scripts p empty in
@@ -55,7 +70,9 @@ equal_contents p first_scripts second_scripts first second empty one other =
       first_image = one;
       second_image = other;
       equal = (
-        (λ e. (layouts_tell (made_tree first_scripts p) (made_tree second_scripts p) p p a.in_range b.in_range a.tree b.tree a.fits b.fits (sym one.bytes ∙ e ∙ other.bytes)).0),
+        (λ e. (layouts_tell (made_tree first_scripts p)
+            (made_tree second_scripts p) p p a.in_range b.in_range a.tree b.tree a.fits b.fits (sym one.bytes
+            ∙ e ∙ other.bytes)).0),
         (λ e. one.bytes ∙ ap (λ (t : Tree). layout t p) e ∙ sym other.bytes),
       );
     }

@@ -16,13 +16,17 @@ use Rattle.script_claims.specs.Removals.{RemovesAt}
 use Rattle.script_claims.proofs.RunWays.{layout_after}
 
 -- the second script leads back to the tree that the first left
-led_back : (at : Path) (t : Tree) (p : Parameters) (image first second : List ℕ) → Represents image t p → RemovesAt at t p first second → tree_after (tree_after t (lines first) p) (lines second) p ≡ tree_after t (lines first) p
+led_back : (at : Path) (t : Tree) (p : Parameters) (image first second : List ℕ) → Represents image t p
+    → RemovesAt at t p first second → tree_after (tree_after t (lines first) p) (lines second) p
+    ≡ tree_after t (lines first) p
 led_back at t p image first second is removes =
     ap (λ (texts : List (List ℕ)). tree_after (tree_after t (lines first) p) texts p) removes.lines_are
-    ∙ tree_after-pruned (tree_after t (lines first) p) removes.texts removes.prune p at (IsTree-tree_after t (lines first) p is.tree) removes.nothing_there removes.within removes.fits removes.prunes
+    ∙ tree_after-pruned (tree_after t (lines first) p) removes.texts removes.prune p at
+    (IsTree-tree_after t (lines first) p is.tree) removes.nothing_there removes.within removes.fits removes.prunes
 
 -- the second run answers its script from the tree that the first left
-pub goes_on : (t : Tree) (p : Parameters) (disk next : Disk) (first second : SourceMemory) (sink next_sink : SinkMemory) (one other : Ended) → Represents (bytes_of disk) t p
+pub goes_on : (t : Tree) (p : Parameters) (disk next : Disk) (first second : SourceMemory) (sink next_sink : SinkMemory)
+    (one other : Ended) → Represents (bytes_of disk) t p
     → AnswersScript t p disk first sink one
     → next.disk ≡ one.disk.disk
     → ((u : Tree) → Represents (bytes_of next) u p → AnswersScript u p next second next_sink other)
@@ -30,12 +34,17 @@ pub goes_on : (t : Tree) (p : Parameters) (disk next : Disk) (first second : Sou
 goes_on t p disk next first second sink next_sink one other is answers same more e =
     let u = tree_after t (lines first.left) p in
     let bytes : bytes_of next ≡ layout u p = ap (λ (m : Memory). m.bytes) same ∙ (answers.image e).bytes in
-    more u (subst (λ (image : List ℕ). Represents image u p) (sym bytes) (layout_after t p (bytes_of disk) (lines first.left) is))
+    more u (subst (λ (image : List ℕ). Represents image u p) (sym bytes)
+    (layout_after t p (bytes_of disk) (lines first.left) is))
 
-pub gone : (at : Path) (t : Tree) (p : Parameters) (disk next : Disk) (first second : SourceMemory) (sink next_sink : SinkMemory) (one other : Ended) → Represents (bytes_of disk) t p → RemovesAt at t p first.left second.left
+pub gone : (at : Path) (t : Tree) (p : Parameters) (disk next : Disk) (first second : SourceMemory)
+    (sink next_sink : SinkMemory) (one other : Ended) → Represents (bytes_of disk) t p
+    → RemovesAt at t p first.left second.left
     → AnswersScript t p disk first sink one
     → next.disk ≡ one.disk.disk
     → ((u : Tree) → Represents (bytes_of next) u p → AnswersScript u p next second next_sink other)
     → one.status ≡ statuses.Done → other.status ≡ statuses.Done → bytes_of other.disk ≡ bytes_of one.disk
 gone at t p disk next first second sink next_sink one other is removes answers same more e d =
-    ((goes_on t p disk next first second sink next_sink one other is answers same more e).image d).bytes ∙ ap (λ (v : Tree). layout v p) (led_back at t p (bytes_of disk) first.left second.left is removes) ∙ sym (answers.image e).bytes
+    ((goes_on t p disk next first second sink next_sink one other is answers same more e).image d).bytes
+    ∙ ap (λ (v : Tree). layout v p) (led_back at t p (bytes_of disk) first.left second.left is removes)
+    ∙ sym (answers.image e).bytes

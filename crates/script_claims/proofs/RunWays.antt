@@ -22,7 +22,8 @@ use Rattle.script_claims.specs.Machines.{Disk, Ended, HasImage, bytes_of, meanin
 
 -- ---- statuses
 
-way_of : (status : Status) → IsStatusOf words.Run status → (status ≡ statuses.NotImage → ⊥) → (status ≡ statuses.Damaged → ⊥) → EndsWhole status ⊎ EndsEarly status
+way_of : (status : Status) → IsStatusOf words.Run status → (status ≡ statuses.NotImage → ⊥)
+    → (status ≡ statuses.Damaged → ⊥) → EndsWhole status ⊎ EndsEarly status
 way_of statuses.Done runs image whole = inl (inl refl)
 way_of statuses.Usage runs image whole = absurd (false≢true runs)
 way_of statuses.SourceFault runs image whole = inl (inr (inl refl))
@@ -74,9 +75,11 @@ cut_short status (inr (inr (inl e))) = subst IsCutShort (sym e) refl
 cut_short status (inr (inr (inr e))) = subst IsCutShort (sym e) refl
 
 -- such a call over the image of a tree ends in one of these ways
-pub way : {word : Subcommand} {texts : Tree → List ℕ → Parameters → List (List ℕ)} {trees : Tree → List ℕ → Parameters → ℕ → Tree} → EndsAsRun word
+pub way : {word : Subcommand} {texts : Tree → List ℕ → Parameters → List (List ℕ)} {trees : Tree → List ℕ → Parameters
+    → ℕ → Tree} → EndsAsRun word
     → (t : Tree) (p : Parameters) (disk : Disk) (source : SourceMemory) (sink : SinkMemory) (after : Ended)
-    → AnswersScript word texts trees meaning source_state sink_state (outside_of disk source sink) after → Represents (bytes_of disk) t p → EndsWhole after.status ⊎ EndsEarly after.status
+    → AnswersScript word texts trees meaning source_state sink_state (outside_of disk source sink) after
+    → Represents (bytes_of disk) t p → EndsWhole after.status ⊎ EndsEarly after.status
 way as_run t p disk source sink after answers represents =
     let on_disk = answers.observed refl in
     way_of after.status (as_run after.status answers.ends)
@@ -86,14 +89,20 @@ way as_run t p disk source sink after answers represents =
 -- ---- trees of lines
 
 -- the layout of the tree after lines represents it
-pub layout_after : (t : Tree) (p : Parameters) (image : List ℕ) (texts : List (List ℕ)) → Represents image t p → Represents (layout (tree_after t texts p) p) (tree_after t texts p) p
-layout_after t p image texts is = Represents-layout (tree_after t texts p) p is.names.in_range (IsTree-tree_after t texts p is.tree) (Fits-tree_after t texts p is.tree is.fits)
+pub layout_after : (t : Tree) (p : Parameters) (image : List ℕ) (texts : List (List ℕ)) → Represents image t p
+    → Represents (layout (tree_after t texts p) p) (tree_after t texts p) p
+layout_after t p image texts is =
+    Represents-layout (tree_after t texts p) p is.names.in_range (IsTree-tree_after t texts p is.tree)
+    (Fits-tree_after t texts p is.tree is.fits)
 
 -- ---- images
 
 -- a disk that stands at a tree has its image
 pub image_of : (disk : Disk) (t : Tree) (p : Parameters) → Stands (meaning disk) t p → HasImage disk t p
-image_of disk t p stands = record { bytes = stands.layout_is; durable = λ image leaves. stands.durable image leaves ∙ stands.layout_is }
+image_of disk t p stands = record {
+  bytes = stands.layout_is;
+  durable = λ image leaves. stands.durable image leaves ∙ stands.layout_is;
+}
 
 -- what a crash may leave of a disk in memory, all that it may leave, and so what it reads
 pub read_is : (disk : Disk) (P : List ℕ → Type 0) → MayLeaveOnly (meaning disk) P → P (bytes_of disk)

@@ -1,5 +1,6 @@
 -- How a making ends that stops before its end: from what a format and a run promise.
-use Rattle.std.proofs.Common.{◌≡◌, ◌⊎◌, inl, inr, length, Result, Ok, Err, IfErr, IsErrAnd, refl, sym, ap, ◌∙◌, subst, arith, length-append}
+use Rattle.std.proofs.Common.{◌≡◌, ◌⊎◌, inl, inr, length, Result, Ok, Err, IfErr, IsErrAnd, refl, sym, ap, ◌∙◌, subst}
+use Rattle.std.proofs.Common.{arith, length-append}
 use Rattle.std.proofs.lemmas.Bool.{false≢true}
 use Rattle.store_model.specs.Parameters.{Parameters}
 use Rattle.store_model.specs.Trees.{Tree}
@@ -10,7 +11,8 @@ use Rattle.image_subcommands.specs.declared.status.Status.{Status}
 use Rattle.image_subcommands.specs.declared.status.Status.TheVariants as statuses
 use Rattle.image_subcommands.specs.Outside.{outside_of, KeepsOutside}
 use Rattle.image_subcommands.specs.FormatCall.{IsFormat}
-use Rattle.image_subcommands.specs.Statuses.{Subcommand as words, IsStatusOf, disk_faults_by, source_faults_by, sink_faults_by}
+use Rattle.image_subcommands.specs.Statuses.{Subcommand as words, IsStatusOf, disk_faults_by, source_faults_by}
+use Rattle.image_subcommands.specs.Statuses.{sink_faults_by}
 use Rattle.store_top.specs.RunCall.{IsRun}
 use Rattle.script_claims.specs.Acknowledged.{EndsWhole, EndsEarly}
 use Rattle.script_claims.specs.Machines.{Disk, Ended, bytes_of, meaning}
@@ -18,7 +20,8 @@ use Rattle.script_claims.specs.Makings.{SparesCounts, IsRunCut, StopsRuns, Stops
 use Rattle.script_claims.proofs.RunWays.{way}
 
 -- an error that is handed on as it is
-pub handed_on : {T E : Type 0} (P : E → Type 0) (fault : E) (result : Result T E) → IsErrAnd result (λ e. e ≡ fault) → P fault → IfErr result P
+pub handed_on : {T E : Type 0} (P : E → Type 0) (fault : E) (result : Result T E) → IsErrAnd result (λ e. e ≡ fault)
+    → P fault → IfErr result P
 handed_on P fault (Ok value) is holds = tt
 handed_on P fault (Err e) is holds = subst P (sym is) holds
 
@@ -35,7 +38,8 @@ run_cut status (inr (inr (inr (inl e)))) other = inr (inr (inr (inl e)))
 run_cut status (inr (inr (inr (inr e)))) other = inr (inr (inr (inr e)))
 
 format_cut : (status : Status) → IsStatusOf words.Format status → (status ≡ statuses.Done → ⊥)
-    → (status ≡ statuses.DiskFault) ⊎ ((status ≡ statuses.NoMemory) ⊎ ((status ≡ statuses.AlreadyImage) ⊎ (status ≡ statuses.WrongLength)))
+    → (status ≡ statuses.DiskFault)
+    ⊎ ((status ≡ statuses.NoMemory) ⊎ ((status ≡ statuses.AlreadyImage) ⊎ (status ≡ statuses.WrongLength)))
 format_cut statuses.Done is other = absurd (other refl)
 format_cut statuses.Usage is other = absurd (false≢true is)
 format_cut statuses.SourceFault is other = absurd (false≢true is)
@@ -55,12 +59,16 @@ format_cut statuses.TooFull is other = absurd (false≢true is)
 -- ---- the counts of failed calls
 
 module _ (disk : Disk) (source : SourceMemory) (sink : SinkMemory) (after : Ended)
-    (outside : KeepsOutside after.status (meaning disk) (meaning after.disk) (source_state source) (source_state after.source) (sink_state sink) (sink_state after.sink)) where
-  disk_by : (status : Status) → after.status ≡ status → (meaning after.disk).faults ≡ disk_faults_by status (meaning disk).faults
-  disk_by status e = subst (λ (s : Status). (meaning after.disk).faults ≡ disk_faults_by s (meaning disk).faults) e outside.disk_faults
+    (outside : KeepsOutside after.status (meaning disk) (meaning after.disk) (source_state source)
+    (source_state after.source) (sink_state sink) (sink_state after.sink)) where
+  disk_by : (status : Status) → after.status ≡ status
+      → (meaning after.disk).faults ≡ disk_faults_by status (meaning disk).faults
+  disk_by status e = subst (λ (s : Status). (meaning after.disk).faults ≡ disk_faults_by s (meaning disk).faults) e
+      outside.disk_faults
 
   source_by : (status : Status) → after.status ≡ status → after.source.faults ≡ source_faults_by status source.faults
-  source_by status e = subst (λ (s : Status). after.source.faults ≡ source_faults_by s source.faults) e outside.source_faults
+  source_by status e = subst (λ (s : Status). after.source.faults ≡ source_faults_by s source.faults)
+      e outside.source_faults
 
   sink_by : (status : Status) → after.status ≡ status → after.sink.faults ≡ sink_faults_by status sink.faults
   sink_by status e = subst (λ (s : Status). after.sink.faults ≡ sink_faults_by s sink.faults) e outside.sink_faults
@@ -71,7 +79,8 @@ module _ (disk : Disk) (source : SourceMemory) (sink : SinkMemory) (after : Ende
 
   -- ---- one call
 
-  pub run_stops : (t : Tree) (p : Parameters) → IsRun meaning source_state sink_state (outside_of disk source sink) after → Represents (bytes_of disk) t p
+  pub run_stops : (t : Tree) (p : Parameters)
+      → IsRun meaning source_state sink_state (outside_of disk source sink) after → Represents (bytes_of disk) t p
       → (after.status ≡ statuses.Done → ⊥) → StopsRuns disk (λ script. script ≡ source) sink after
   run_stops t p run represents other = record {
     ends = run_cut after.status (way (λ status ends. ends) t p disk source sink after run represents) other;
@@ -79,11 +88,20 @@ module _ (disk : Disk) (source : SourceMemory) (sink : SinkMemory) (after : Ende
     sink_fault = sink_by statuses.SinkFault;
     source_fault = λ e. (source, refl, source_by statuses.SourceFault e);
     too_long = λ e.
-        let many = (run.limit refl).too_long e in
-        (source, refl, omega (arith, many.count_is, ap length many.taken_is, length-append many.taken after.source.left));
+        let many = (run.limit refl).too_long e in (
+          source,
+          refl,
+          omega (
+            arith,
+            many.count_is,
+            ap length many.taken_is,
+            length-append many.taken after.source.left,
+          ),
+        );
   }
 
-  pub format_stops : (p : Parameters) → IsFormat meaning p (outside_of disk source sink) after → (after.status ≡ statuses.Done → ⊥) → StopsFormat p disk after
+  pub format_stops : (p : Parameters) → IsFormat meaning p (outside_of disk source sink) after
+      → (after.status ≡ statuses.Done → ⊥) → StopsFormat p disk after
   format_stops p format other = record {
     ends = format_cut after.status format.ends other;
     disk_fault = disk_by statuses.DiskFault;
@@ -92,7 +110,8 @@ module _ (disk : Disk) (source : SourceMemory) (sink : SinkMemory) (after : Ende
   }
 
 -- there was no memory for the word `run`
-pub unrun_stops : (disk : Disk) (IsScript : SourceMemory → Type 0) (sink : SinkMemory) (ended : Ended) → ended.status ≡ statuses.NoMemory → StopsRuns disk IsScript sink ended
+pub unrun_stops : (disk : Disk) (IsScript : SourceMemory → Type 0) (sink : SinkMemory) (ended : Ended)
+    → ended.status ≡ statuses.NoMemory → StopsRuns disk IsScript sink ended
 unrun_stops disk IsScript sink ended is = record {
   ends = inr (inr (inr (inr is)));
   disk_fault = λ e. absurd (cc);
@@ -103,8 +122,10 @@ unrun_stops disk IsScript sink ended is = record {
 
 -- ---- runs behind calls that were done
 
-pub stops_behind : (disk now : Disk) (IsScript IsOne : SourceMemory → Type 0) (sink sink_now : SinkMemory) (ended : Ended) → (meaning now).faults ≡ (meaning disk).faults → sink_now.faults ≡ sink.faults
-    → ((script : SourceMemory) → IsOne script → IsScript script) → StopsRuns now IsOne sink_now ended → StopsRuns disk IsScript sink ended
+pub stops_behind : (disk now : Disk) (IsScript IsOne : SourceMemory → Type 0) (sink sink_now : SinkMemory)
+    (ended : Ended) → (meaning now).faults ≡ (meaning disk).faults → sink_now.faults ≡ sink.faults
+    → ((script : SourceMemory) → IsOne script → IsScript script) → StopsRuns now IsOne sink_now ended
+    → StopsRuns disk IsScript sink ended
 stops_behind disk now IsScript IsOne sink sink_now ended disk_is sink_is among stops = record {
   ends = stops.ends;
   disk_fault = λ e. stops.disk_fault e ∙ ap raised disk_is;

@@ -1,5 +1,6 @@
 -- An image that was upgraded is the one that is made with version 2: from what an upgrade and makings promise.
-use Rattle.std.proofs.Common.{◌≡◌, ◌⊎◌, inl, inr, ℕ, Bool, true, false, ◌&&◌, nat_lt, cond, List, [], ◌∷◌, ◌++◌, length, map, Option, Some, None, Result, Ok, Err, codes, refl, sym, ap, ◌∙◌, subst}
+use Rattle.std.proofs.Common.{◌≡◌, ◌⊎◌, inl, inr, ℕ, Bool, true, false, ◌&&◌, nat_lt, cond, List, [], ◌∷◌, ◌++◌, length}
+use Rattle.std.proofs.Common.{map, Option, Some, None, Result, Ok, Err, codes, refl, sym, ap, ◌∙◌, subst}
 use Rattle.std.specs.List.{flat_map, AllByRecursion}
 use Rattle.std.specs.Option.{option_map}
 use Rattle.std.proofs.lemmas.Bool.{false≢true}
@@ -14,10 +15,12 @@ use Rattle.store_model.specs.Pages.{page_count}
 use Rattle.store_model.specs.Images.{layout}
 use Rattle.store_model.specs.Commands.{Command}
 use Rattle.store_model.specs.Commands.Reply.{Refused}
-use Rattle.store_model.specs.Steps.{Step, step, step_by, step_to, refusal_of, next_tree, may_fill, is_on_attributes, lacks_version, reply_of}
+use Rattle.store_model.specs.Steps.{Step, step, step_by, step_to, refusal_of, next_tree, may_fill, is_on_attributes}
+use Rattle.store_model.specs.Steps.{lacks_version, reply_of}
 use Rattle.store_model.proofs.TreesLemmasSteps.{step_of_version, step_by_refusal}
 use Rattle.store_model.specs.Grammar.{parse, ◌>>=◌}
-use Rattle.store_model.specs.Scripts.{lines, line_limit, answer, answer_by, answers_by, state_by, replies_by, tree_by, replies, tree_after}
+use Rattle.store_model.specs.Scripts.{lines, line_limit, answer, answer_by, answers_by, state_by, replies_by, tree_by}
+use Rattle.store_model.specs.Scripts.{replies, tree_after}
 use Rattle.store_model.specs.Words.{Request, request_of, number_in, kind_of_word, seed_of_word, version_of_word}
 use Rattle.store_model.specs.Words.Request.{Format, Run, Session, Check, Scrub, Wipe, Upgrade, Dump, Load, Big}
 use Rattle.image_check.specs.Standing.{IsFitting}
@@ -29,7 +32,8 @@ use Rattle.image_subcommands.specs.Statuses.{Subcommand as words, IsStatusOf, di
 use Rattle.store_top.specs.UpgradeCall.{IsUpgrade}
 use Rattle.script_claims.specs.Machines.{Disk, Ended, HasImage, meaning}
 use Rattle.script_claims.specs.Makings.{made_tree}
-use Rattle.script_claims.specs.Upgrades.{HaveSameArguments, AreSameScripts, IsNotFull, IsServed, IsUpgradedAsMade, StopsUpgrade}
+use Rattle.script_claims.specs.Upgrades.{HaveSameArguments, AreSameScripts, IsNotFull, IsServed, IsUpgradedAsMade}
+use Rattle.script_claims.specs.Upgrades.{StopsUpgrade}
 use Rattle.script_claims.proofs.MakingLemmas.{represented}
 use Rattle.script_claims.proofs.RunWays.{image_of}
 
@@ -49,9 +53,11 @@ upgraded_request Load = Load
 upgraded_request (Big number count) = Big number count
 
 abbrev format_by : Version → Option ℕ → Option ℕ → Option DrawKind → Option (List ℕ) → Option Request
-format_by version slots height kind seed = slots >>= λ n. height >>= λ h. kind >>= λ k. seed >>= λ s. Some (Format (record { slots = n; height = h; kind = k; seed = s; version = version }))
+format_by version slots height kind seed = slots >>= λ n. height >>= λ h. kind >>= λ k. seed >>=
+    λ s. Some (Format (record { slots = n; height = h; kind = k; seed = s; version = version }))
 
-asks_two : (slots height : Option ℕ) (kind : Option DrawKind) (seed : Option (List ℕ)) → format_by Two slots height kind seed ≡ option_map upgraded_request (format_by One slots height kind seed)
+asks_two : (slots height : Option ℕ) (kind : Option DrawKind) (seed : Option (List ℕ))
+    → format_by Two slots height kind seed ≡ option_map upgraded_request (format_by One slots height kind seed)
 asks_two None height kind seed = refl
 asks_two (Some n) None kind seed = refl
 asks_two (Some n) (Some h) None seed = refl
@@ -59,23 +65,29 @@ asks_two (Some n) (Some h) (Some k) None = refl
 asks_two (Some n) (Some h) (Some k) (Some s) = refl
 
 -- with the same arguments `format2` asks for what `format` does, with version 2
-format2_asks : (arguments : List (List ℕ)) → request_of (codes "format2" ∷ arguments) ≡ option_map upgraded_request (request_of (codes "format" ∷ arguments))
+format2_asks : (arguments : List (List ℕ)) → request_of (codes "format2" ∷ arguments)
+    ≡ option_map upgraded_request (request_of (codes "format" ∷ arguments))
 unfolding request_of version_of_word
 format2_asks [] = refl
 format2_asks (a ∷ []) = refl
 format2_asks (a ∷ b ∷ []) = refl
 format2_asks (a ∷ b ∷ c ∷ []) = refl
-format2_asks (a ∷ b ∷ c ∷ d ∷ []) = asks_two (number_in 1 slots_limit a) (number_in 1 height_limit b) (kind_of_word c) (seed_of_word d)
+format2_asks (a ∷ b ∷ c ∷ d ∷ []) = asks_two (number_in 1 slots_limit a) (number_in 1 height_limit b)
+    (kind_of_word c) (seed_of_word d)
 format2_asks (a ∷ b ∷ c ∷ d ∷ e ∷ rest) = refl
 
-pub asks_for_two : (format format2 : List (List ℕ)) (p : Parameters) → HaveSameArguments format format2 → request_of format ≡ Some (Format p) → request_of format2 ≡ Some (Format (with_version p Two))
+pub asks_for_two : (format format2 : List (List ℕ)) (p : Parameters) → HaveSameArguments format format2
+    → request_of format ≡ Some (Format p) → request_of format2 ≡ Some (Format (with_version p Two))
 asks_for_two format format2 p same asked =
-    ap request_of same.format2_is ∙ format2_asks same.arguments ∙ ap (option_map upgraded_request) (ap request_of (sym same.format_is) ∙ asked)
+    ap request_of same.format2_is ∙ format2_asks same.arguments
+    ∙ ap (option_map upgraded_request) (ap request_of (sym same.format_is) ∙ asked)
 
 -- ---- trees
 
 -- a step that is not `full` leads to the next tree, whatever the parameters
-goes_on : (b : Bool) (need slots : ℕ) (t : Tree) (to : Step) → IsNotFull (cond b (record { reply = Refused (refusals.Full need slots); tree = t }) to).reply → (cond b (record { reply = Refused (refusals.Full need slots); tree = t }) to).tree ≡ to.tree
+goes_on : (b : Bool) (need slots : ℕ) (t : Tree) (to : Step)
+    → IsNotFull (cond b (record { reply = Refused (refusals.Full need slots); tree = t }) to).reply
+    → (cond b (record { reply = Refused (refusals.Full need slots); tree = t }) to).tree ≡ to.tree
 goes_on true need slots t to never = absurd (never need slots refl)
 goes_on false need slots t to never = refl
 
@@ -90,18 +102,24 @@ served t c p serves = by_test (lacks_version c p) refl
     by_test true lacks = absurd (serves (ap (λ (s : Step). s.reply) (step_of_version t c p lacks)))
     by_test false has = refl
 
-same_step : (t : Tree) (c : Command) (p : Parameters) → IsServed (step t c p).reply → IsNotFull (step t c p).reply → IsNotFull (step t c (with_version p Two)).reply → (step t c p).tree ≡ (step t c (with_version p Two)).tree
+same_step : (t : Tree) (c : Command) (p : Parameters) → IsServed (step t c p).reply → IsNotFull (step t c p).reply
+    → IsNotFull (step t c (with_version p Two)).reply → (step t c p).tree ≡ (step t c (with_version p Two)).tree
 same_step t c p serves one other =
     let first = step_by_refusal t c p (served t c p serves) in
     let second = step_by_refusal t c (with_version p Two) (two_serves c p) in
     ap (λ (s : Step). s.tree) first
-    ∙ by (refusal_of t c) (subst (λ (s : Step). IsNotFull s.reply) first one) (subst (λ (s : Step). IsNotFull s.reply) second other)
+    ∙ by (refusal_of t c) (subst (λ (s : Step). IsNotFull s.reply) first one)
+    (subst (λ (s : Step). IsNotFull s.reply) second other)
     ∙ sym (ap (λ (s : Step). s.tree) second)
   where
-    leads : (r : Parameters) → IsNotFull (step_to t c r (next_tree t c)).reply → (step_to t c r (next_tree t c)).tree ≡ next_tree t c
-    leads r = goes_on (may_fill c && nat_lt r.slots (page_count (next_tree t c) r)) (page_count (next_tree t c) r) r.slots t (record { reply = reply_of t c r; tree = next_tree t c })
+    leads : (r : Parameters) → IsNotFull (step_to t c r (next_tree t c)).reply
+        → (step_to t c r (next_tree t c)).tree ≡ next_tree t c
+    leads r = goes_on (may_fill c && nat_lt r.slots (page_count (next_tree t c) r))
+        (page_count (next_tree t c) r) r.slots t (record { reply = reply_of t c r; tree = next_tree t c })
 
-    by : (refusal : Option Refusal) → IsNotFull (step_by t c p refusal).reply → IsNotFull (step_by t c (with_version p Two) refusal).reply → (step_by t c p refusal).tree ≡ (step_by t c (with_version p Two) refusal).tree
+    by : (refusal : Option Refusal) → IsNotFull (step_by t c p refusal).reply
+        → IsNotFull (step_by t c (with_version p Two) refusal).reply
+        → (step_by t c p refusal).tree ≡ (step_by t c (with_version p Two) refusal).tree
     by (Some refusal) one other = refl
     by None one other = leads p one ∙ sym (leads (with_version p Two) other)
 
@@ -109,33 +127,46 @@ same_step t c p serves one other =
 abbrev by_length : Tree → Bool → Result Command Refusal → Parameters → Step
 by_length t long parsed p = cond long (record { reply = Refused refusals.Long; tree = t }) (answer_by t parsed p)
 
-same_answer : (t : Tree) (text : List ℕ) (p : Parameters) → IsServed (answer t text p).reply → IsNotFull (answer t text p).reply → IsNotFull (answer t text (with_version p Two)).reply → (answer t text p).tree ≡ (answer t text (with_version p Two)).tree
+same_answer : (t : Tree) (text : List ℕ) (p : Parameters) → IsServed (answer t text p).reply
+    → IsNotFull (answer t text p).reply → IsNotFull (answer t text (with_version p Two)).reply
+    → (answer t text p).tree ≡ (answer t text (with_version p Two)).tree
 unfolding answer
 same_answer t text p = by (nat_lt line_limit (length text)) (parse text)
   where
-    by : (b : Bool) (parsed : Result Command Refusal) → IsServed (by_length t b parsed p).reply → IsNotFull (by_length t b parsed p).reply → IsNotFull (by_length t b parsed (with_version p Two)).reply → (by_length t b parsed p).tree ≡ (by_length t b parsed (with_version p Two)).tree
+    by : (b : Bool) (parsed : Result Command Refusal) → IsServed (by_length t b parsed p).reply
+        → IsNotFull (by_length t b parsed p).reply → IsNotFull (by_length t b parsed (with_version p Two)).reply
+        → (by_length t b parsed p).tree ≡ (by_length t b parsed (with_version p Two)).tree
     by true parsed serves one other = refl
     by false (Err refusal) serves one other = refl
     by false (Ok c) serves one other = same_step t c p serves one other
 
 -- lines that version 1 serves, and of which none is answered `full`, leave the same tree under version 2
-same_trees : (t : Tree) (texts : List (List ℕ)) (p : Parameters) → AllByRecursion IsServed (replies t texts p) → AllByRecursion IsNotFull (replies t texts p) → AllByRecursion IsNotFull (replies t texts (with_version p Two)) → tree_after t texts p ≡ tree_after t texts (with_version p Two)
+same_trees : (t : Tree) (texts : List (List ℕ)) (p : Parameters) → AllByRecursion IsServed (replies t texts p)
+    → AllByRecursion IsNotFull (replies t texts p) → AllByRecursion IsNotFull (replies t texts (with_version p Two))
+    → tree_after t texts p ≡ tree_after t texts (with_version p Two)
 unfolding replies replies_by answers_by tree_after tree_by state_by
 same_trees t [] p serves one other = refl
 same_trees t (text ∷ texts) p serves one other =
     let q = with_version p Two in
     let same : (answer t text p).tree ≡ (answer t text q).tree = same_answer t text p serves.0 one.0 other.0 in
-    same_trees (answer t text p).tree texts p serves.1 one.1 (subst (λ (u : Tree). AllByRecursion IsNotFull (replies u texts q)) (sym same) other.1) ∙ ap (λ (u : Tree). tree_after u texts q) same
+    same_trees (answer t text p).tree texts p
+    serves.1 one.1 (subst (λ (u : Tree). AllByRecursion IsNotFull (replies u texts q)) (sym same) other.1)
+    ∙ ap (λ (u : Tree). tree_after u texts q) same
 
 -- ---- images
 
 -- an upgrade that ended with 0 leaves the image of the tree, of version 2
-pub upgraded : (t : Tree) (p : Parameters) (disk : Disk) (source : SourceMemory) (sink : SinkMemory) (after : Ended) → IsUpgrade meaning (outside_of disk source sink) after
+pub upgraded : (t : Tree) (p : Parameters) (disk : Disk) (source : SourceMemory) (sink : SinkMemory) (after : Ended)
+    → IsUpgrade meaning (outside_of disk source sink) after
     → IsFitting t p → HasImage disk t p → after.status ≡ statuses.Done → HasImage after.disk t (with_version p Two)
-upgraded t p disk source sink after upgrade is image e = image_of after.disk t (with_version p Two) (((upgrade.observed refl).upgrades t p (represented disk t p is image)).upgraded e)
+upgraded t p disk source sink after upgrade is image e =
+    image_of after.disk t (with_version p Two)
+    (((upgrade.observed refl).upgrades t p (represented disk t p is image)).upgraded e)
 
 -- one that did not was stopped by its disk, or by want of memory
-upgrade_cut : (status : Status) → IsStatusOf words.Upgrade status → (status ≡ statuses.NotImage → ⊥) → (status ≡ statuses.Damaged → ⊥) → (status ≡ statuses.Done → ⊥) → (status ≡ statuses.DiskFault) ⊎ (status ≡ statuses.NoMemory)
+upgrade_cut : (status : Status) → IsStatusOf words.Upgrade status → (status ≡ statuses.NotImage → ⊥)
+    → (status ≡ statuses.Damaged → ⊥) → (status ≡ statuses.Done → ⊥)
+    → (status ≡ statuses.DiskFault) ⊎ (status ≡ statuses.NoMemory)
 upgrade_cut statuses.Done ends image whole other = absurd (other refl)
 upgrade_cut statuses.Usage ends image whole other = absurd (false≢true ends)
 upgrade_cut statuses.SourceFault ends image whole other = absurd (false≢true ends)
@@ -152,15 +183,20 @@ upgrade_cut statuses.NotEmpty ends image whole other = absurd (false≢true ends
 upgrade_cut statuses.BadListing ends image whole other = absurd (false≢true ends)
 upgrade_cut statuses.TooFull ends image whole other = absurd (false≢true ends)
 
-pub upgrade_stops : (t : Tree) (p : Parameters) (disk : Disk) (source : SourceMemory) (sink : SinkMemory) (after : Ended) → IsUpgrade meaning (outside_of disk source sink) after
-    → KeepsOutside after.status (meaning disk) (meaning after.disk) (source_state source) (source_state after.source) (sink_state sink) (sink_state after.sink)
+pub upgrade_stops : (t : Tree) (p : Parameters) (disk : Disk) (source : SourceMemory) (sink : SinkMemory)
+    (after : Ended) → IsUpgrade meaning (outside_of disk source sink) after
+    → KeepsOutside after.status (meaning disk) (meaning after.disk) (source_state source) (source_state after.source)
+    (sink_state sink) (sink_state after.sink)
     → IsFitting t p → HasImage disk t p → (after.status ≡ statuses.Done → ⊥) → StopsUpgrade disk after
 upgrade_stops t p disk source sink after upgrade outside is image other =
     let on_disk = upgrade.observed refl in
     let represents = represented disk t p is image in
     record {
-      ends = upgrade_cut after.status upgrade.ends (λ e. on_disk.not_image.only e refl p (record { names = represents.names; length_is = represents.length_is })) (λ e. (on_disk.damaged.only e).no_tree refl t p represents) other;
-      disk_fault = λ e. subst (λ (s : Status). (meaning after.disk).faults ≡ disk_faults_by s (meaning disk).faults) e outside.disk_faults;
+      ends = upgrade_cut after.status upgrade.ends
+          (λ e. on_disk.not_image.only e refl p (record { names = represents.names; length_is = represents.length_is }))
+          (λ e. (on_disk.damaged.only e).no_tree refl t p represents) other;
+      disk_fault = λ e. subst (λ (s : Status). (meaning after.disk).faults ≡ disk_faults_by s (meaning disk).faults) e
+          outside.disk_faults;
     }
 
 -- there was no memory for the word `upgrade`
@@ -168,19 +204,25 @@ pub unupgraded_stops : (disk : Disk) (ended : Ended) → ended.status ≡ status
 unupgraded_stops disk ended is = record { ends = inr is; disk_fault = λ e. absurd (cc) }
 
 -- the lines of scripts are those of their bytes
-lines_of : (scripts : List SourceMemory) → flat_map (λ (script : SourceMemory). lines script.left) scripts ≡ flat_map lines (map (λ (script : SourceMemory). script.left) scripts)
+lines_of : (scripts : List SourceMemory) → flat_map (λ (script : SourceMemory). lines script.left) scripts
+    ≡ flat_map lines (map (λ (script : SourceMemory). script.left) scripts)
 lines_of [] = refl
 lines_of (script ∷ scripts) = ap (λ (rest : List (List ℕ)). lines script.left ++ rest) (lines_of scripts)
 
-pub upgraded_as_made : (scripts others : List SourceMemory) (p : Parameters) (one two : Disk) → AreSameScripts scripts others → HasImage one (made_tree scripts p) (with_version p Two) → HasImage two (made_tree others (with_version p Two)) (with_version p Two)
+pub upgraded_as_made : (scripts others : List SourceMemory) (p : Parameters) (one two : Disk)
+    → AreSameScripts scripts others → HasImage one (made_tree scripts p) (with_version p Two)
+    → HasImage two (made_tree others (with_version p Two)) (with_version p Two)
     → IsUpgradedAsMade scripts p one two
 upgraded_as_made scripts others p one two same image_one image_two =
     let q = with_version p Two in
     let texts = flat_map (λ (script : SourceMemory). lines script.left) scripts in
-    let lines_are : flat_map (λ (script : SourceMemory). lines script.left) others ≡ texts = lines_of others ∙ ap (flat_map lines) same ∙ sym (lines_of scripts) in
-    let made : HasImage two (made_tree scripts q) q = subst (λ (ts : List (List ℕ)). HasImage two (tree_after empty_tree ts q) q) lines_are image_two in
+    let lines_are : flat_map (λ (script : SourceMemory). lines script.left) others ≡ texts =
+    lines_of others ∙ ap (flat_map lines) same ∙ sym (lines_of scripts) in
+    let made : HasImage two (made_tree scripts q) q =
+    subst (λ (ts : List (List ℕ)). HasImage two (tree_after empty_tree ts q) q) lines_are image_two in
     record {
       upgraded_image = image_one;
       made_image = made;
-      same = λ serves never_one never_two. image_one.bytes ∙ ap (λ (t : Tree). layout t q) (same_trees empty_tree texts p serves never_one never_two) ∙ sym made.bytes;
+      same = λ serves never_one never_two. image_one.bytes
+          ∙ ap (λ (t : Tree). layout t q) (same_trees empty_tree texts p serves never_one never_two) ∙ sym made.bytes;
     }

@@ -10,7 +10,8 @@ use Rattle.image_subcommands.specs.declared.status.Status.TheVariants as statuse
 use Rattle.store_core.specs.Groups.{step_under}
 use Rattle.store_top.specs.Generations.{first_commands}
 use Rattle.script_claims.specs.BigRuns.{summary_of}
-use Rattle.script_claims.specs.Machines.{Disk, Ended, HasImage, MightHaveLeft, NothingFailed, RepresentsSomeTree, bytes_of, meaning}
+use Rattle.script_claims.specs.Machines.{Disk, Ended, HasImage, MightHaveLeft, NothingFailed, RepresentsSomeTree}
+use Rattle.script_claims.specs.Machines.{bytes_of, meaning}
 use Rattle.script_claims.specs.Refusals.{IsAtRest, IsUntouched}
 
 -- the tree after so many of the commands of a number
@@ -33,25 +34,33 @@ pub record WroteFront (text before after : List ℕ) : Type 0 where
   pub written_is : after ≡ before ++ part
 
 -- `big` over an image of the tree t, of which `done` commands were carried out.
-pub record KeepsCommands (number count : ℕ) (t : Tree) (p : Parameters) (disk : Disk) (source : SourceMemory) (sink : SinkMemory) (after : Ended) : Type 0 where
+pub record KeepsCommands (number count : ℕ) (t : Tree) (p : Parameters) (disk : Disk) (source : SourceMemory)
+    (sink : SinkMemory) (after : Ended) : Type 0 where
   -- it ends in no other way
   pub ends : IsSummedUp after.status ⊎ IsBrokenOff after.status
   -- with 0 and 4 all commands were carried out, the image is that of the tree behind them, and a crash leaves just that
   pub all_done : IsSummedUp after.status → after.done ≡ count
   pub image : IsSummedUp after.status → HasImage after.disk (commanded_tree t number count p after.done) p
   pub done_limit : after.done ≤ count
-  -- with 5 the bytes are an image of the tree after those that were carried out, or of the one after the next; with 9 it is the image
-  -- of the tree after those, or the one before was not written to
-  pub disk_fault : after.status ≡ statuses.DiskFault → Represents (bytes_of after.disk) (commanded_tree t number count p after.done) p ⊎ Represents (bytes_of after.disk) (commanded_tree t number count p (after.done + 1)) p
-  pub no_memory : after.status ≡ statuses.NoMemory → HasImage after.disk (commanded_tree t number count p after.done) p ⊎ ((after.done ≡ 0) × Represents (bytes_of after.disk) t p)
+  -- with 5 the bytes are an image of the tree after those that were carried out, or of the one after the next; with 9
+  -- it is the image of the tree after those, or the one before was not written to
+  pub disk_fault : after.status ≡ statuses.DiskFault
+      → Represents (bytes_of after.disk) (commanded_tree t number count p after.done) p
+      ⊎ Represents (bytes_of after.disk) (commanded_tree t number count p (after.done + 1)) p
+  pub no_memory : after.status ≡ statuses.NoMemory → HasImage after.disk (commanded_tree t number count p after.done) p
+      ⊎ ((after.done ≡ 0) × Represents (bytes_of after.disk) t p)
   -- what a crash at some moment may leave, and at the return
-  pub any_moment : (image : List ℕ) → MightHaveLeft (meaning disk).clock after.disk image → RepresentsSomeTree (after.done + 1) (commanded_tree t number count p) p image
+  pub any_moment : (image : List ℕ) → MightHaveLeft (meaning disk).clock after.disk image
+      → RepresentsSomeTree (after.done + 1) (commanded_tree t number count p) p image
   -- nothing is taken; with 4 a front of the summary is printed, and with 5 and 9 nothing
   pub nothing_taken : after.source ≡ source
   pub in_part : after.status ≡ statuses.SinkFault
-      → WroteFront (summary_of (replies_by (step_under p) t (first_commands number count)) (commanded_tree t number count p count) p (bytes_of after.disk)) sink.written after.sink.written
+      → WroteFront (summary_of (replies_by (step_under p) t (first_commands number count))
+      (commanded_tree t number count p count) p (bytes_of after.disk)) sink.written after.sink.written
   pub nothing_put : IsBrokenOff after.status → after.sink ≡ sink
   -- it is done where no call failed and memory was there
-  pub complete : NothingFailed disk source sink after → (after.status ≡ statuses.Done) ⊎ (after.status ≡ statuses.NoMemory)
+  pub complete : NothingFailed disk source sink after
+      → (after.status ≡ statuses.Done) ⊎ (after.status ≡ statuses.NoMemory)
   -- commands that change nothing write nothing, unless the disk fails
-  pub untouched : IsAtRest (bytes_of disk) t p → ((k : ℕ) → k ≤ after.done → commanded_tree t number count p k ≡ t) → (after.status ≡ statuses.DiskFault → ⊥) → IsUntouched disk after.disk
+  pub untouched : IsAtRest (bytes_of disk) t p → ((k : ℕ) → k ≤ after.done → commanded_tree t number count p k ≡ t)
+      → (after.status ≡ statuses.DiskFault → ⊥) → IsUntouched disk after.disk

@@ -27,9 +27,12 @@ pub record DoesNothing (disk : Disk) (source : SourceMemory) (sink : SinkMemory)
   pub nothing_written : IsOnlySynced (meaning disk) (meaning after.disk)
   -- what a crash at some moment of the call may leave, one before it might have left
   pub crash : (image : List ℕ) → MightHaveLeft (meaning disk).clock after.disk image → MayLeave disk image
-  -- it ends with 7 where no header names parameters of that length, and with 8 where one does, or before that with 5 or 9
-  pub no_image : ((p : Parameters) → IsImageWith (bytes_of disk) p → ⊥) → (after.status ≡ statuses.NotImage) ⊎ ComesFirst after.status
-  pub damaged : (p : Parameters) → IsImageWith (bytes_of disk) p → (after.status ≡ statuses.Damaged) ⊎ ComesFirst after.status
+  -- it ends with 7 where no header names parameters of that length, and with 8 where one does, or before that with 5
+  -- or 9
+  pub no_image : ((p : Parameters) → IsImageWith (bytes_of disk) p → ⊥)
+      → (after.status ≡ statuses.NotImage) ⊎ ComesFirst after.status
+  pub damaged : (p : Parameters) → IsImageWith (bytes_of disk) p
+      → (after.status ≡ statuses.Damaged) ⊎ ComesFirst after.status
   -- and in no other way, each only where this holds
   pub ends : (after.status ≡ statuses.NotImage) ⊎ ((after.status ≡ statuses.Damaged) ⊎ ComesFirst after.status)
   pub seven : after.status ≡ statuses.NotImage → (p : Parameters) → IsImageWith (bytes_of disk) p → ⊥

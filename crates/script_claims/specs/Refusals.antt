@@ -22,7 +22,8 @@ IsRefusal reply = (refusal : Refusal) × (reply ≡ Refused refusal)
 -- the lines, one after another, that are not refused
 abbrev pub without_refused : Tree → List (List ℕ) → Parameters → List (List ℕ)
 without_refused t [] p = []
-without_refused t (text ∷ texts) p = if is_refused (answer t text p).reply then without_refused t texts p else text ∷ without_refused (answer t text p).tree texts p
+without_refused t (text ∷ texts) p = if is_refused (answer t text p).reply then without_refused t texts p else text
+    ∷ without_refused (answer t text p).tree texts p
 
 -- the bytes are, each of them, those of the image of the tree: there is nothing to be recovered
 pub record IsAtRest (bytes : List ℕ) (t : Tree) (p : Parameters) : Type 0 where
@@ -47,10 +48,14 @@ pub record NeedsMoreSlots (command : Command) (t : Tree) (p : Parameters) : Type
   pub not_refused : refusal_of t command ≡ None
   pub exceeds : p.slots < page_count (next_tree t command) p
 
--- A run of one command that ended with 0: `full` was its reply exactly where the pages of the new tree exceed the slots.
-pub record AnswersFull (command : Command) (t : Tree) (p : Parameters) (sink : SinkMemory) (after : Ended) : Type 0 where
+-- A run of one command that ended with 0: `full` was its reply exactly where the pages of the new tree exceed the
+-- slots.
+pub record AnswersFull (command : Command) (t : Tree) (p : Parameters) (sink : SinkMemory)
+    (after : Ended) : Type 0 where
   pub reply : Reply
   pub written_is : after.sink.written ≡ sink.written ++ reply_text reply
-  pub exact : (reply ≡ Refused (refusals.Full (page_count (next_tree t command) p) p.slots)) ↔ NeedsMoreSlots command t p
+  pub exact : (reply ≡ Refused (refusals.Full (page_count (next_tree t command) p) p.slots))
+      ↔ NeedsMoreSlots command t p
   -- no other numbers are printed with it
-  pub numbers : (need slots : ℕ) → reply ≡ Refused (refusals.Full need slots) → (need ≡ page_count (next_tree t command) p) × (slots ≡ p.slots)
+  pub numbers : (need slots : ℕ) → reply ≡ Refused (refusals.Full need slots)
+      → (need ≡ page_count (next_tree t command) p) × (slots ≡ p.slots)

@@ -9,7 +9,8 @@ use Rattle.store_model.specs.Grammar.{parse}
 use Rattle.store_model.specs.Scripts.{lines, line_limit, tree_after}
 use Rattle.model_laws.specs.Within.{stays_within}
 
--- Of two scripts the first leaves nothing at the path, and the second works at the path and below it alone, and prunes it at last.
+-- Of two scripts the first leaves nothing at the path, and the second works at the path and below it alone, and
+-- prunes it at last.
 pub record RemovesAt (at : Path) (t : Tree) (p : Parameters) (first second : List ℕ) : Type 0 where
   pub nothing_there : exists (tree_after t (lines first) p) at ≡ false
   pub texts : List (List ℕ)

@@ -28,7 +28,8 @@ module _ {D R W : Type 0} (disk_of : D → DiskState) (source_of : R → SourceS
     pub unserved : request_of words ≡ None → (after.status ≡ statuses.Usage) ⊎ (after.status ≡ statuses.NoMemory)
     pub uncalled : request_of words ≡ None → CallsNothing before after
     -- a second call can follow on this one, and each failed call is the status
-    pub outside : KeepsOutside after.status (disk_of before.disk) (disk_of after.disk) (source_of before.source) (source_of after.source) (sink_of before.sink) (sink_of after.sink)
+    pub outside : KeepsOutside after.status (disk_of before.disk) (disk_of after.disk) (source_of before.source)
+        (source_of after.source) (sink_of before.sink) (sink_of after.sink)
     -- what each subcommand does
     pub format : (p : Parameters) → request_of words ≡ Some (Format p) → IsFormat disk_of p before after
     pub run : request_of words ≡ Some Run → IsRun disk_of source_of sink_of before after
@@ -39,4 +40,5 @@ module _ {D R W : Type 0} (disk_of : D → DiskState) (source_of : R → SourceS
     pub upgrade : request_of words ≡ Some Upgrade → IsUpgrade disk_of before after
     pub dump : request_of words ≡ Some Dump → IsDump disk_of sink_of before after
     pub load : request_of words ≡ Some Load → IsLoad disk_of source_of sink_of before after
-    pub big : (number count : ℕ) → request_of words ≡ Some (Big number count) → IsBig disk_of sink_of number count before after
+    pub big : (number count : ℕ) → request_of words ≡ Some (Big number count)
+        → IsBig disk_of sink_of number count before after

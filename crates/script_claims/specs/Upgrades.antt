@@ -30,7 +30,8 @@ IsNotFull reply = (need slots : ℕ) → reply ≡ Refused (refusals.Full need s
 
 -- no line of the scripts is answered `full`, where they are run on the empty tree, one after another
 abbrev pub AreNeverFull : List SourceMemory → Parameters → Type 0
-AreNeverFull scripts p = AllByRecursion IsNotFull (replies empty_tree (flat_map (λ script. lines script.left) scripts) p)
+AreNeverFull scripts p = AllByRecursion IsNotFull
+    (replies empty_tree (flat_map (λ script. lines script.left) scripts) p)
 
 -- a reply other than `version`
 abbrev pub IsServed : Reply → Type 0
@@ -46,7 +47,8 @@ AreServed scripts p = AllByRecursion IsServed (replies empty_tree (flat_map (λ 
 pub record IsUpgradedAsMade (scripts : List SourceMemory) (p : Parameters) (upgraded made : Disk) : Type 0 where
   pub upgraded_image : HasImage upgraded (made_tree scripts p) (with_version p Two)
   pub made_image : HasImage made (made_tree scripts (with_version p Two)) (with_version p Two)
-  pub same : AreServed scripts p → AreNeverFull scripts p → AreNeverFull scripts (with_version p Two) → bytes_of upgraded ≡ bytes_of made
+  pub same : AreServed scripts p → AreNeverFull scripts p → AreNeverFull scripts (with_version p Two)
+      → bytes_of upgraded ≡ bytes_of made
 
 -- The image of a tree was not upgraded: a call of its disk failed, or memory ran out.
 pub record StopsUpgrade (disk : Disk) (ended : Ended) : Type 0 where

@@ -23,7 +23,8 @@ pub fn a_script_is_answered(
     source: MemSource,
     sink: MemSink,
 ) -> Result<Ended, NoMemory>
-    ensures { (t : Tree) (p : Parameters) → Represents (bytes_of disk) t p → IfOk result (AnswersScript t p disk source sink) }
+    ensures { (t : Tree) (p : Parameters) → Represents (bytes_of disk) t p
+        → IfOk result (AnswersScript t p disk source sink) }
 {
     let words = run_word(alloc)?;
     Ok(serve(alloc, &words, disk, source, sink))

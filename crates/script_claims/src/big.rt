@@ -30,9 +30,9 @@ pub struct TwoRuns {
     pub run: Ended,
 }
 
-/// Carries out these words, `big NUMBER COUNT`, on one machine, and the script of another, which asks for just the commands
-/// that the number gives. Where both end with 0 they leave the same image, and `big` prints how many replies of the run
-/// do not refuse, how many do, and what `space` and `digest` say of its image. The run answers its script.
+/// Carries out these words, `big NUMBER COUNT`, on one machine, and the script of another, which asks for just the
+/// commands that the number gives. Where both end with 0 they leave the same image, and `big` prints how many replies
+/// of the run do not refuse, how many do, and what `space` and `digest` say of its image. The run answers its script.
 ///
 /// `NoMemory`: there was none for the word `run`.
 pub fn big_is_a_run(
@@ -41,9 +41,12 @@ pub fn big_is_a_run(
     first: Machine,
     second: Machine,
 ) -> Result<TwoRuns, NoMemory>
-    ensures run { (t : Tree) (p : Parameters) → Represents (bytes_of second.disk) t p → IfOk result (λ both. AnswersScript t p second.disk second.source second.sink both.run) }
-    ensures same { (number count : ℕ) (t : Tree) (p : Parameters) → request_of words.now ≡ Some (Big number count)
-        → Represents (bytes_of first.disk) t p → Represents (bytes_of second.disk) t p → AskFor (lines second.source.left) (first_commands number count)
+    ensures run { (t : Tree) (p : Parameters) → Represents (bytes_of second.disk) t p
+        → IfOk result (λ both. AnswersScript t p second.disk second.source second.sink both.run) }
+    ensures same { (number count : ℕ) (t : Tree) (p : Parameters)
+        → request_of words.now ≡ Some (Big number count)
+        → Represents (bytes_of first.disk) t p → Represents (bytes_of second.disk) t p
+        → AskFor (lines second.source.left) (first_commands number count)
         → IfOk result (IsRunOfCommands t p second.source first.sink) }
 {
     let Machine { disk, source, sink } = first;
@@ -56,8 +59,10 @@ pub fn big_is_a_run(
 /// Carries out these words, `big NUMBER COUNT`, on an image. However it ends, the image is that of the tree after the
 /// commands that were carried out, as with a run of them; only the summary is printed, and nothing is taken.
 pub fn commands_of_big_stay(alloc: Global, words: &Words, machine: Machine) -> Ended
-    ensures { (number count : ℕ) (t : Tree) (p : Parameters) → request_of words.now ≡ Some (Big number count)
-        → MayLeaveOnly (meaning machine.disk) (λ image. Represents image t p) → KeepsCommands number count t p machine.disk machine.source machine.sink result }
+    ensures { (number count : ℕ) (t : Tree) (p : Parameters)
+        → request_of words.now ≡ Some (Big number count)
+        → MayLeaveOnly (meaning machine.disk) (λ image. Represents image t p)
+        → KeepsCommands number count t p machine.disk machine.source machine.sink result }
 {
     let Machine { disk, source, sink } = machine;
     serve(alloc, words, disk, source, sink)

@@ -19,8 +19,8 @@ use store_base::NoMemory;
 use store_top::Words;
 
 /// Runs a script on an image. It makes just the writes and syncs of opening the image, and for each line that changes
-/// d slots 5 d + 2 writes and 5 syncs; other lines make none. Where the disk fails it makes no more than with the line in
-/// progress.
+/// d slots 5 d + 2 writes and 5 syncs; other lines make none. Where the disk fails it makes no more than with the
+/// line in progress.
 ///
 /// `NoMemory`: nothing was called.
 pub fn a_run_costs_its_changes(
@@ -30,7 +30,9 @@ pub fn a_run_costs_its_changes(
     sink: MemSink,
 ) -> Result<Ended, NoMemory>
     ensures { (t : Tree) (p : Parameters) → Represents (bytes_of disk) t p
-        → IfOk result (λ after. CostsJust after.status after.done (λ k. tree_after t (take k (lines source.left)) p) p disk after.disk) }
+        → IfOk result
+        (λ after. CostsJust after.status after.done
+        (λ k. tree_after t (take k (lines source.left)) p) p disk after.disk) }
 {
     let words = run_word(alloc)?;
     Ok(serve(alloc, &words, disk, source, sink))
@@ -39,8 +41,10 @@ pub fn a_run_costs_its_changes(
 /// Carries out these words, `big NUMBER COUNT`, on an image. It makes just the writes and syncs of a run of its
 /// commands; the summary takes none.
 pub fn big_costs_its_changes(alloc: Global, words: &Words, machine: Machine) -> Ended
-    ensures { (number count : ℕ) (t : Tree) (p : Parameters) → request_of words.now ≡ Some (Big number count) → Represents (bytes_of machine.disk) t p
-        → CostsJust result.status result.done (generated_trees t number count p) p machine.disk result.disk }
+    ensures { (number count : ℕ) (t : Tree) (p : Parameters)
+        → request_of words.now ≡ Some (Big number count) → Represents (bytes_of machine.disk) t p
+        → CostsJust result.status result.done (generated_trees t number count p) p
+        machine.disk result.disk }
 {
     let Machine { disk, source, sink } = machine;
     serve(alloc, words, disk, source, sink)

@@ -30,11 +30,12 @@ pub struct Crash {
     pub next: Ended,
 }
 
-/// Runs a script on a disk that fails from its call `from` on, and then no line on an image that a crash may have left,
-/// whichever of these it is. Where the second run ends with 0 the image is, byte for byte, the one that is left without
-/// a crash by just the lines whose replies were written, or by one line more. Where the crash came at some moment before,
-/// what it left is an image of the tree after some of the lines, and the second run leaves the one of that tree. The second
-/// run ends with 0 unless a call of it fails or memory is short. The first keeps what it acknowledged, however it ends.
+/// Runs a script on a disk that fails from its call `from` on, and then no line on an image that a crash may have
+/// left, whichever of these it is. Where the second run ends with 0 the image is, byte for byte, the one that is left
+/// without a crash by just the lines whose replies were written, or by one line more. Where the crash came at some
+/// moment before, what it left is an image of the tree after some of the lines, and the second run leaves the one of
+/// that tree. The second run ends with 0 unless a call of it fails or memory is short. The first keeps what it
+/// acknowledged, however it ends.
 ///
 /// `NoMemory`: there was none for the second run's disk and sink, or for the word `run`.
 pub fn a_crash_loses_nothing(
@@ -45,10 +46,14 @@ pub fn a_crash_loses_nothing(
     sink: MemSink,
     left: &[u8],
 ) -> Result<Crash, NoMemory>
-    ensures first { (t : Tree) (p : Parameters) → MayLeaveOnly (memory_state disk) (λ image. Represents image t p) →
-        IfOk result (λ crash. KeepsAcknowledged (run_texts t source.left p) (run_trees t source.left p) t p source sink crash.first) }
-    ensures next { (t : Tree) (p : Parameters) → MayLeaveOnly (memory_state disk) (λ image. Represents image t p) →
-        IfOk result (LosesNothing (run_texts t source.left p) (run_trees t source.left p) p disk sink left.now) }
+    ensures first { (t : Tree) (p : Parameters)
+        → MayLeaveOnly (memory_state disk) (λ image. Represents image t p) →
+        IfOk result (λ crash. KeepsAcknowledged (run_texts t source.left p)
+        (run_trees t source.left p) t p source sink crash.first) }
+    ensures next { (t : Tree) (p : Parameters)
+        → MayLeaveOnly (memory_state disk) (λ image. Represents image t p) →
+        IfOk result (LosesNothing (run_texts t source.left p)
+        (run_trees t source.left p) p disk sink left.now) }
 {
     let words = run_word(alloc)?;
     let failing = FailingDisk::new(disk, Vec::new(alloc), Some(from));
@@ -61,7 +66,8 @@ pub fn a_crash_loses_nothing(
 ///
 /// `NoMemory`: there was none for the disk and the sink, or for the word `run`.
 pub fn run_behind(alloc: Global, image: &[u8]) -> Result<Ended, NoMemory>
-    ensures { (t : Tree) (p : Parameters) → Represents image.now t p → IfOk result (RunsBehind t p) }
+    ensures { (t : Tree) (p : Parameters) → Represents image.now t p
+        → IfOk result (RunsBehind t p) }
 {
     let disk = calm(alloc, MemDisk::new(alloc, image, ROOM)?);
     let sink = MemSink::new(alloc, 0, Vec::new(alloc))?;

@@ -51,10 +51,12 @@ pub(crate) fn done(ended: Ended) -> Result<Ended, Ended>
 
 /// Runs one script on an image. `Err` has a run that did not end with 0.
 fn run_whole(alloc: Global, disk: Disk, source: MemSource, sink: MemSink) -> Result<Ended, Ended>
-    ensures image { (t : Tree) (p : Parameters) → IsFitting t p → HasImage disk t p → IfOk result (λ after. HasImage after.disk (tree_after t (lines source.left) p) p) }
+    ensures image { (t : Tree) (p : Parameters) → IsFitting t p → HasImage disk t p
+        → IfOk result (λ after. HasImage after.disk (tree_after t (lines source.left) p) p) }
     ensures spares { IfOk result (SparesCounts disk sink) }
     ensures ended { IfErr result (λ ended. ended.status ≢ Status.Done) }
-    ensures stops { (t : Tree) (p : Parameters) → IsFitting t p → HasImage disk t p → IfErr result (StopsRuns disk (λ script. script ≡ source) sink) }
+    ensures stops { (t : Tree) (p : Parameters) → IsFitting t p → HasImage disk t p
+        → IfErr result (StopsRuns disk (λ script. script ≡ source) sink) }
 {
     match run_word(alloc) {
         Ok(words) => done(serve(alloc, &words, disk, source, sink)),
@@ -70,9 +72,11 @@ fn run_scripts(
     sink: MemSink,
 ) -> Result<Disk, Ended>
     ensures image { (t : Tree) (p : Parameters) → IsFitting t p → HasImage disk t p
-        → IfOk result (λ after. HasImage after (tree_after t (flat_map (λ source. lines source.left) scripts.items) p) p) }
+        → IfOk result (λ after. HasImage after
+        (tree_after t (flat_map (λ source. lines source.left) scripts.items) p) p) }
     ensures ended { IfErr result (λ ended. ended.status ≢ Status.Done) }
-    ensures stops { (t : Tree) (p : Parameters) → IsFitting t p → HasImage disk t p → IfErr result (StopsRuns disk (λ script. Contains scripts.items script) sink) }
+    ensures stops { (t : Tree) (p : Parameters) → IsFitting t p → HasImage disk t p
+        → IfErr result (StopsRuns disk (λ script. Contains scripts.items script) sink) }
 {
     let (mut disk, mut sink) = (disk, sink);
     for source in scripts {
@@ -86,12 +90,14 @@ fn run_scripts(
 /// Formats a disk by these words, and runs each script on it. The image is that of the tree that the lines of all
 /// scripts leave.
 ///
-/// `Err` has the first call that did not end with 0, and no call is made behind it: the format refused the disk, a call of
-/// the disk, the sink or a script failed, a script was too long, or memory ran out.
+/// `Err` has the first call that did not end with 0, and no call is made behind it: the format refused the disk, a
+/// call of the disk, the sink or a script failed, a script was too long, or memory ran out.
 pub fn make_image(alloc: Global, format: &Words, making: Making) -> Result<Disk, Ended>
-    ensures image { (p : Parameters) → request_of format.now ≡ Some (Format p) → IfOk result (λ disk. HasImage disk (made_tree making.scripts.items p) p) }
+    ensures image { (p : Parameters) → request_of format.now ≡ Some (Format p)
+        → IfOk result (λ disk. HasImage disk (made_tree making.scripts.items p) p) }
     ensures ended { IfErr result (λ ended. ended.status ≢ Status.Done) }
-    ensures stops { (p : Parameters) → request_of format.now ≡ Some (Format p) → IfErr result (StopsMaking p making.disk making.scripts.items making.sink) }
+    ensures stops { (p : Parameters) → request_of format.now ≡ Some (Format p)
+        → IfErr result (StopsMaking p making.disk making.scripts.items making.sink) }
 {
     let Making {
         disk,
@@ -112,10 +118,13 @@ pub fn equal_contents_have_equal_bytes(
     first: Making,
     second: Making,
 ) -> Result<Images, Ended>
-    ensures equal { (p : Parameters) → request_of format.now ≡ Some (Format p) → IfOk result (λ images. EqualContentsEqualBytes first.scripts.items second.scripts.items p images.first images.second) }
+    ensures equal { (p : Parameters) → request_of format.now ≡ Some (Format p)
+        → IfOk result (λ images. EqualContentsEqualBytes first.scripts.items second.scripts.items p
+        images.first images.second) }
     ensures ended { IfErr result (λ ended. ended.status ≢ Status.Done) }
     ensures stops { (p : Parameters) → request_of format.now ≡ Some (Format p)
-        → IfErr result (λ ended. StopsMaking p first.disk first.scripts.items first.sink ended ⊎ StopsMaking p second.disk second.scripts.items second.sink ended) }
+        → IfErr result (λ ended. StopsMaking p first.disk first.scripts.items first.sink ended
+        ⊎ StopsMaking p second.disk second.scripts.items second.sink ended) }
 {
     let first = make_image(alloc, format, first)?;
     let second = make_image(alloc, format, second)?;

@@ -13,8 +13,9 @@ use std::alloc::Global;
 use store_base::NoMemory;
 use store_top::Words;
 
-/// Runs a script on bytes that are the image of no tree. Nothing is taken, answered or written, and a crash leaves what it
-/// might have left before; the run ends with 7 or 8, by what the bytes are, unless the disk fails or memory is short.
+/// Runs a script on bytes that are the image of no tree. Nothing is taken, answered or written, and a crash leaves
+/// what it might have left before; the run ends with 7 or 8, by what the bytes are, unless the disk fails or memory
+/// is short.
 ///
 /// `NoMemory`: nothing was called.
 pub fn a_run_on_no_tree_does_nothing(
@@ -31,7 +32,8 @@ pub fn a_run_on_no_tree_does_nothing(
 
 /// Carries out these words, `big NUMBER COUNT`, on bytes that are the image of no tree. It does nothing, as a run.
 pub fn big_on_no_tree_does_nothing(alloc: Global, words: &Words, machine: Machine) -> Ended
-    ensures { (number count : ℕ) → request_of words.now ≡ Some (Big number count) → HasNoTree (bytes_of machine.disk)
+    ensures { (number count : ℕ) → request_of words.now ≡ Some (Big number count)
+        → HasNoTree (bytes_of machine.disk)
         → DoesNothing machine.disk machine.source machine.sink result }
 {
     let Machine { disk, source, sink } = machine;

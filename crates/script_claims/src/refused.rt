@@ -1,4 +1,5 @@
-//! A refused line changes nothing and leaves no trace, and `full` comes exactly where the new tree's pages exceed the slots.
+//! A refused line changes nothing and leaves no trace, and `full` comes exactly where the new tree's pages exceed the
+//! slots.
 
 ghost use Rattle.std.specs.Prelude.{◌≡◌, ◌≢◌, IfOk};
 ghost use Rattle.std.specs.List.{AllByRecursion};
@@ -8,7 +9,8 @@ ghost use Rattle.store_model.specs.Images.{Represents};
 ghost use Rattle.store_model.specs.Commands.{Command};
 ghost use Rattle.store_model.specs.Scripts.{lines, replies};
 ghost use Rattle.script_claims.specs.Answered.{AnswersScript};
-ghost use Rattle.script_claims.specs.Refusals.{IsRefusal, IsAtRest, IsUntouched, IsOneLine, AnswersFull, without_refused};
+ghost use Rattle.script_claims.specs.Refusals.{IsRefusal, IsAtRest, IsUntouched, IsOneLine, AnswersFull};
+ghost use Rattle.script_claims.specs.Refusals.{without_refused};
 ghost use Rattle.script_claims.specs.Machines.{bytes_of};
 
 use crate::answered::a_script_is_answered;
@@ -20,7 +22,8 @@ use store_base::NoMemory;
 use store_top::Status;
 
 /// Runs a script whose lines are all refused, on an image with nothing to be recovered. No byte of it is changed, and
-/// no write is made, unless a call of the disk fails. It is a run as another: where it ends with 0 each line was answered.
+/// no write is made, unless a call of the disk fails. It is a run as another: where it ends with 0 each line was
+/// answered.
 ///
 /// `NoMemory`: nothing was called.
 pub fn refused_lines_change_nothing(
@@ -29,9 +32,11 @@ pub fn refused_lines_change_nothing(
     source: MemSource,
     sink: MemSink,
 ) -> Result<Ended, NoMemory>
-    ensures untouched { (t : Tree) (p : Parameters) → IsAtRest (bytes_of disk) t p → AllByRecursion IsRefusal (replies t (lines source.left) p)
+    ensures untouched { (t : Tree) (p : Parameters) → IsAtRest (bytes_of disk) t p
+        → AllByRecursion IsRefusal (replies t (lines source.left) p)
         → IfOk result (λ after. after.status ≢ Status.DiskFault → IsUntouched disk after.disk) }
-    ensures answered { (t : Tree) (p : Parameters) → Represents (bytes_of disk) t p → IfOk result (AnswersScript t p disk source sink) }
+    ensures answered { (t : Tree) (p : Parameters) → Represents (bytes_of disk) t p
+        → IfOk result (AnswersScript t p disk source sink) }
 {
     let words = run_word(alloc)?;
     Ok(serve(alloc, &words, disk, source, sink))
@@ -47,7 +52,8 @@ pub fn full_is_exact(
     source: MemSource,
     sink: MemSink,
 ) -> Result<Ended, NoMemory>
-    ensures { (command : Command) (t : Tree) (p : Parameters) → Represents (bytes_of disk) t p → IsOneLine source.left command
+    ensures { (command : Command) (t : Tree) (p : Parameters) → Represents (bytes_of disk) t p
+        → IsOneLine source.left command
         → IfOk result (λ after. after.status ≡ Status.Done → AnswersFull command t p sink after) }
 {
     a_script_is_answered(alloc, disk, source, sink)
@@ -62,8 +68,8 @@ pub struct Shortened {
     pub short: Ended,
 }
 
-/// Runs a script on one machine, and on another one the lines of it that are not refused. Where both end with 0 they leave
-/// the same image, byte for byte, and each line of either was answered.
+/// Runs a script on one machine, and on another one the lines of it that are not refused. Where both end with 0 they
+/// leave the same image, byte for byte, and each line of either was answered.
 ///
 /// `NoMemory`: there was none for the word `run`.
 pub fn refused_lines_may_be_left_out(
@@ -71,11 +77,15 @@ pub fn refused_lines_may_be_left_out(
     first: Machine,
     second: Machine,
 ) -> Result<Shortened, NoMemory>
-    ensures whole { (t : Tree) (p : Parameters) → Represents (bytes_of first.disk) t p → IfOk result (λ runs. AnswersScript t p first.disk first.source first.sink runs.whole) }
-    ensures short { (t : Tree) (p : Parameters) → Represents (bytes_of second.disk) t p → IfOk result (λ runs. AnswersScript t p second.disk second.source second.sink runs.short) }
-    ensures same { (t : Tree) (p : Parameters) → Represents (bytes_of first.disk) t p → Represents (bytes_of second.disk) t p
+    ensures whole { (t : Tree) (p : Parameters) → Represents (bytes_of first.disk) t p
+        → IfOk result (λ runs. AnswersScript t p first.disk first.source first.sink runs.whole) }
+    ensures short { (t : Tree) (p : Parameters) → Represents (bytes_of second.disk) t p
+        → IfOk result (λ runs. AnswersScript t p second.disk second.source second.sink runs.short) }
+    ensures same { (t : Tree) (p : Parameters) → Represents (bytes_of first.disk) t p
+        → Represents (bytes_of second.disk) t p
         → lines second.source.left ≡ without_refused t (lines first.source.left) p
-        → IfOk result (λ runs. runs.whole.status ≡ Status.Done → runs.short.status ≡ Status.Done → bytes_of runs.short.disk ≡ bytes_of runs.whole.disk) }
+        → IfOk result (λ runs. runs.whole.status ≡ Status.Done → runs.short.status ≡ Status.Done
+        → bytes_of runs.short.disk ≡ bytes_of runs.whole.disk) }
 {
     let Machine { disk, source, sink } = first;
     let whole = a_script_is_answered(alloc, disk, source, sink)?;

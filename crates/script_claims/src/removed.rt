@@ -27,10 +27,10 @@ pub struct Removal {
     pub second: Ended,
 }
 
-/// Runs two scripts on a disk, one after the other. Where the first leaves nothing at a path, and the second works there
-/// and below it alone and prunes the path at last, the image behind the second is the one behind the first, byte for
-/// byte, if both end with 0. The first image is then that of the tree that the first script leaves, and each line of the
-/// second was carried out.
+/// Runs two scripts on a disk, one after the other. Where the first leaves nothing at a path, and the second works
+/// there and below it alone and prunes the path at last, the image behind the second is the one behind the first,
+/// byte for byte, if both end with 0. The first image is then that of the tree that the first script leaves, and each
+/// line of the second was carried out.
 ///
 /// `NoMemory`: there was none for the image's copy, or for the word `run`.
 pub fn what_was_removed_is_gone(
@@ -41,11 +41,15 @@ pub fn what_was_removed_is_gone(
     sink: MemSink,
 ) -> Result<Removal, NoMemory>
     ensures first { (t : Tree) (p : Parameters) → Represents (bytes_of disk) t p
-        → IfOk result (λ runs. runs.first ≡ Status.Done → runs.image.items ≡ layout (tree_after t (lines first.left) p) p) }
+        → IfOk result (λ runs. runs.first ≡ Status.Done
+        → runs.image.items ≡ layout (tree_after t (lines first.left) p) p) }
     ensures second { (t : Tree) (p : Parameters) → Represents (bytes_of disk) t p
-        → IfOk result (λ runs. runs.first ≡ Status.Done → runs.second.status ≡ Status.Done → runs.second.done ≡ length (lines second.left)) }
-    ensures gone { (at : Path) (t : Tree) (p : Parameters) → Represents (bytes_of disk) t p → RemovesAt at t p first.left second.left
-        → IfOk result (λ runs. runs.first ≡ Status.Done → runs.second.status ≡ Status.Done → bytes_of runs.second.disk ≡ runs.image.items) }
+        → IfOk result (λ runs. runs.first ≡ Status.Done → runs.second.status ≡ Status.Done
+        → runs.second.done ≡ length (lines second.left)) }
+    ensures gone { (at : Path) (t : Tree) (p : Parameters) → Represents (bytes_of disk) t p
+        → RemovesAt at t p first.left second.left
+        → IfOk result (λ runs. runs.first ≡ Status.Done → runs.second.status ≡ Status.Done
+        → bytes_of runs.second.disk ≡ runs.image.items) }
 {
     let before = a_script_is_answered(alloc, disk, first, sink)?;
     let memory = before.disk.into_disk();

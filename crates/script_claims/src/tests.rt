@@ -373,8 +373,8 @@ fn a_pruned_directory_leaves_the_image_as_it_was(rt: HostRuntime) {
     expect_end(&rt, alloc, second, &gone);
 }
 
-/// Looks whether a run of `make /b` that fails from this call on, and a run on this image that it leaves, come to what was
-/// acknowledged. Tells what the disk reads behind the first run, and whether it ended with 0.
+/// Looks whether a run of `make /b` that fails from this call on, and a run on this image that it leaves, come to
+/// what was acknowledged. Tells what the disk reads behind the first run, and whether it ended with 0.
 fn crash_at(rt: &impl Abort, alloc: Global, from: u64, left: &[u8]) -> (Vec<u8>, bool) {
     let disk = MemDisk::new(alloc, &image_of(rt, alloc, A), ROOM).expect(rt, "memory");
     let source = source_of(rt, alloc, "make /b\n");

@@ -9,7 +9,8 @@ ghost use Rattle.store_model.specs.Words.Request.{Format};
 ghost use Rattle.image_check.specs.Standing.{IsFitting};
 ghost use Rattle.script_claims.specs.Machines.{HasImage};
 ghost use Rattle.script_claims.specs.Makings.{StopsMaking};
-ghost use Rattle.script_claims.specs.Upgrades.{HaveSameArguments, AreSameScripts, IsUpgradedAsMade, StopsUpgrade, StopsUpgrading};
+ghost use Rattle.script_claims.specs.Upgrades.{HaveSameArguments, AreSameScripts, IsUpgradedAsMade, StopsUpgrade};
+ghost use Rattle.script_claims.specs.Upgrades.{StopsUpgrading};
 
 use crate::call::serve;
 use crate::equal::{Images, Making, done, make_image};
@@ -21,9 +22,11 @@ use store_top::{Outcome, Status, Words};
 
 /// Upgrades the image of a tree. `Err` has an upgrade that did not end with 0.
 fn upgrade_image(alloc: Global, disk: Disk, sink: MemSink) -> Result<Ended, Ended>
-    ensures image { (t : Tree) (p : Parameters) → IsFitting t p → HasImage disk t p → IfOk result (λ after. HasImage after.disk t (with_version p Two)) }
+    ensures image { (t : Tree) (p : Parameters) → IsFitting t p → HasImage disk t p
+        → IfOk result (λ after. HasImage after.disk t (with_version p Two)) }
     ensures ended { IfErr result (λ ended. ended.status ≢ Status.Done) }
-    ensures stops { (t : Tree) (p : Parameters) → IsFitting t p → HasImage disk t p → IfErr result (StopsUpgrade disk) }
+    ensures stops { (t : Tree) (p : Parameters) → IsFitting t p → HasImage disk t p
+        → IfErr result (StopsUpgrade disk) }
 {
     match upgrade_word(alloc) {
         Ok(words) => done(serve(alloc, &words, disk, no_script(alloc), sink)),
@@ -35,8 +38,8 @@ fn upgrade_image(alloc: Global, disk: Disk, sink: MemSink) -> Result<Ended, Ende
 /// and runs the same scripts on it. Where all calls ended with 0, no line was answered `full` on either, and none
 /// `version` on the first, the images are equal, byte for byte.
 ///
-/// `sink` is for the upgrade, which prints nothing. `Err` has the first call that did not end with 0, and no call is made
-/// behind it.
+/// `sink` is for the upgrade, which prints nothing. `Err` has the first call that did not end with 0, and no call is
+/// made behind it.
 pub fn an_upgraded_image_is_the_one_made_so(
     alloc: Global,
     format: &Words,
@@ -45,12 +48,18 @@ pub fn an_upgraded_image_is_the_one_made_so(
     second: Making,
     sink: MemSink,
 ) -> Result<Images, Ended>
-    ensures same { (p : Parameters) → request_of format.now ≡ Some (Format p) → HaveSameArguments format.now format2.now → AreSameScripts first.scripts.items second.scripts.items
-        → IfOk result (λ images. IsUpgradedAsMade first.scripts.items p images.first images.second) }
+    ensures same { (p : Parameters) → request_of format.now ≡ Some (Format p)
+        → HaveSameArguments format.now format2.now
+        → AreSameScripts first.scripts.items second.scripts.items
+        → IfOk result (λ images. IsUpgradedAsMade first.scripts.items p
+        images.first images.second) }
     ensures ended { IfErr result (λ ended. ended.status ≢ Status.Done) }
-    ensures stops { (p : Parameters) → request_of format.now ≡ Some (Format p) → HaveSameArguments format.now format2.now
+    ensures stops { (p : Parameters) → request_of format.now ≡ Some (Format p)
+        → HaveSameArguments format.now format2.now
         → IfErr result (λ ended. StopsMaking p first.disk first.scripts.items first.sink ended
-        ⊎ (StopsUpgrading first.scripts.items p ended ⊎ StopsMaking (with_version p Two) second.disk second.scripts.items second.sink ended)) }
+        ⊎ (StopsUpgrading first.scripts.items p ended
+        ⊎ StopsMaking (with_version p Two)
+        second.disk second.scripts.items second.sink ended)) }
 {
     let formatted = make_image(alloc, format, first)?;
     let upgraded = upgrade_image(alloc, formatted, sink)?;

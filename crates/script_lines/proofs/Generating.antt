@@ -1,5 +1,6 @@
 -- The paths of generated commands, each spelled by its text, and the steps of their states.
-use Rattle.std.proofs.Common.{◌≡◌, ℕ, zero, suc, ◌+◌, ◌<◌, List, [], ◌∷◌, ◌++◌, Bool, ◌&&◌, false, inl, inr, refl, sym, ap, subst, arith, Some, None, IsSome, Option, true}
+use Rattle.std.proofs.Common.{◌≡◌, ℕ, zero, suc, ◌+◌, ◌<◌, List, [], ◌∷◌, ◌++◌, Bool, ◌&&◌, false, inl, inr, refl, sym}
+use Rattle.std.proofs.Common.{ap, subst, arith, Some, None, IsSome, Option, true}
 use Rattle.std.specs.Fmt.{digits}
 use Rattle.std.proofs.lemmas.Bool.{cases_lt}
 use Rattle.store_model.specs.Paths.{Path, same_path}
@@ -39,22 +40,29 @@ file_text directory file = directory_text directory ++ 47 ∷ 102 ∷ (48 + file
 abbrev pub long_file_text : ℕ → ℕ → List ℕ
 long_file_text directory file = directory_text directory ++ 47 ∷ 102 ∷ 49 ∷ (48 + file) ∷ []
 
-pub path_of-directory_text : (directory : ℕ) → directory < 8 → path_of (directory_text directory) ≡ Some (directory_path directory)
+pub path_of-directory_text : (directory : ℕ) → directory < 8
+    → path_of (directory_text directory) ≡ Some (directory_path directory)
 unfolding path_of digits
 path_of-directory_text directory below =
-    read_as _ _ (from_all_below (λ n. is_read_as (path_of (directory_text n)) (directory_path n)) 8 refl directory below)
+    read_as _ _ (from_all_below (λ n. is_read_as (path_of (directory_text n)) (directory_path n))
+    8 refl directory below)
 
-pub path_of-file_text : (directory file : ℕ) → directory < 8 → file < 10 → path_of (file_text directory file) ≡ Some (file_path directory file)
+pub path_of-file_text : (directory file : ℕ) → directory < 8 → file < 10
+    → path_of (file_text directory file) ≡ Some (file_path directory file)
 unfolding path_of digits
 path_of-file_text directory file d f =
     read_as _ _ (from_all_below (λ m. is_read_as (path_of (file_text directory m)) (file_path directory m)) 10
-    (from_all_below (λ n. all_below 10 (λ m. is_read_as (path_of (file_text n m)) (file_path n m))) 8 refl directory d) file f)
+    (from_all_below (λ n. all_below 10 (λ m. is_read_as (path_of (file_text n m)) (file_path n m))) 8 refl directory d)
+    file f)
 
-pub path_of-long_file_text : (directory file : ℕ) → directory < 8 → file < 6 → path_of (long_file_text directory file) ≡ Some (file_path directory (10 + file))
+pub path_of-long_file_text : (directory file : ℕ) → directory < 8 → file < 6
+    → path_of (long_file_text directory file) ≡ Some (file_path directory (10 + file))
 unfolding path_of digits
 path_of-long_file_text directory file d f =
-    read_as _ _ (from_all_below (λ m. is_read_as (path_of (long_file_text directory m)) (file_path directory (10 + m))) 6
-    (from_all_below (λ n. all_below 6 (λ m. is_read_as (path_of (long_file_text n m)) (file_path n (10 + m)))) 8 refl directory d) file f)
+    read_as _ _ (from_all_below (λ m. is_read_as (path_of (long_file_text directory m)) (file_path directory (10 + m)))
+    6
+    (from_all_below (λ n. all_below 6 (λ m. is_read_as (path_of (long_file_text n m)) (file_path n (10 + m)))) 8
+    refl directory d) file f)
 
 -- a text spells one path
 pub spells_one : (text : Option Path) (p q : Path) → text ≡ Some p → text ≡ Some q → p ≡ q

@@ -7,7 +7,8 @@ use Rattle.std.proofs.lemmas.Bool.{eqb-true, eq-eqb}
 use Rattle.store_model.specs.declared.refusal.Refusal.{Refusal}
 use Rattle.store_model.specs.declared.refusal.Refusal.TheVariants as refusals
 use Rattle.store_model.specs.Commands.{Reply, Child, AttributeSize}
-use Rattle.store_model.specs.Commands.Reply.{Acknowledged, Content, Listing, AttributeListing, PagesUsed, ImageDigest, Refused}
+use Rattle.store_model.specs.Commands.Reply.{Acknowledged, Content, Listing, AttributeListing, PagesUsed, ImageDigest}
+use Rattle.store_model.specs.Commands.Reply.{Refused}
 use Rattle.script_lines.specs.Sessions.{refusal_code, same_refusal, same_child, same_attribute, same_reply}
 
 -- ---- two tests
@@ -16,14 +17,17 @@ both : (a b : Bool) → (a && b) ≡ true → (a ≡ true) × (b ≡ true)
 both true b e = (refl, e)
 both false b e = cc
 
-Decides-pair : {A B : Type 0} {E : A → A → Bool} {F : B → B → Bool} → ((a b : A) → Decides (E a b) (a ≡ b)) → ((a b : B) → Decides (F a b) (a ≡ b))
+Decides-pair : {A B : Type 0} {E : A → A → Bool} {F : B → B → Bool} → ((a b : A) → Decides (E a b) (a ≡ b))
+    → ((a b : B) → Decides (F a b) (a ≡ b))
     → (x y : A × B) → Decides (E x.0 y.0 && F x.1 y.1) (x ≡ y)
 Decides-pair {A} {B} {E} {F} first second x y = (
   λ e.
       let parts = both (E x.0 y.0) (F x.1 y.1) e in
-      ap (λ (a : A). let pair : A × B = (a, x.1) in pair) ((first x.0 y.0).0 parts.0) ∙ ap (λ (b : B). let pair : A × B = (y.0, b) in pair) ((second x.1 y.1).0 parts.1),
+      ap (λ (a : A). let pair : A × B = (a, x.1) in pair) ((first x.0 y.0).0 parts.0)
+      ∙ ap (λ (b : B). let pair : A × B = (y.0, b) in pair) ((second x.1 y.1).0 parts.1),
   λ same.
-      ap (λ a. a && F x.1 y.1) ((first x.0 y.0).1 (ap (λ (p : A × B). p.0) same)) ∙ (second x.1 y.1).1 (ap (λ (p : A × B). p.1) same),
+      ap (λ a. a && F x.1 y.1) ((first x.0 y.0).1 (ap (λ (p : A × B). p.0) same))
+      ∙ (second x.1 y.1).1 (ap (λ (p : A × B). p.1) same),
 )
 
 Decides-number : (a b : ℕ) → Decides (nat_eq a b) (a ≡ b)
@@ -75,7 +79,8 @@ unfolding same_reply
 same_reply-true Acknowledged Acknowledged e = refl
 same_reply-true (Content one) (Content other) e = ap Content ((bytes_eq-Decides one other).0 e)
 same_reply-true (Listing one) (Listing other) e = ap Listing ((slice_eq-Decides Decides-child one other _ refl).0 e)
-same_reply-true (AttributeListing one) (AttributeListing other) e = ap AttributeListing ((slice_eq-Decides Decides-attribute one other _ refl).0 e)
+same_reply-true (AttributeListing one) (AttributeListing other) e =
+    ap AttributeListing ((slice_eq-Decides Decides-attribute one other _ refl).0 e)
 same_reply-true (PagesUsed used slots) (PagesUsed other_used other_slots) e =
     let parts = both (nat_eq used other_used) (nat_eq slots other_slots) e in
     let same_used : used ≡ other_used = eqb-true used other_used parts.0 in
@@ -92,6 +97,7 @@ same_reply-refl Acknowledged = refl
 same_reply-refl (Content bytes) = (bytes_eq-Decides bytes bytes).1 refl
 same_reply-refl (Listing children) = (slice_eq-Decides Decides-child children children _ refl).1 refl
 same_reply-refl (AttributeListing attributes) = (slice_eq-Decides Decides-attribute attributes attributes _ refl).1 refl
-same_reply-refl (PagesUsed used slots) = ap (λ b. b && nat_eq slots slots) (eq-eqb used used refl) ∙ eq-eqb slots slots refl
+same_reply-refl (PagesUsed used slots) = ap (λ b. b && nat_eq slots slots) (eq-eqb used used refl)
+    ∙ eq-eqb slots slots refl
 same_reply-refl (ImageDigest digest) = (bytes_eq-Decides digest digest).1 refl
 same_reply-refl (Refused refusal) = (Decides-refusal refusal refusal).1 refl

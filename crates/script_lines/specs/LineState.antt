@@ -1,5 +1,6 @@
 -- What a reader of lines means at one moment, and what it has answered from one moment to a later one.
-use Rattle.std.specs.Prelude.{◌≡◌, ◌↔◌, IsOk, IfOk, ℕ, ◌+◌, ◌-◌, ◌<◌, ◌≤◌, Bool, true, false, IsTrue, List, [], ◌∷◌, ◌++◌, length, take, drop, Result, Ok, Err}
+use Rattle.std.specs.Prelude.{◌≡◌, ◌↔◌, IsOk, IfOk, ℕ, ◌+◌, ◌-◌, ◌<◌, ◌≤◌, Bool, true, false, IsTrue, List, [], ◌∷◌}
+use Rattle.std.specs.Prelude.{◌++◌, length, take, drop, Result, Ok, Err}
 use Rattle.store_model.specs.Scripts.{lines, line_limit}
 use Rattle.script_lines.specs.Lines.{ended_lines}
 use Rattle.store_base.specs.Counts.{raised}
@@ -92,7 +93,8 @@ module _ {R : Type 0} (state : R → SourceState) where
     -- the lines that were to come are these and those that are still to come
     pub lines : lines (to_come old) ≡ texts ++ lines (to_come new)
     -- before the end of the source each of them is ended by an LF, however many bytes are looked at
-    pub ended : new.is_ended ≡ false → (count : ℕ) → ended_within old ((new.taken - old.taken) + count) ≡ texts ++ ended_within new count
+    pub ended : new.is_ended ≡ false → (count : ℕ)
+        → ended_within old ((new.taken - old.taken) + count) ≡ texts ++ ended_within new count
     pub goes_on : new.is_ended ≡ false → old.is_ended ≡ false
 
   -- A take failed, and no line was ended by the bytes taken: each one that was, was answered before.

@@ -1,5 +1,6 @@
 -- A source and a sink in memory, as their clauses see them.
-use Rattle.std.specs.Prelude.{ℕ, ◌+◌, ◌<◌, ◌⊎◌, min, max, nat_lt, true, List, ◌++◌, length, drop, slice_index, Contains, if◌then◌else◌}
+use Rattle.std.specs.Prelude.{ℕ, ◌+◌, ◌<◌, ◌⊎◌, min, max, nat_lt, true, List, ◌++◌, length, drop, slice_index, Contains}
+use Rattle.std.specs.Prelude.{if◌then◌else◌}
 use Rattle.store_base.specs.Counts.{raised}
 use Rattle.script_lines.specs.SourceState.{SourceState}
 use Rattle.script_lines.specs.SinkState.{SinkState}
@@ -20,7 +21,8 @@ source_state source = record { is_observable = true; left = source.left; faults 
 -- the most bytes that the next take gives into a buffer of so many: at least 1 in a piece, and as many as asked for
 -- after the last piece
 abbrev pub next_piece : SourceMemory → ℕ → ℕ
-next_piece source room = if nat_lt source.takes (length source.pieces) then min room (max 1 (slice_index source.pieces source.takes)) else room
+next_piece source room = if nat_lt source.takes (length source.pieces) then min room
+    (max 1 (slice_index source.pieces source.takes)) else room
 
 -- how many bytes the next take gives into a buffer of so many, if it does not fail
 abbrev pub next_count : SourceMemory → ℕ → ℕ

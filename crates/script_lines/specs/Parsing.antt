@@ -1,11 +1,13 @@
 -- What is read from the fields of a line, and the program's commands seen as those of the definitions.
-use Rattle.std.specs.Prelude.{◌≡◌, ℕ, ◌<◌, ◌≤◌, Bool, true, false, ◌||◌, List, [], ◌∷◌, length, Result, Ok, Err, Option, Some, None, ◌==◌, codes}
+use Rattle.std.specs.Prelude.{◌≡◌, ℕ, ◌<◌, ◌≤◌, Bool, true, false, ◌||◌, List, [], ◌∷◌, length, Result, Ok, Err, Option}
+use Rattle.std.specs.Prelude.{Some, None, ◌==◌, codes}
 use Rattle.std.specs.List.{slice_split}
 use Rattle.store_model.specs.Lists.{same_bytes}
 use Rattle.store_model.specs.Paths.{Path, fits_field}
 use Rattle.store_model.specs.Grammar.{path_of, number_of, content_of, attribute_name_of, ◌>>=◌, on_word}
 use Rattle.store_model.specs.Commands as model
-use Rattle.store_model.specs.Commands.Command.{Make, Write, Cut, Rename, Remove, Prune, ListChildren, Read, Space, Digest, SetAttribute, UnsetAttribute, GetAttribute, ListAttributes}
+use Rattle.store_model.specs.Commands.Command.{Make, Write, Cut, Rename, Remove, Prune, ListChildren, Read, Space}
+use Rattle.store_model.specs.Commands.Command.{Digest, SetAttribute, UnsetAttribute, GetAttribute, ListAttributes}
 use Rattle.store_model.specs.declared.refusal.Refusal.{Refusal}
 use Rattle.store_model.specs.declared.refusal.Refusal.TheVariants as refusals
 use Rattle.script_lines.specs.declared.command.Command.{Command}
@@ -64,8 +66,10 @@ FitCallFields size (call_fields.More w s rest) = length rest.now ≤ size
 -- whether a word is that of a command that changes the tree
 abbrev pub is_change_word : List ℕ → Bool
 is_change_word w =
-    same_bytes w (codes "make") || same_bytes w (codes "write") || same_bytes w (codes "cut") || same_bytes w (codes "rename")
-    || same_bytes w (codes "remove") || same_bytes w (codes "prune") || same_bytes w (codes "set") || same_bytes w (codes "unset")
+    same_bytes w (codes "make") || same_bytes w (codes "write") || same_bytes w (codes "cut")
+    || same_bytes w (codes "rename")
+    || same_bytes w (codes "remove") || same_bytes w (codes "prune") || same_bytes w (codes "set")
+    || same_bytes w (codes "unset")
 
 -- whether the first field is such a word
 abbrev pub has_change_word : List (List ℕ) → Bool
@@ -93,7 +97,8 @@ read_of path number count = path_of path >>= λ p. number >>= λ at. number_of c
 
 -- the command that writes bytes from an offset on
 abbrev pub write_of : List ℕ → Option ℕ → List ℕ → Option model.Command
-write_of path number content = path_of path >>= λ p. number >>= λ at. content_of content >>= λ bytes. Some (Write p at bytes)
+write_of path number content = path_of path >>= λ p. number >>= λ at. content_of content >>=
+    λ bytes. Some (Write p at bytes)
 
 -- the command that renames one path to another
 abbrev pub rename_of : List ℕ → List ℕ → Option model.Command
@@ -108,4 +113,5 @@ on_attribute_of word path name =
 -- the command of a word that gives a path an attribute
 abbrev pub set_of : List ℕ → List ℕ → List ℕ → List ℕ → Option model.Command
 set_of word path name content =
-    on_word word (codes "set") (path_of path >>= λ p. attribute_name_of name >>= λ n. content_of content >>= λ bytes. Some (SetAttribute p n bytes)) None
+    on_word word (codes "set") (path_of path >>= λ p. attribute_name_of name >>= λ n. content_of content >>=
+    λ bytes. Some (SetAttribute p n bytes)) None

@@ -1,5 +1,6 @@
 -- The lines of a session, and what it answers, with the text of that.
-use Rattle.std.specs.Prelude.{ℕ, List, [], ◌∷◌, ◌++◌, Bool, true, false, not, ◌&&◌, Option, Some, None, Result, Ok, Err, nat_eq, if◌then◌else◌, codes}
+use Rattle.std.specs.Prelude.{ℕ, List, [], ◌∷◌, ◌++◌, Bool, true, false, not, ◌&&◌, Option, Some, None, Result, Ok, Err}
+use Rattle.std.specs.Prelude.{nat_eq, if◌then◌else◌, codes}
 use Rattle.std.specs.Fmt.{decimal}
 use Rattle.std.specs.Option.{option_eq}
 use Rattle.std.specs.Cmp.Lexicographic.{pointwise}
@@ -8,8 +9,10 @@ use Rattle.store_model.specs.declared.refusal.Refusal.TheVariants as refusals
 use Rattle.store_model.specs.Lists.{same_bytes}
 use Rattle.store_model.specs.Grammar.{number_of, command_of_fields, has_short_paths, on_word, ◌>>=◌}
 use Rattle.store_model.specs.Commands.{Command, Reply, Child, AttributeSize, line, reply_text, refusal_text}
-use Rattle.store_model.specs.Commands.Command.{Make, Write, Cut, Rename, Remove, Prune, ListChildren, Read, Space, Digest, SetAttribute, UnsetAttribute, GetAttribute, ListAttributes}
-use Rattle.store_model.specs.Commands.Reply.{Acknowledged, Content, Listing, AttributeListing, PagesUsed, ImageDigest, Refused}
+use Rattle.store_model.specs.Commands.Command.{Make, Write, Cut, Rename, Remove, Prune, ListChildren, Read, Space}
+use Rattle.store_model.specs.Commands.Command.{Digest, SetAttribute, UnsetAttribute, GetAttribute, ListAttributes}
+use Rattle.store_model.specs.Commands.Reply.{Acknowledged, Content, Listing, AttributeListing, PagesUsed, ImageDigest}
+use Rattle.store_model.specs.Commands.Reply.{Refused}
 use Rattle.script_lines.specs.Parsing.{parts_of}
 use Rattle.script_lines.specs.declared.session.Question.{Question}
 use Rattle.script_lines.specs.declared.session.Question.TheVariants as questions
@@ -85,7 +88,8 @@ call_of_fields (w ∷ s ∷ []) =
     (on_word w (codes "drop") (number_of s >>= λ n. Some (Leave n)) None)
 call_of_fields (w ∷ s ∷ a ∷ fields) =
     on_word w (codes "ask") (number_of s >>= λ n. command_that is_question (a ∷ fields) >>= λ c. Some (Ask n c))
-    (on_word w (codes "stage") (number_of s >>= λ n. command_that is_change (a ∷ fields) >>= λ c. Some (Stage n c)) None)
+    (on_word w (codes "stage") (number_of s >>= λ n. command_that is_change (a ∷ fields) >>=
+    λ c. Some (Stage n c)) None)
 call_of_fields [] = None
 
 -- whether each path in it fits the field of a key
@@ -200,7 +204,8 @@ same_reply Acknowledged Acknowledged = true
 same_reply (Content one) (Content other) = same_bytes one other
 same_reply (Listing one) (Listing other) = pointwise same_child one other
 same_reply (AttributeListing one) (AttributeListing other) = pointwise same_attribute one other
-same_reply (PagesUsed used slots) (PagesUsed other_used other_slots) = nat_eq used other_used && nat_eq slots other_slots
+same_reply (PagesUsed used slots) (PagesUsed other_used other_slots) =
+    nat_eq used other_used && nat_eq slots other_slots
 same_reply (ImageDigest one) (ImageDigest other) = same_bytes one other
 same_reply (Refused one) (Refused other) = same_refusal one other
 same_reply one other = false

@@ -1,5 +1,6 @@
 -- What a source means at one moment, and what one take does.
-use Rattle.std.specs.Prelude.{◌≡◌, ◌↔◌, ℕ, ◌^◌, ◌<◌, ◌≤◌, Bool, IsTrue, List, [], ◌++◌, length, take, Result, IfOk, OnErr}
+use Rattle.std.specs.Prelude.{◌≡◌, ◌↔◌, ℕ, ◌^◌, ◌<◌, ◌≤◌, Bool, IsTrue, List, [], ◌++◌, length, take, Result, IfOk}
+use Rattle.std.specs.Prelude.{OnErr}
 use Rattle.store_base.specs.Counts.{faults_after}
 
 -- A source at one moment. Only where it is observable do the bytes left mean anything.

@@ -21,7 +21,8 @@ pub fn read_on_attribute(
     name: &[u8],
     command: &mut Command,
 ) -> Result<(), Refusal>
-    ensures { reading_of (in_place command.new result) ≡ checked_command (on_attribute_of word.now path.now name.now) }
+    ensures { reading_of (in_place command.new result)
+        ≡ checked_command (on_attribute_of word.now path.now name.now) }
 {
     let Some(name) = AttrName::parse(name) else {
         return Err(Refusal::Syntax);
@@ -48,7 +49,8 @@ pub fn read_set(
     command: &mut Command,
 ) -> Result<(), Refusal>
     requires { length content.now ≤ MAX_LINE }
-    ensures { reading_of (in_place command.new result) ≡ checked_command (set_of word.now path.now name.now content.now) }
+    ensures { reading_of (in_place command.new result)
+        ≡ checked_command (set_of word.now path.now name.now content.now) }
 {
     if word != b"set".as_slice() {
         return Err(Refusal::Syntax);

@@ -80,7 +80,8 @@ pub fn read_command(text: &[u8], command: &mut Command) -> Result<(), Refusal>
 /// Reads the command of a word alone.
 #[tactic(auto, unfolding(store_model::specs::Grammar::command_of_fields, store_model::specs::Grammar::has_short_paths))]
 fn read_word(word: &[u8], command: &mut Command) -> Result<(), Refusal>
-    ensures { reading_of (in_place command.new result) ≡ checked_command (command_of_fields (word.now ∷ [])) }
+    ensures { reading_of (in_place command.new result)
+        ≡ checked_command (command_of_fields (word.now ∷ [])) }
 {
     if word == b"space".as_slice() {
         *command = Command::Space;
@@ -95,7 +96,8 @@ fn read_word(word: &[u8], command: &mut Command) -> Result<(), Refusal>
 /// Reads the command of a word and a path.
 #[tactic(auto, unfolding(store_model::specs::Grammar::command_of_fields, store_model::specs::Grammar::has_short_paths))]
 fn read_on_path(word: &[u8], path: &[u8], command: &mut Command) -> Result<(), Refusal>
-    ensures { reading_of (in_place command.new result) ≡ checked_command (command_of_fields (word.now ∷ path.now ∷ [])) }
+    ensures { reading_of (in_place command.new result)
+        ≡ checked_command (command_of_fields (word.now ∷ path.now ∷ [])) }
 {
     if word == b"make".as_slice() {
         *command = Command::Make(read_path(path)?);
@@ -121,7 +123,8 @@ fn read_three(
     argument: &[u8],
     command: &mut Command,
 ) -> Result<(), Refusal>
-    ensures { reading_of (in_place command.new result) ≡ checked_command (command_of_fields (word.now ∷ path.now ∷ argument.now ∷ [])) }
+    ensures { reading_of (in_place command.new result)
+        ≡ checked_command (command_of_fields (word.now ∷ path.now ∷ argument.now ∷ [])) }
 {
     if word == b"cut".as_slice() {
         let Some(len) = parse_number(argument) else {
@@ -139,7 +142,8 @@ fn read_three(
 /// Reads the command that renames one path to another.
 #[tactic(auto, unfolding(store_model::specs::Grammar::has_short_paths))]
 fn read_rename(from: &[u8], to: &[u8], command: &mut Command) -> Result<(), Refusal>
-    ensures { reading_of (in_place command.new result) ≡ checked_command (rename_of from.now to.now) }
+    ensures { reading_of (in_place command.new result)
+        ≡ checked_command (rename_of from.now to.now) }
 {
     match read_path(from) {
         Ok(from) => {
@@ -164,7 +168,8 @@ fn read_four(
     command: &mut Command,
 ) -> Result<(), Refusal>
     requires { length argument.now ≤ MAX_LINE }
-    ensures { reading_of (in_place command.new result) ≡ checked_command (command_of_fields (word.now ∷ path.now ∷ at.now ∷ argument.now ∷ [])) }
+    ensures { reading_of (in_place command.new result)
+        ≡ checked_command (command_of_fields (word.now ∷ path.now ∷ at.now ∷ argument.now ∷ [])) }
 {
     let number = parse_number(at);
     if word == b"write".as_slice() {
@@ -181,7 +186,8 @@ fn read_four(
 // Joined to `read_four`, its room for a command would be cleared at each `write` too.
 #[inline(never)]
 fn read_read(path: &[u8], at: Option<u32>, len: &[u8], command: &mut Command) -> Result<(), Refusal>
-    ensures { reading_of (in_place command.new result) ≡ checked_command (read_of path.now at len.now) }
+    ensures { reading_of (in_place command.new result)
+        ≡ checked_command (read_of path.now at len.now) }
 {
     let (Some(at), Some(len)) = (at, parse_number(len)) else {
         return Err(Refusal::Syntax);
@@ -198,7 +204,8 @@ fn read_write(
     command: &mut Command,
 ) -> Result<(), Refusal>
     requires { length content.now ≤ MAX_LINE }
-    ensures { reading_of (in_place command.new result) ≡ checked_command (write_of path.now at content.now) }
+    ensures { reading_of (in_place command.new result)
+        ≡ checked_command (write_of path.now at content.now) }
 {
     if content.len() > 2 * FEW_BYTES {
         return read_write_in::<{ Bytes::MAX_LEN }>(path, at, content, command);
@@ -218,7 +225,8 @@ fn read_write_in<const ROOM: usize>(
 ) -> Result<(), Refusal>
     requires fits { length content.now ≤ 2 * ROOM }
     requires room { ROOM ≤ Bytes.MAX_LEN }
-    ensures { reading_of (in_place command.new result) ≡ checked_command (write_of path.now at content.now) }
+    ensures { reading_of (in_place command.new result)
+        ≡ checked_command (write_of path.now at content.now) }
 {
     let mut room = [0; ROOM];
     let (Some(at), Some(bytes)) = (at, read_bytes(content, &mut room)) else {

@@ -29,7 +29,8 @@ const MAX_WORD: usize = 8;
 // would then clear the room of each for every command.
 #[tactic(auto, unfolding(store_model::specs::Commands::command_text))]
 pub fn write_command<W: Sink>(sink: &mut W, command: &Command) -> Result<(), SinkFault>
-    ensures { IsPut (W.state sink.old) (W.state sink.new) (line (command_text (command_of command.now))) result }
+    ensures { IsPut (W.state sink.old) (W.state sink.new)
+        (line (command_text (command_of command.now))) result }
 {
     match command {
         Command::Make(path) => write_on_path(sink, b"make ", path),
@@ -59,7 +60,8 @@ pub fn write_piece<W: Sink>(
     bytes: &[u8],
 ) -> Result<(), SinkFault>
     requires { length bytes.now ≤ Bytes.MAX_LEN }
-    ensures { IsPut (W.state sink.old) (W.state sink.new) (line (command_text (Write path.now at bytes.now))) result }
+    ensures { IsPut (W.state sink.old) (W.state sink.new)
+        (line (command_text (Write path.now at bytes.now))) result }
 {
     let mut text = Text::new();
     begin_on_path(&mut text, b"write ", path);
@@ -78,7 +80,8 @@ fn write_set<W: Sink>(
     bytes: &[u8],
 ) -> Result<(), SinkFault>
     requires { length bytes.now ≤ Bytes.MAX_LEN }
-    ensures { IsPut (W.state sink.old) (W.state sink.new) (line (command_text (SetAttribute path.now name.now bytes.now))) result }
+    ensures { IsPut (W.state sink.old) (W.state sink.new)
+        (line (command_text (SetAttribute path.now name.now bytes.now))) result }
 {
     let mut text = Text::new();
     begin_on_path(&mut text, b"set ", path);
@@ -91,7 +94,8 @@ fn write_set<W: Sink>(
 #[inline(never)]
 fn write_on_path<W: Sink>(sink: &mut W, word: &[u8], path: &Path) -> Result<(), SinkFault>
     requires { length word.now ≤ MAX_WORD }
-    ensures { IsPut (W.state sink.old) (W.state sink.new) (line (word.now ++ path_text path.now)) result }
+    ensures { IsPut (W.state sink.old) (W.state sink.new)
+        (line (word.now ++ path_text path.now)) result }
 {
     let mut text = Text::new();
     begin_on_path(&mut text, word, path);
@@ -108,7 +112,8 @@ fn write_on_attribute<W: Sink>(
     name: &AttrName,
 ) -> Result<(), SinkFault>
     requires { length word.now ≤ MAX_WORD }
-    ensures { IsPut (W.state sink.old) (W.state sink.new) (line (word.now ++ path_text path.now ++ codes " " ++ name.now)) result }
+    ensures { IsPut (W.state sink.old) (W.state sink.new)
+        (line (word.now ++ path_text path.now ++ codes " " ++ name.now)) result }
 {
     let mut text = Text::new();
     begin_on_path(&mut text, word, path);
@@ -120,7 +125,8 @@ fn write_on_attribute<W: Sink>(
 /// Writes the line of a `cut`.
 #[inline(never)]
 fn write_cut<W: Sink>(sink: &mut W, path: &Path, len: u32) -> Result<(), SinkFault>
-    ensures { IsPut (W.state sink.old) (W.state sink.new) (line (codes "cut " ++ path_text path.now ++ codes " " ++ decimal len)) result }
+    ensures { IsPut (W.state sink.old) (W.state sink.new)
+        (line (codes "cut " ++ path_text path.now ++ codes " " ++ decimal len)) result }
 {
     let mut text = Text::new();
     begin_on_path(&mut text, b"cut ", path);
@@ -133,7 +139,8 @@ fn write_cut<W: Sink>(sink: &mut W, path: &Path, len: u32) -> Result<(), SinkFau
 #[tactic(auto, unfolding(store_model::specs::Commands::command_text))]
 #[inline(never)]
 fn write_rename<W: Sink>(sink: &mut W, from: &Path, to: &Path) -> Result<(), SinkFault>
-    ensures { IsPut (W.state sink.old) (W.state sink.new) (line (command_text (Rename from.now to.now))) result }
+    ensures { IsPut (W.state sink.old) (W.state sink.new)
+        (line (command_text (Rename from.now to.now))) result }
 {
     let mut text = Text::new();
     begin_on_path(&mut text, b"rename ", from);
@@ -146,7 +153,8 @@ fn write_rename<W: Sink>(sink: &mut W, from: &Path, to: &Path) -> Result<(), Sin
 #[tactic(auto, unfolding(store_model::specs::Commands::command_text))]
 #[inline(never)]
 fn write_read<W: Sink>(sink: &mut W, path: &Path, at: u32, len: u32) -> Result<(), SinkFault>
-    ensures { IsPut (W.state sink.old) (W.state sink.new) (line (command_text (Read path.now at len))) result }
+    ensures { IsPut (W.state sink.old) (W.state sink.new)
+        (line (command_text (Read path.now at len))) result }
 {
     let mut text = Text::new();
     begin_on_path(&mut text, b"read ", path);

@@ -1,10 +1,13 @@
 //! The fields of a line, and what a field says: a path, a number, bytes.
 
-ghost use Rattle.std.specs.Prelude.{◌≡◌, ◌≤◌, ◌*◌, ◌/◌, ◌∷◌, [], true, length, nat_le, if◌then◌else◌, None, Some, IfSome, MatchOption};
+ghost use Rattle.std.specs.Prelude.{◌≡◌, ◌≤◌, ◌*◌, ◌/◌, ◌∷◌, [], true, length, nat_le, if◌then◌else◌, None, Some};
+ghost use Rattle.std.specs.Prelude.{IfSome, MatchOption};
 ghost use Rattle.std.specs.List.{list_all};
-ghost use Rattle.store_model.specs.Grammar.{number_of, content_of, ok_value, is_numeral, is_digit, digits_value, number_limit};
+ghost use Rattle.store_model.specs.Grammar.{number_of, content_of, ok_value, is_numeral, is_digit, digits_value};
+ghost use Rattle.store_model.specs.Grammar.{number_limit};
 ghost use Rattle.hex.specs.Hex.{decode_of};
-ghost use Rattle.script_lines.specs.Parsing.{parts_of, AreFields, FitFields, AreCallFields, FitCallFields, ReadsPath, has_change_word, is_change_word};
+ghost use Rattle.script_lines.specs.Parsing.{parts_of, AreFields, FitFields, AreCallFields, FitCallFields, ReadsPath};
+ghost use Rattle.script_lines.specs.Parsing.{has_change_word, is_change_word};
 
 use crate::find::find_byte;
 use path_keys::{Path, PathFault};
@@ -27,7 +30,8 @@ pub enum Fields<'a> {
 
 /// The first field, and what stands behind the space that ends it, if one does.
 fn cut_field(text: &[u8]) -> (&[u8], Option<&[u8]>)
-    ensures parts { MatchOption result.1 (parts_of text.now ≡ result.0.now ∷ []) (λ rest. parts_of text.now ≡ result.0.now ∷ parts_of rest.now) }
+    ensures parts { MatchOption result.1 (parts_of text.now ≡ result.0.now ∷ [])
+        (λ rest. parts_of text.now ≡ result.0.now ∷ parts_of rest.now) }
     ensures word { length result.0.now ≤ length text.now }
     ensures rest { IfSome result.1 (λ rest. length rest.now ≤ length text.now) }
 {
@@ -156,7 +160,9 @@ pub fn parse_number(text: &[u8]) -> Option<u32>
 /// The number that digits spell, where it is at most 4,294,967,295.
 fn digits_value(digits: &[u8]) -> Option<u32>
     requires { list_all is_digit digits.now ≡ true }
-    ensures { result ≡ (if nat_le (digits_value digits.now) number_limit then Some (digits_value digits.now) else None) }
+    ensures { result
+        ≡ (if nat_le (digits_value digits.now) number_limit then Some
+        (digits_value digits.now) else None) }
 {
     let mut value = 0u32;
     for digit in digits {
@@ -170,7 +176,8 @@ fn digits_value(digits: &[u8]) -> Option<u32>
 /// hexadecimal digits of either case.
 pub fn read_bytes<'a>(text: &[u8], room: &'a mut [u8]) -> Option<&'a [u8]>
     requires { length text.now ≤ 2 * length room.old }
-    ensures value { MatchOption result (content_of text.now ≡ None) (λ bytes. content_of text.now ≡ Some bytes.now) }
+    ensures value { MatchOption result (content_of text.now ≡ None)
+        (λ bytes. content_of text.now ≡ Some bytes.now) }
     ensures fits { IfSome result (λ bytes. length bytes.now ≤ length room.old) }
 {
     if text == b"-".as_slice() {

@@ -42,8 +42,10 @@ impl Generator {
 
     /// The next command.
     pub fn next(&mut self) -> Command
-        ensures state { (number place : ℕ) → self.old ≡ model.state_after number place → self.new ≡ model.state_after number (place + 1) }
-        ensures command { (number place : ℕ) → self.old ≡ model.state_after number place → command_of result ≡ model.generated number place }
+        ensures state { (number place : ℕ) → self.old ≡ model.state_after number place
+            → self.new ≡ model.state_after number (place + 1) }
+        ensures command { (number place : ℕ) → self.old ≡ model.state_after number place
+            → command_of result ≡ model.generated number place }
     {
         self.state = next_state(self.state);
         command_of_draw((self.state >> 33) as u32)

@@ -1,6 +1,8 @@
 //! The lines of a script, read from a source in pieces of whatever length.
 
-ghost use Rattle.std.specs.Prelude.{◌≡◌, ◌↔◌, ◌≤◌, ◌<◌, ◌+◌, ◌-◌, ◌*◌, ◌^◌, ◌==◌, [], true, false, IsTrue, IsOk, IfOk, OnOk, IfErr, OnErr, IsErrOf, length, take, drop, min, max, vec_len, nat_lt, if◌then◌else◌, IfSome};
+ghost use Rattle.std.specs.Prelude.{◌≡◌, ◌↔◌, ◌≤◌, ◌<◌, ◌+◌, ◌-◌, ◌*◌, ◌^◌, ◌==◌, [], true, false, IsTrue, IsOk, IfOk};
+ghost use Rattle.std.specs.Prelude.{OnOk, IfErr, OnErr, IsErrOf, length, take, drop, min, max, vec_len, nat_lt};
+ghost use Rattle.std.specs.Prelude.{if◌then◌else◌, IfSome};
 ghost use Rattle.store_base.specs.Counts.{Rose};
 ghost use Rattle.script_lines.specs.SourceState.{IsObservable};
 ghost use Rattle.script_lines.specs.Lines.{HasNoEnd, ended_lines};
@@ -68,9 +70,21 @@ impl<R: Source> Model for LineReader<R> {
 
     ghost Value = { LineState R };
 
-    ghost view = { λ r. record { source = r.source; held = take (r.end - r.start) (drop r.start r.buffer.items); taken = r.taken; limit = r.limit; is_ended = r.is_ended; is_live = r.is_live; text = take (r.text_end - r.text_start) (drop r.text_start r.buffer.items) } };
+    ghost view = { λ r. record {
+      source = r.source;
+      held = take (r.end - r.start) (drop r.start r.buffer.items);
+      taken =
+          r.taken;
+      limit = r.limit;
+      is_ended = r.is_ended;
+      is_live = r.is_live;
+      text =
+          take (r.text_end - r.text_start) (drop r.text_start r.buffer.items);
+    } };
 
-    ghost invariant = { λ r. IsPlaced (vec_len r.buffer) r.start r.end r.text_start r.text_end r.taken r.limit × (IsTrue r.is_ended → IsAtEnd (R.state r.source) r.start r.end) };
+    ghost invariant = { λ r. IsPlaced (vec_len r.buffer)
+        r.start r.end r.text_start r.text_end r.taken r.limit
+        × (IsTrue r.is_ended → IsAtEnd (R.state r.source) r.start r.end) };
 }
 
 impl<R: Source> LineReader<R> {
@@ -79,7 +93,16 @@ impl<R: Source> LineReader<R> {
     /// A reader of the script that this source has, of at most 1,073,741,824 bytes.
     /// `NoMemory`: the source is given back, and nothing was taken from it.
     pub fn new(alloc: Global, source: R) -> Result<Self, (NoMemory, R)>
-        ensures ok { IfOk result (λ reader. reader ≡ record { source = source; held = []; taken = 0; limit = MAX_SCRIPT; is_ended = false; is_live = true; text = [] }) }
+        ensures ok { IfOk result (λ reader. reader ≡ record {
+          source = source;
+          held = [];
+          taken = 0;
+          limit = MAX_SCRIPT;
+          is_ended =
+              false;
+          is_live = true;
+          text = [];
+        }) }
         ensures err { IfErr result (λ refused. refused.1 ≡ source) }
     {
         LineReader::with_limit(alloc, source, MAX_SCRIPT)
@@ -88,7 +111,16 @@ impl<R: Source> LineReader<R> {
     /// A reader of the script that this source has, of at most so many bytes.
     /// `NoMemory`: the source is given back, and nothing was taken from it.
     pub fn with_limit(alloc: Global, source: R, limit: u64) -> Result<Self, (NoMemory, R)>
-        ensures ok { IfOk result (λ reader. reader ≡ record { source = source; held = []; taken = 0; limit = limit; is_ended = false; is_live = true; text = [] }) }
+        ensures ok { IfOk result (λ reader. reader ≡ record {
+          source = source;
+          held = [];
+          taken = 0;
+          limit = limit;
+          is_ended =
+              false;
+          is_live = true;
+          text = [];
+        }) }
         ensures err { IfErr result (λ refused. refused.1 ≡ source) }
     {
         let Ok(buffer) = vec![in alloc; 0; ROOM] else {
@@ -161,7 +193,12 @@ impl<R: Source> LineReader<R> {
     /// Answers the line of this length, which an LF ends.
     fn answer(&mut self, line_len: usize) -> Line
         requires { line_len < length self.old.held }
-        ensures state { self.new ≡ record self.old { held = drop (line_len + 1) self.old.held; text = (if nat_lt MAX_LINE line_len then [] else take line_len self.old.held) } }
+        ensures state { self.new
+            ≡ record self.old {
+              held = drop (line_len + 1) self.old.held;
+              text =
+                  (if nat_lt MAX_LINE line_len then [] else take line_len self.old.held);
+            } }
         ensures answer { result ≡ (if nat_lt MAX_LINE line_len then Line.Long else Line.Text) }
     {
         self.text_start = self.start;
@@ -177,8 +214,10 @@ impl<R: Source> LineReader<R> {
     /// Answers the bytes held, as the last line, at the end of the source.
     fn finish(&mut self) -> Line
         requires fits { length self.old.held ≤ MAX_LINE }
-        requires at_end { IsObservable (R.state self.old.source) → (R.state self.old.source).left ≡ [] }
-        ensures state { self.new ≡ record self.old { held = []; is_ended = true; text = self.old.held } }
+        requires at_end { IsObservable (R.state self.old.source)
+            → (R.state self.old.source).left ≡ [] }
+        ensures state { self.new
+            ≡ record self.old { held = []; is_ended = true; text = self.old.held } }
         ensures answer { result ≡ (if length self.old.held == 0 then Line.End else Line.Text) }
     {
         self.text_start = self.start;
@@ -236,7 +275,8 @@ impl<R: Source> LineReader<R> {
         ensures ends { EndsCall self.old self.new result }
         ensures long { OnOk result (result ≡ Ok Line.Long) }
         ensures text { self.new.text ≡ [] }
-        ensures answer { IsObservable (R.state self.old.source) → NextLine R.state self.old self.new result }
+        ensures answer { IsObservable (R.state self.old.source)
+            → NextLine R.state self.old self.new result }
     {
         loop {
             self.pass(self.held().len());
@@ -264,8 +304,10 @@ impl<R: Source> LineReader<R> {
         ensures shown { IsShown result self.new.text }
         ensures again { IsTrue self.old.is_ended → result ≡ Ok Line.End }
         ensures after_end { IsTrue self.old.is_ended → self.new.source ≡ self.old.source }
-        ensures no_take { 0 < length (ended_lines self.old.held) → self.new.source ≡ self.old.source }
-        ensures answer { IsObservable (R.state self.old.source) → NextLine R.state self.old self.new result }
+        ensures no_take { 0 < length (ended_lines self.old.held)
+            → self.new.source ≡ self.old.source }
+        ensures answer { IsObservable (R.state self.old.source)
+            → NextLine R.state self.old self.new result }
     {
         self.text_start = 0;
         self.text_end = 0;
@@ -309,7 +351,8 @@ fn move_to_front(buffer: &mut Vec<u8>, start: usize, end: usize)
     requires ordered { start ≤ end }
     requires within { end ≤ vec_len buffer.old }
     ensures size { vec_len buffer.new ≡ vec_len buffer.old }
-    ensures moved { take (end - start) buffer.new.items ≡ take (end - start) (drop start buffer.old.items) }
+    ensures moved { take (end - start) buffer.new.items
+        ≡ take (end - start) (drop start buffer.old.items) }
 {
     if start > 0 {
         buffer.copy_within(start..end, 0);

@@ -4,7 +4,8 @@
 ghost use Rattle.std.specs.Prelude.{◌≡◌, ◌≤◌, ◌↔◌, IsOk, IsErr, IfOk, OnOk, OnErr, Contains, length};
 ghost use Rattle.script_lines.specs.SourceState.{IsTake};
 ghost use Rattle.script_lines.specs.SinkState.{IsPut};
-ghost use Rattle.script_lines.specs.Memory.{source_state, sink_state, next_count, after_take, after_failed_take, IsFailing, after_put, after_failed_put};
+ghost use Rattle.script_lines.specs.Memory.{source_state, sink_state, next_count, after_take, after_failed_take};
+ghost use Rattle.script_lines.specs.Memory.{IsFailing, after_put, after_failed_put};
 
 use crate::fault::{SinkFault, SourceFault};
 use crate::sink::Sink;
@@ -30,7 +31,14 @@ impl Model for MemSource {
 
     ghost Value = { SourceMemory };
 
-    ghost view = { λ s. record { left = drop s.start s.bytes.items; pieces = s.pieces.items; failing = s.failing.items; takes = s.takes; faults = s.faults } };
+    ghost view = { λ s. record {
+      left = drop s.start s.bytes.items;
+      pieces = s.pieces.items;
+      failing =
+          s.failing.items;
+      takes = s.takes;
+      faults = s.faults;
+    } };
 
     ghost invariant = { λ s. s.start ≤ vec_len s.bytes };
 }
@@ -40,7 +48,14 @@ impl MemSource {
     /// at least 1 where one is left, and as many as asked for once the pieces are used up; it fails exactly
     /// where `k` stands in `failing`.
     pub fn new(bytes: Vec<u8>, pieces: Vec<usize>, failing: Vec<u64>) -> Self
-        ensures { result ≡ record { left = bytes.items; pieces = pieces.items; failing = failing.items; takes = 0; faults = 0 } }
+        ensures { result ≡ record {
+          left = bytes.items;
+          pieces = pieces.items;
+          failing =
+              failing.items;
+          takes = 0;
+          faults = 0;
+        } }
     {
         MemSource {
             bytes,
@@ -106,7 +121,14 @@ impl Model for MemSink {
 
     ghost Value = { SinkMemory };
 
-    ghost view = { λ s. record { written = s.written.items; room = s.room; failing = s.failing.items; puts = s.puts; faults = s.faults } };
+    ghost view = { λ s. record {
+      written = s.written.items;
+      room = s.room;
+      failing = s.failing.items;
+      puts =
+          s.puts;
+      faults = s.faults;
+    } };
 
     ghost invariant = { λ s. (vec_len s.written ≤ s.room) × (s.room ≤ vec_capacity s.written) };
 }
@@ -119,7 +141,13 @@ impl MemSink {
     /// room for, and none other does. One that fails appends nothing.
     /// `NoMemory`: there is no sink.
     pub fn new(alloc: Global, room: usize, failing: Vec<u64>) -> Result<Self, NoMemory>
-        ensures { IfOk result (λ sink. sink ≡ record { written = []; room = room; failing = failing.items; puts = 0; faults = 0 }) }
+        ensures { IfOk result (λ sink. sink ≡ record {
+          written = [];
+          room = room;
+          failing = failing.items;
+          puts = 0;
+          faults = 0;
+        }) }
     {
         let written = Vec::with_capacity(alloc, room)?;
         Ok(MemSink {

@@ -101,7 +101,8 @@ impl Reply {
     /// The same reply once more.
     /// `NoMemory`: there was no room for its listing, which has an entry at least.
     pub fn copy(&self, alloc: Global) -> Result<Reply, NoMemory>
-        ensures { MatchResult result (λ copy. copy ≡ self.now) (λ _. HasEntries (reply_of self.now)) }
+        ensures { MatchResult result (λ copy. copy ≡ self.now)
+            (λ _. HasEntries (reply_of self.now)) }
     {
         Ok(match self {
             Reply::Ok => Reply::Ok,
@@ -167,7 +168,8 @@ fn write_content<W: Sink>(sink: &mut W, bytes: &Bytes) -> Result<(), SinkFault>
 #[tactic(auto, unfolding(store_model::specs::Commands::reply_text))]
 #[inline(never)]
 fn write_usage<W: Sink>(sink: &mut W, used: u32, slots: u32) -> Result<(), SinkFault>
-    ensures { IsPut (W.state sink.old) (W.state sink.new) (reply_text (PagesUsed used slots)) result }
+    ensures { IsPut (W.state sink.old) (W.state sink.new)
+        (reply_text (PagesUsed used slots)) result }
 {
     let mut text = Text::new();
     text.push(b"space ");
@@ -182,7 +184,8 @@ fn write_usage<W: Sink>(sink: &mut W, used: u32, slots: u32) -> Result<(), SinkF
 #[tactic(auto, unfolding(store_model::specs::Commands::reply_text))]
 #[inline(never)]
 fn write_digest<W: Sink>(sink: &mut W, digest: &[u8; 32]) -> Result<(), SinkFault>
-    ensures { IsPut (W.state sink.old) (W.state sink.new) (reply_text (ImageDigest digest.now)) result }
+    ensures { IsPut (W.state sink.old) (W.state sink.new)
+        (reply_text (ImageDigest digest.now)) result }
 {
     let mut text = Text::new();
     text.push(b"digest ");
@@ -244,7 +247,8 @@ fn word_of(refusal: Refusal) -> &'static [u8]
 /// Adds the two numbers of `full`, each behind a space.
 fn push_numbers(text: &mut Text, need: u32, slots: u32)
     requires { length text.old + 22 ≤ MAX_TEXT }
-    ensures value { text.new ≡ text.old ++ (codes " " ++ decimal need ++ codes " " ++ decimal slots) }
+    ensures value { text.new ≡ text.old
+        ++ (codes " " ++ decimal need ++ codes " " ++ decimal slots) }
     ensures fits { length text.new ≤ length text.old + 22 }
 {
     text.push(b" ");
@@ -256,7 +260,8 @@ fn push_numbers(text: &mut Text, need: u32, slots: u32)
 /// Writes a listing: the line of each child, and `end`.
 #[inline(never)]
 fn write_listing<W: Sink>(sink: &mut W, entries: &Entries) -> Result<(), SinkFault>
-    ensures { IsPut (W.state sink.old) (W.state sink.new) (reply_text (Listing entries.now)) result }
+    ensures { IsPut (W.state sink.old) (W.state sink.new)
+        (reply_text (Listing entries.now)) result }
 {
     let mut text = Text::new();
     for index in 0..entries.len() {
@@ -272,7 +277,8 @@ fn write_listing<W: Sink>(sink: &mut W, entries: &Entries) -> Result<(), SinkFau
 /// Writes a listing of attributes: the line of each, and `end`.
 #[inline(never)]
 fn write_attributes<W: Sink>(sink: &mut W, attributes: &AttrEntries) -> Result<(), SinkFault>
-    ensures { IsPut (W.state sink.old) (W.state sink.new) (reply_text (AttributeListing attributes.now)) result }
+    ensures { IsPut (W.state sink.old) (W.state sink.new)
+        (reply_text (AttributeListing attributes.now)) result }
 {
     let mut text = Text::new();
     for index in 0..attributes.len() {

@@ -3,7 +3,8 @@
 ghost use Rattle.std.specs.Prelude.{◌≡◌, ◌≤◌, ◌∷◌, [], length, false, MatchOption};
 ghost use Rattle.script_lines.specs.InPlace.{in_place};
 ghost use Rattle.script_lines.specs.Parsing.{command_of, parts_of};
-ghost use Rattle.script_lines.specs.Sessions.{question_of, change_of, session_reading_of, parse_session, call_of_fields, checked_call, is_question, is_change};
+ghost use Rattle.script_lines.specs.Sessions.{question_of, change_of, session_reading_of, parse_session};
+ghost use Rattle.script_lines.specs.Sessions.{call_of_fields, checked_call, is_question, is_change};
 ghost use Rattle.script_lines.specs.Sessions.SessionCall.{Ask, Stage};
 ghost use Rattle.script_lines.specs.SessionParts.{call_on, call_on_command, call_that, IsCommandThat};
 
@@ -168,7 +169,8 @@ pub fn read_session_line(
 // Joined to its caller, its room for a line would be cleared for other lines too.
 #[inline(never)]
 fn read_begin(word: &[u8], line: &mut SessionLine) -> Result<(), Refusal>
-    ensures { session_reading_of (in_place line.new result) ≡ checked_call (call_of_fields (word.now ∷ [])) }
+    ensures { session_reading_of (in_place line.new result)
+        ≡ checked_call (call_of_fields (word.now ∷ [])) }
 {
     if word != b"begin".as_slice() {
         return Err(Refusal::Syntax);
@@ -182,7 +184,8 @@ fn read_begin(word: &[u8], line: &mut SessionLine) -> Result<(), Refusal>
 // Joined to its caller, its room for a line would be cleared for other lines too.
 #[inline(never)]
 fn read_end(word: &[u8], number: &[u8], line: &mut SessionLine) -> Result<(), Refusal>
-    ensures { session_reading_of (in_place line.new result) ≡ checked_call (call_of_fields (word.now ∷ number.now ∷ [])) }
+    ensures { session_reading_of (in_place line.new result)
+        ≡ checked_call (call_of_fields (word.now ∷ number.now ∷ [])) }
 {
     let Some(number) = parse_number(number) else {
         return Err(Refusal::Syntax);
@@ -206,7 +209,8 @@ fn read_on_command(
     line: &mut SessionLine,
 ) -> Result<(), Refusal>
     requires { length text.now ≤ MAX_LINE }
-    ensures { session_reading_of (in_place line.new result) ≡ checked_call (call_on_command word.now number.now (parts_of text.now)) }
+    ensures { session_reading_of (in_place line.new result)
+        ≡ checked_call (call_on_command word.now number.now (parts_of text.now)) }
 {
     let Some(number) = parse_number(number) else {
         return Err(Refusal::Syntax);
@@ -228,7 +232,8 @@ fn read_ask(
     line: &mut SessionLine,
 ) -> Result<(), Refusal>
     requires { length text.now ≤ MAX_LINE }
-    ensures { session_reading_of (in_place line.new result) ≡ checked_call (call_on is_question (Ask number) (parts_of text.now)) }
+    ensures { session_reading_of (in_place line.new result)
+        ≡ checked_call (call_on is_question (Ask number) (parts_of text.now)) }
 {
     match read_command(text, command) {
         Ok(()) => put_question(number, command, line),
@@ -245,7 +250,8 @@ fn read_stage(
     line: &mut SessionLine,
 ) -> Result<(), Refusal>
     requires { length text.now ≤ MAX_LINE }
-    ensures { session_reading_of (in_place line.new result) ≡ checked_call (call_on is_change (Stage number) (parts_of text.now)) }
+    ensures { session_reading_of (in_place line.new result)
+        ≡ checked_call (call_on is_change (Stage number) (parts_of text.now)) }
 {
     match read_command(text, command) {
         Ok(()) => put_change(number, command, line),
@@ -256,7 +262,8 @@ fn read_stage(
 
 /// Puts the line that asks the question which a command is in the place of another line.
 fn put_question(number: u32, command: &Command, line: &mut SessionLine) -> Result<(), Refusal>
-    ensures { session_reading_of (in_place line.new result) ≡ call_that is_question (Ask number) (command_of command.now) }
+    ensures { session_reading_of (in_place line.new result)
+        ≡ call_that is_question (Ask number) (command_of command.now) }
 {
     let Some(question) = question_from(command) else {
         return Err(Refusal::Syntax);
@@ -281,7 +288,8 @@ fn make_ask(number: u32, question: Question, line: &mut SessionLine)
 
 /// The question that a command is.
 fn question_from(command: &Command) -> Option<Question>
-    ensures { MatchOption result (is_question (command_of command.now) ≡ false) (λ question. IsCommandThat is_question (question_of question) (command_of command.now)) }
+    ensures { MatchOption result (is_question (command_of command.now) ≡ false)
+        (λ question. IsCommandThat is_question (question_of question) (command_of command.now)) }
 {
     match command {
         Command::List(path) => Some(Question::List(*path)),
@@ -297,7 +305,8 @@ fn question_from(command: &Command) -> Option<Question>
 /// Puts the line that stages the change which a command is in the place of another line; where a `write` is staged
 /// there, its bytes take the place of the other's.
 fn put_change(number: u32, command: &Command, line: &mut SessionLine) -> Result<(), Refusal>
-    ensures { session_reading_of (in_place line.new result) ≡ call_that is_change (Stage number) (command_of command.now) }
+    ensures { session_reading_of (in_place line.new result)
+        ≡ call_that is_change (Stage number) (command_of command.now) }
 {
     if let Command::Write(path, at, bytes) = command {
         if let SessionLine::Stage(old_number, change) = line {
@@ -317,7 +326,8 @@ fn put_change(number: u32, command: &Command, line: &mut SessionLine) -> Result<
 // Joined to `put_change`, its room for a line would be cleared also where a `write` takes the place of another.
 #[inline(never)]
 fn make_stage(number: u32, command: &Command, line: &mut SessionLine) -> Result<(), Refusal>
-    ensures { session_reading_of (in_place line.new result) ≡ call_that is_change (Stage number) (command_of command.now) }
+    ensures { session_reading_of (in_place line.new result)
+        ≡ call_that is_change (Stage number) (command_of command.now) }
 {
     let Some(change) = change_from(command) else {
         return Err(Refusal::Syntax);
@@ -328,7 +338,8 @@ fn make_stage(number: u32, command: &Command, line: &mut SessionLine) -> Result<
 
 /// The change that a command is.
 fn change_from(command: &Command) -> Option<Change>
-    ensures { MatchOption result (is_change (command_of command.now) ≡ false) (λ change. IsCommandThat is_change (change_of change) (command_of command.now)) }
+    ensures { MatchOption result (is_change (command_of command.now) ≡ false)
+        (λ change. IsCommandThat is_change (change_of change) (command_of command.now)) }
 {
     match command {
         Command::Make(path) => Some(Change::Make(*path)),

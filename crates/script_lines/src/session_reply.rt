@@ -57,7 +57,8 @@ pub enum SessionReply {
 // would then clear the room of each for every answer.
 #[tactic(auto, unfolding(crate::specs::Sessions::session_text, store_model::specs::Commands::reply_text))]
 pub fn write_session_reply<W: Sink>(sink: &mut W, reply: &SessionReply) -> Result<(), SinkFault>
-    ensures { IsPut (W.state sink.old) (W.state sink.new) (session_text (session_answer_of reply.now)) result }
+    ensures { IsPut (W.state sink.old) (W.state sink.new)
+        (session_text (session_answer_of reply.now)) result }
 {
     match reply {
         SessionReply::Began(number) => write_began(sink, *number),
@@ -92,7 +93,8 @@ fn write_conflict<W: Sink>(
     was: &Reply,
     now: &Reply,
 ) -> Result<(), SinkFault>
-    ensures { IsPut (W.state sink.old) (W.state sink.new) (session_text (Conflicting question (reply_of was.now) (reply_of now.now))) result }
+    ensures { IsPut (W.state sink.old) (W.state sink.new)
+        (session_text (Conflicting question (reply_of was.now) (reply_of now.now))) result }
 {
     write_conflict_line(sink, question)?;
     write_reply(sink, was)?;
@@ -102,7 +104,8 @@ fn write_conflict<W: Sink>(
 /// Writes the first line of a conflict.
 #[inline(never)]
 fn write_conflict_line<W: Sink>(sink: &mut W, question: u32) -> Result<(), SinkFault>
-    ensures { IsPut (W.state sink.old) (W.state sink.new) (line (codes "conflict " ++ decimal question)) result }
+    ensures { IsPut (W.state sink.old) (W.state sink.new)
+        (line (codes "conflict " ++ decimal question)) result }
 {
     let mut text = Text::new();
     text.push(b"conflict ");
@@ -115,7 +118,8 @@ fn write_conflict_line<W: Sink>(sink: &mut W, question: u32) -> Result<(), SinkF
 #[tactic(auto, unfolding(crate::specs::Sessions::session_text))]
 #[inline(never)]
 fn write_refused<W: Sink>(sink: &mut W, index: u32, refusal: Refusal) -> Result<(), SinkFault>
-    ensures { IsPut (W.state sink.old) (W.state sink.new) (session_text (RefusedAt index refusal)) result }
+    ensures { IsPut (W.state sink.old) (W.state sink.new)
+        (session_text (RefusedAt index refusal)) result }
 {
     let mut text = Text::new();
     text.push(b"refused ");

@@ -1,5 +1,7 @@
 -- What scrubbing makes of one slot.
-use Rattle.std.proofs.Common.{◌≡◌, ℕ, ◌+◌, ◌<◌, ◌≤◌, ◌==◌, not, List, length, take, drop, slice_index, Bool, true, false, if◌then◌else◌, sym, ap, ◌∙◌, inl, inr, arith, length-take, length-drop, get_or-take, get_or-drop}
+use Rattle.std.proofs.Common.{◌≡◌, ℕ, ◌+◌, ◌<◌, ◌≤◌, ◌==◌, not, List, length, take, drop, slice_index, Bool, true}
+use Rattle.std.proofs.Common.{false, if◌then◌else◌, sym, ap, ◌∙◌, inl, inr, arith, length-take, length-drop}
+use Rattle.std.proofs.Common.{get_or-take, get_or-drop}
 use Rattle.std.specs.Cmp.Lexicographic.{bytes_decides}
 use Rattle.std.proofs.lemmas.Bool.{cases_eq, both_ways, and_cases, and_left, ne_eqb, true_from_ne_false}
 use Rattle.std.proofs.lemmas.List.{ext_get_or, length-replicate, get_or-replicate}
@@ -10,7 +12,9 @@ use Rattle.scrub_free.specs.FreeSlots.{is_unclean}
 
 -- bytes that a test finds to be the same
 same_by_test : (xs ys : List ℕ) → not (same_bytes xs ys) ≡ false → xs ≡ ys
-same_by_test xs ys same = (bytes_decides xs ys).0 (true_from_ne_false (same_bytes xs ys) (λ differ. both_ways (not (same_bytes xs ys)) same (ap not differ)))
+same_by_test xs ys same =
+    (bytes_decides xs ys).0 (true_from_ne_false (same_bytes xs ys)
+    (λ differ. both_ways (not (same_bytes xs ys)) same (ap not differ)))
 
 -- a free slot
 pub free_block : (bytes : List ℕ) → slice_index bytes 0 ≡ 0 → scrubbed_block bytes ≡ zeros 4096
@@ -38,13 +42,18 @@ pub unclean_free : (bytes : List ℕ) → is_unclean bytes ≡ true → slice_in
 unfolding is_unclean
 unclean_free bytes unclean = elim (cases_eq (slice_index bytes 0) 0) [
   | inl free ↦ free
-  | inr used ↦ absurd (both_ways (is_unclean bytes) (and_left (slice_index bytes 0 == 0) (not (same_bytes bytes (zeros 4096))) (ne_eqb (slice_index bytes 0) 0 used)) unclean)
+  | inr used ↦ absurd (both_ways (is_unclean bytes)
+      (and_left (slice_index bytes 0 == 0) (not (same_bytes bytes (zeros 4096))) (ne_eqb (slice_index bytes 0) 0 used))
+      unclean)
 ]
 
 -- bytes that are zero in an image
-pub zero_bytes : (image : List ℕ) (at n : ℕ) → at + n ≤ length image → IsZeroAt at n image → bytes_at image at n ≡ zeros n
+pub zero_bytes : (image : List ℕ) (at n : ℕ) → at + n ≤ length image → IsZeroAt at n image
+    → bytes_at image at n ≡ zeros n
 zero_bytes image at n within zero =
-    let lengths : length (take n (drop at image)) ≡ n = omega (arith, length-take n (drop at image), length-drop at image, within) in
+    let lengths : length (take n (drop at image)) ≡ n =
+    omega (arith, length-take n (drop at image), length-drop at image, within) in
     ext_get_or 0 (take n (drop at image)) (zeros n) (lengths ∙ sym (length-replicate n 0)) λ i low.
     let few : i < n = omega (arith, lengths) in
-    get_or-take n (drop at image) i 0 few ∙ get_or-drop at image i 0 ∙ zero (at + i) (omega arith) (omega arith) ∙ sym (get_or-replicate n i 0 0 few)
+    get_or-take n (drop at image) i 0 few ∙ get_or-drop at image i 0 ∙ zero (at + i) (omega arith) (omega arith)
+    ∙ sym (get_or-replicate n i 0 0 few)

@@ -10,12 +10,14 @@ unfolding scrub_writes numbers_from
 scrub_writes-none slot = refl
 
 -- one slot more
-pub scrub_writes-more : (slot : ℕ → List ℕ) (n : ℕ) → scrub_writes slot (n + 1) ≡ scrub_writes slot n + block_writes (slot n)
+pub scrub_writes-more : (slot : ℕ → List ℕ) (n : ℕ)
+    → scrub_writes slot (n + 1) ≡ scrub_writes slot n + block_writes (slot n)
 unfolding scrub_writes
 scrub_writes-more slot n =
     let writes = λ (i : ℕ). block_writes (slot i) in
     let here : 0 + n ≡ n = omega arith in
-    sum_split writes 0 n 1 ∙ ap (λ (k : ℕ). sum_by writes (numbers_from 0 n) + k) (sum_one writes (0 + n) ∙ ap writes here)
+    sum_split writes 0 n 1 ∙ ap (λ (k : ℕ). sum_by writes (numbers_from 0 n) + k)
+    (sum_one writes (0 + n) ∙ ap writes here)
 
 -- fewer slots take no more
 pub scrub_writes-part : (slot : ℕ → List ℕ) (n m : ℕ) → n ≤ m → scrub_writes slot n ≤ scrub_writes slot m
@@ -26,10 +28,12 @@ scrub_writes-part slot n m fewer =
     omega (arith, sum_split writes 0 n (m - n), ap (λ (k : ℕ). sum_by writes (numbers_from 0 k)) whole)
 
 -- equal slots take as many
-pub scrub_writes-same : (slot other : ℕ → List ℕ) (n : ℕ) → ((i : ℕ) → i < n → slot i ≡ other i) → scrub_writes slot n ≡ scrub_writes other n
+pub scrub_writes-same : (slot other : ℕ → List ℕ) (n : ℕ) → ((i : ℕ) → i < n → slot i ≡ other i)
+    → scrub_writes slot n ≡ scrub_writes other n
 unfolding scrub_writes
 scrub_writes-same slot other n same =
-    sum_same (λ i. block_writes (slot i)) (λ i. block_writes (other i)) 0 n (λ i low high. ap (λ (bytes : List ℕ). block_writes bytes) (same i (omega arith)))
+    sum_same (λ i. block_writes (slot i)) (λ i. block_writes (other i)) 0 n
+    (λ i low high. ap (λ (bytes : List ℕ). block_writes bytes) (same i (omega arith)))
 
 -- clean slots take none
 pub scrub_writes-clean : (slot : ℕ → List ℕ) (n : ℕ) → StandClean slot n → scrub_writes slot n ≡ 0

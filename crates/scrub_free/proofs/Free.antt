@@ -1,5 +1,6 @@
 -- Where the free slots of a table lie.
-use Rattle.std.proofs.Common.{◌≡◌, ℕ, ◌+◌, ◌<◌, ◌≤◌, List, drop, slice_index, sym, ap, ◌∙◌, inl, inr, arith, get_or-take, get_or-drop}
+use Rattle.std.proofs.Common.{◌≡◌, ℕ, ◌+◌, ◌<◌, ◌≤◌, List, drop, slice_index, sym, ap, ◌∙◌, inl, inr, arith}
+use Rattle.std.proofs.Common.{get_or-take, get_or-drop}
 use Rattle.std.proofs.lemmas.Bool.{cases_eq}
 use Rattle.store_model.specs.Parameters.{table_at}
 use Rattle.gate_journal.specs.Places.{IsApart}
@@ -9,7 +10,8 @@ use Rattle.gate_journal.proofs.Committing.{table_apart}
 use Rattle.scrub_free.specs.FreeSlots.{OutsideFreeSlot, OutsideFree}
 
 -- byte 0 of a slot in the image
-pub slot_first : (slots i : ℕ) (image : List ℕ) → slice_index (table_slot slots image i) 0 ≡ slice_index image (table_at slots i)
+pub slot_first : (slots i : ℕ) (image : List ℕ)
+    → slice_index (table_slot slots image i) 0 ≡ slice_index image (table_at slots i)
 slot_first slots i image =
     let at = table_at slots i in
     let few : 0 < 4096 = omega arith in
@@ -21,8 +23,10 @@ behind_first at place (inl low) = inl (omega arith)
 behind_first at place (inr high) = inr (omega arith)
 
 -- the places of a slot are outside another
-pub beside : (slots i other : ℕ) (image : List ℕ) → i < slots → other < slots → (other ≡ i → ⊥) → (place : ℕ) → table_at slots i ≤ place → place < table_at slots i + 4096 → OutsideFreeSlot slots other image place
-beside slots i other image below other_below differs place low high free = behind_first (table_at slots other) place (table_apart slots i other below other_below differs place low high)
+pub beside : (slots i other : ℕ) (image : List ℕ) → i < slots → other < slots → (other ≡ i → ⊥) → (place : ℕ)
+    → table_at slots i ≤ place → place < table_at slots i + 4096 → OutsideFreeSlot slots other image place
+beside slots i other image below other_below differs place low high free =
+    behind_first (table_at slots other) place (table_apart slots i other below other_below differs place low high)
 
 -- byte 0 of each slot is spared
 pub first_spared : (slots i : ℕ) (image : List ℕ) → i < slots → OutsideFree slots image (table_at slots i)
@@ -32,7 +36,8 @@ first_spared slots i image below other other_below = elim (cases_eq other i) [
 ]
 
 -- and so is each place of a slot in use
-pub used_spared : (slots i : ℕ) (image : List ℕ) → i < slots → (slice_index image (table_at slots i) ≡ 0 → ⊥) → (place : ℕ) → table_at slots i ≤ place → place < table_at slots i + 4096 → OutsideFree slots image place
+pub used_spared : (slots i : ℕ) (image : List ℕ) → i < slots → (slice_index image (table_at slots i) ≡ 0 → ⊥)
+    → (place : ℕ) → table_at slots i ≤ place → place < table_at slots i + 4096 → OutsideFree slots image place
 used_spared slots i image below used place low high other other_below = elim (cases_eq other i) [
   | inl same ↦ λ free. absurd (used (ap (λ (n : ℕ). slice_index image (table_at slots n)) (sym same) ∙ free))
   | inr differs ↦ beside slots i other image below other_below differs place low high

@@ -25,7 +25,8 @@ scrub_writes slot n = sum_by (λ i. block_writes (slot i)) (numbers_below n)
 
 -- a place that is not behind byte 0 of this slot, where that is free in the image
 abbrev pub OutsideFreeSlot : ℕ → ℕ → List ℕ → ℕ → Type 0
-OutsideFreeSlot slots slot image place = slice_index image (table_at slots slot) ≡ 0 → IsApart (table_at slots slot + 1) 4095 place
+OutsideFreeSlot slots slot image place = slice_index image (table_at slots slot) ≡ 0
+    → IsApart (table_at slots slot + 1) 4095 place
 
 -- nor of any
 abbrev pub OutsideFree : ℕ → List ℕ → ℕ → Type 0

@@ -62,7 +62,8 @@ pub record ChecksScrubbed (p : Parameters) (old new : DiskState) (result : Resul
   pub memory : IsErrOf result NoMemory → ⊥
   pub never : IfOk result (λ verdict. verdict ≡ verdicts.NotImage → ⊥)
   pub verdict : IsObservable old → IfOk result (IsSlotsVerdict (slots_after p old) p)
-  pub clean : IsObservable old → (meets : MeetConditions (slots_after p old) p) → IfOk result (λ verdict. verdict ≡ clean_of meets.tree p)
+  pub clean : IsObservable old → (meets : MeetConditions (slots_after p old) p)
+      → IfOk result (λ verdict. verdict ≡ clean_of meets.tree p)
 
 -- A scrub of an image.
 pub record Scrubs (old new : DiskState) (result : Result Verdict Fault) : Type 0 where
@@ -74,9 +75,12 @@ pub record Scrubs (old new : DiskState) (result : Result Verdict Fault) : Type 0
   -- the verdict is that on what scrubbing leaves
   pub verdict : IfOk result (IsScrubVerdict old)
   -- and where that is the layout of a tree it is that on the tree
-  pub clean : IsObservable old → (t : Tree) (p : Parameters) → ScrubsTo old.bytes t p → IfOk result (λ verdict. verdict ≡ clean_of t p)
+  pub clean : IsObservable old → (t : Tree) (p : Parameters) → ScrubsTo old.bytes t p
+      → IfOk result (λ verdict. verdict ≡ clean_of t p)
   -- where it is the layout of no tree nothing is written or synced
   pub only_read : IsObservable old → ((t : Tree) (p : Parameters) → ScrubsTo old.bytes t p → ⊥) → ReadsOnly old new
   -- and otherwise the image is scrubbed, with just the writes and syncs that this takes, as far as the counts go
-  pub scrubs : IsObservable old → (t : Tree) (p : Parameters) → ScrubsTo old.bytes t p → ScrubsImage p.slots old new result
-  pub counts : IsObservable old → (t : Tree) (p : Parameters) → ScrubsTo old.bytes t p → CountsScrub p.slots old new result
+  pub scrubs : IsObservable old → (t : Tree) (p : Parameters) → ScrubsTo old.bytes t p
+      → ScrubsImage p.slots old new result
+  pub counts : IsObservable old → (t : Tree) (p : Parameters) → ScrubsTo old.bytes t p
+      → CountsScrub p.slots old new result

@@ -1,5 +1,6 @@
 -- What the scrubbed view of slots means. Its laws stand here since those of a trait are proved by them.
-use Rattle.std.specs.Prelude.{◌≡◌, ◌<◌, ℕ, zero, suc, List, [], ◌∷◌, map, length, Some, false, Bool, ◌==◌, slice_get, slice_index, if◌then◌else◌}
+use Rattle.std.specs.Prelude.{◌≡◌, ◌<◌, ℕ, zero, suc, List, [], ◌∷◌, map, length, Some, false, Bool, ◌==◌, slice_get}
+use Rattle.std.specs.Prelude.{slice_index, if◌then◌else◌}
 use Rattle.std.proofs.Common.{refl, sym, ap, ◌∙◌, inl, inr}
 use Rattle.std.proofs.lemmas.Bool.{cases_Bool}
 use Rattle.std.proofs.lemmas.List.{length-map, length-replicate}
@@ -38,5 +39,7 @@ scrubbed_long bytes long = elim (cases_Bool (slice_index bytes 0 == 0)) [
 -- and each of them has the bytes of a block
 pub scrubbed_whole : (slots : List (List ℕ)) → AreWhole slots → AreWhole (map scrubbed_block slots)
 scrubbed_whole [] whole i slot is = absurd (none-some slot is)
-scrubbed_whole (first ∷ slots) whole zero slot is = ap length (sym (same_Some (scrubbed_block first) slot is)) ∙ scrubbed_long first (whole 0 first refl)
-scrubbed_whole (first ∷ slots) whole (suc i) slot is = scrubbed_whole slots (λ j other there. whole (suc j) other there) i slot is
+scrubbed_whole (first ∷ slots) whole zero slot is =
+    ap length (sym (same_Some (scrubbed_block first) slot is)) ∙ scrubbed_long first (whole 0 first refl)
+scrubbed_whole (first ∷ slots) whole (suc i) slot is =
+    scrubbed_whole slots (λ j other there. whole (suc j) other there) i slot is

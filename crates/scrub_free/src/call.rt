@@ -20,7 +20,8 @@ fn check_scrubbed<D: Disk>(disk: D, params: &Params) -> (D, u32, Result<Verdict,
     requires { (D.state disk).size ≡ image_len params.now.slots }
     ensures call { ChecksScrubbed params.now (D.state disk) (D.state result.0) result.2 }
     ensures within { result.1 ≤ params.now.slots }
-    ensures clean { IsObservable (D.state result.0) → StandClean (recovered_slot params.now.slots (D.state result.0).bytes) result.1 }
+    ensures clean { IsObservable (D.state result.0)
+        → StandClean (recovered_slot params.now.slots (D.state result.0).bytes) result.1 }
 {
     let mut slots = ScrubbedView::new(View::new(disk, params));
     let checked = check_slots(&mut slots, params);

@@ -18,10 +18,13 @@ use store_base::{DiskFault, Params};
 pub fn scrub_image<D: Disk>(disk: &mut D, params: &Params, clean: u32) -> Result<(), DiskFault>
     requires size { (D.state disk.old).size ≡ image_len params.now.slots }
     requires within { clean ≤ params.now.slots }
-    requires clean { IsObservable (D.state disk.old) → StandClean (recovered_slot params.now.slots (D.state disk.old).bytes) clean }
+    requires clean { IsObservable (D.state disk.old)
+        → StandClean (recovered_slot params.now.slots (D.state disk.old).bytes) clean }
     ensures calls { AreCalls (D.state disk.old) (D.state disk.new) result }
-    ensures scrubs { IsObservable (D.state disk.old) → ScrubsImage params.now.slots (D.state disk.old) (D.state disk.new) result }
-    ensures counts { IsObservable (D.state disk.old) → CountsScrub params.now.slots (D.state disk.old) (D.state disk.new) result }
+    ensures scrubs { IsObservable (D.state disk.old)
+        → ScrubsImage params.now.slots (D.state disk.old) (D.state disk.new) result }
+    ensures counts { IsObservable (D.state disk.old)
+        → CountsScrub params.now.slots (D.state disk.old) (D.state disk.new) result }
 {
     // Recovered and durable before a slot is made zero: the journal could still put back what stood there.
     Journal::recover(disk, params)?;

@@ -7,7 +7,8 @@ ghost use Rattle.disk_model.specs.DiskState.{DiskState, IsObservable, IsDurable}
 ghost use Rattle.disk_model.specs.DiskCalls.{IsCall};
 ghost use Rattle.gate_journal.specs.Places.{AreCalls, Reaches, Makes};
 ghost use Rattle.gate_journal.specs.Phases.{table_slot};
-ghost use Rattle.scrub_free.specs.FreeSlots.{OutsideFreeSlot, OutsideFree, AreScrubbed, StandClean, is_unclean, block_writes, scrub_writes};
+ghost use Rattle.scrub_free.specs.FreeSlots.{OutsideFreeSlot, OutsideFree, AreScrubbed, StandClean, is_unclean};
+ghost use Rattle.scrub_free.specs.FreeSlots.{block_writes, scrub_writes};
 
 use disk_model::Disk;
 use store_base::{DiskFault, table_at};
@@ -27,8 +28,14 @@ fn scrub_slot<D: Disk>(disk: &mut D, slots: u32, slot: u32) -> Result<(), DiskFa
     requires below { slot < slots }
     requires size { (D.state disk.old).size ≡ image_len slots }
     ensures call { IsCall (D.state disk.old) (D.state disk.new) result }
-    ensures reaches { IsObservable (D.state disk.old) → Reaches (OutsideFreeSlot slots slot (D.state disk.old).bytes) (λ image. table_slot slots image slot ≡ scrubbed_block (table_slot slots (D.state disk.old).bytes slot)) (D.state disk.old) (D.state disk.new) result }
-    ensures makes { IsObservable (D.state disk.old) → Makes (block_writes (table_slot slots (D.state disk.old).bytes slot)) 0 (D.state disk.old) (D.state disk.new) result }
+    ensures reaches { IsObservable (D.state disk.old)
+        → Reaches (OutsideFreeSlot slots slot (D.state disk.old).bytes)
+        (λ image. table_slot slots image slot
+        ≡ scrubbed_block (table_slot slots (D.state disk.old).bytes slot)) (D.state disk.old)
+        (D.state disk.new) result }
+    ensures makes { IsObservable (D.state disk.old)
+        → Makes (block_writes (table_slot slots (D.state disk.old).bytes slot)) 0 (D.state disk.old)
+        (D.state disk.new) result }
 {
     let at = table_at(slots, slot);
     let mut bytes = [0; BLOCK];
@@ -44,12 +51,18 @@ fn scrub_slot<D: Disk>(disk: &mut D, slots: u32, slot: u32) -> Result<(), DiskFa
 pub fn scrub_slots<D: Disk>(disk: &mut D, slots: u32, clean: u32) -> Result<(), DiskFault>
     requires in_range { slots ≤ slots_limit }
     requires within { clean ≤ slots }
-    requires clean { IsObservable (D.state disk.old) → StandClean (table_slot slots (D.state disk.old).bytes) clean }
+    requires clean { IsObservable (D.state disk.old)
+        → StandClean (table_slot slots (D.state disk.old).bytes) clean }
     requires size { (D.state disk.old).size ≡ image_len slots }
     ensures call { IsCall (D.state disk.old) (D.state disk.new) result }
-    ensures reaches { IsObservable (D.state disk.old) → Reaches (OutsideFree slots (D.state disk.old).bytes) (AreScrubbed slots slots (D.state disk.old).bytes) (D.state disk.old) (D.state disk.new) result }
+    ensures reaches { IsObservable (D.state disk.old)
+        → Reaches (OutsideFree slots (D.state disk.old).bytes)
+        (AreScrubbed slots slots (D.state disk.old).bytes) (D.state disk.old)
+        (D.state disk.new) result }
     ensures durable { IsObservable (D.state disk.old) → OnOk result (IsDurable (D.state disk.new)) }
-    ensures makes { IsObservable (D.state disk.old) → Makes (scrub_writes (table_slot slots (D.state disk.old).bytes) slots) 1 (D.state disk.old) (D.state disk.new) result }
+    ensures makes { IsObservable (D.state disk.old)
+        → Makes (scrub_writes (table_slot slots (D.state disk.old).bytes) slots) 1
+        (D.state disk.old) (D.state disk.new) result }
 {
     for slot in clean..slots {
         scrub_slot(disk, slots, slot)?;

@@ -45,7 +45,8 @@ impl<S: ReadSlots> ScrubbedView<S> {
     pub fn into_slots(self) -> (S, u32)
         ensures slots { result.0 ≡ self.slots }
         ensures within { result.1 ≤ (S.state self.slots).count }
-        ensures clean { IsObservable (S.state self.slots) → AreClean (S.state self.slots).slots result.1 }
+        ensures clean { IsObservable (S.state self.slots)
+            → AreClean (S.state self.slots).slots result.1 }
     {
         let ScrubbedView { slots, clean } = self;
         (slots, clean)
@@ -57,9 +58,11 @@ impl<S: ReadSlots> ReadSlots for ScrubbedView<S> {
 
     ghost follows = { λ old new. S.follows old.slots new.slots };
 
-    ghost counted = { λ view observable. scrubbed_counted (S.state view.slots) (S.counted view.slots observable) };
+    ghost counted = { λ view observable. scrubbed_counted (S.state view.slots)
+        (S.counted view.slots observable) };
 
-    ghost whole = { λ view observable. scrubbed_whole (S.state view.slots).slots (S.whole view.slots observable) };
+    ghost whole = { λ view observable.
+        scrubbed_whole (S.state view.slots).slots (S.whole view.slots observable) };
 
     ghost follows_refl = { λ view. S.follows_refl view.slots };
 

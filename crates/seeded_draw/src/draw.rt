@@ -53,8 +53,8 @@ pub trait Draw {
         self.level(key)
     }
 
-    /// The digest of the label, a number of 64 bits; the front helps as in `start_from`. Labels of one digest are hard to
-    /// make, so that pages are found by it: it is taken from SHA-256 (FIPS 180-4).
+    /// The digest of the label, a number of 64 bits; the front helps as in `start_from`. Labels of one digest are
+    /// hard to make, so that pages are found by it: it is taken from SHA-256 (FIPS 180-4).
     fn digest_from(&self, front: &mut Front, label: &Label) -> u64
         ensures value { result ≡ digests self.now label.now }
         ensures valid { IsLabel label.now };

@@ -1,5 +1,5 @@
--- What the lines of a script commit: the groups, and the tree of these. All of it is read from the trace of the calls that the
--- lines spell, and not from the sessions that the program keeps.
+-- What the lines of a script commit: the groups, and the tree of these. All of it is read from the trace of the calls
+-- that the lines spell, and not from the sessions that the program keeps.
 use Rattle.std.specs.Prelude.{◌≡◌, ◌⊎◌, ◌<◌, ℕ, List, [], ◌∷◌, ◌++◌, length, take, drop, Result, Ok, Err, None, codes}
 use Rattle.std.specs.List.{All}
 use Rattle.store_model.specs.declared.refusal.Refusal.{Refusal}
@@ -57,19 +57,29 @@ IsAnswered t p script k text = take 1 (drop k (session_texts t script p)) ≡ te
 -- What the first `count` lines of a script commit, from a tree on.
 pub record CommitsWhole (t : Tree) (p : Parameters) (script : List ℕ) (count : ℕ) : Type 0 where
   -- each group is whole in their tree: one after another none of all these changes is refused
-  pub whole : All (λ reply. refusal_in reply ≡ None) (replies_by (step_under p) t (changes_of (session_groups t (take count (lines script)) p)))
-  -- the group of each commit that was answered `ok` is among them, behind those that were committed before: all that was staged in the
-  -- session since it began
-  pub kept : (id : ℕ) (before : List (List ℕ)) → IsLine script count before (Commit id) → IsAnswered t p script (length before) (line (codes "ok"))
-      → (later : List (List Command)) × (session_groups t (take count (lines script)) p ≡ session_groups t before p ++ staged_since id (session_trace t before p) ∷ later)
+  pub whole : All (λ reply. refusal_in reply ≡ None)
+      (replies_by (step_under p) t (changes_of (session_groups t (take count (lines script)) p)))
+  -- the group of each commit that was answered `ok` is among them, behind those that were committed before: all that
+  -- was staged in the session since it began
+  pub kept : (id : ℕ) (before : List (List ℕ)) → IsLine script count before (Commit id)
+      → IsAnswered t p script (length before) (line (codes "ok"))
+      → (later : List (List Command))
+      × (session_groups t (take count (lines script)) p ≡ session_groups t before p
+      ++ staged_since id (session_trace t before p) ∷ later)
   -- no other line commits anything
   pub only : (before : List (List ℕ)) (text : List ℕ) (behind : List (List ℕ)) → lines script ≡ before ++ text ∷ behind
-      → (session_groups t (before ++ text ∷ []) p ≡ session_groups t before p) ⊎ ((id : ℕ) × (session_reading text ≡ Ok (Commit id)) × IsAnswered t p script (length before) (line (codes "ok")))
-  -- each question of a session that is committed has on the tree of the groups before the answer that it had when it was asked
-  pub asked : (id : ℕ) (before : List (List ℕ)) → IsLine script count before (Commit id) → IsAnswered t p script (length before) (line (codes "ok"))
-      → All (λ (note : Note). (step (committed_tree t before p) note.0 p).reply ≡ note.1) (asked_since id (session_trace t before p))
-  -- and each question is answered by the tree of the groups before it, in which nothing is that was only staged, unless there is no
-  -- such session or it has as many questions as it may have
+      → (session_groups t (before ++ text ∷ []) p ≡ session_groups t before p)
+      ⊎ ((id : ℕ) × (session_reading text ≡ Ok (Commit id))
+      × IsAnswered t p script (length before) (line (codes "ok")))
+  -- each question of a session that is committed has on the tree of the groups before the answer that it had when it
+  -- was asked
+  pub asked : (id : ℕ) (before : List (List ℕ)) → IsLine script count before (Commit id)
+      → IsAnswered t p script (length before) (line (codes "ok"))
+      → All (λ (note : Note). (step (committed_tree t before p) note.0 p).reply ≡ note.1)
+      (asked_since id (session_trace t before p))
+  -- and each question is answered by the tree of the groups before it, in which nothing is that was only staged,
+  -- unless there is no such session or it has as many questions as it may have
   pub replied : (id : ℕ) (question : Command) (before : List (List ℕ)) → IsLine script count before (Ask id question)
       → IsAnswered t p script (length before) (reply_text (step (committed_tree t before p) question p).reply)
-      ⊎ (IsAnswered t p script (length before) (line (codes "no session")) ⊎ IsAnswered t p script (length before) (line (codes "no many")))
+      ⊎ (IsAnswered t p script (length before) (line (codes "no session"))
+      ⊎ IsAnswered t p script (length before) (line (codes "no many")))

@@ -27,8 +27,10 @@ pub fn what_a_session_acknowledged_stays(
     source: MemSource,
     sink: MemSink,
 ) -> Result<Ended, NoMemory>
-    ensures { (t : Tree) (p : Parameters) → MayLeaveOnly (meaning disk) (λ image. Represents image t p)
-        → IfOk result (KeepsAcknowledged (session_texts t source.left p) (committed_trees t source.left p) t p source sink) }
+    ensures { (t : Tree) (p : Parameters)
+        → MayLeaveOnly (meaning disk) (λ image. Represents image t p)
+        → IfOk result (KeepsAcknowledged (session_texts t source.left p)
+        (committed_trees t source.left p) t p source sink) }
 {
     hold(alloc, disk, source, sink)
 }

@@ -24,7 +24,8 @@ pub fn a_session_is_answered(
     source: MemSource,
     sink: MemSink,
 ) -> Result<Ended, NoMemory>
-    ensures { (t : Tree) (p : Parameters) → Represents (bytes_of disk) t p → IfOk result (AnswersCalls t p disk source sink) }
+    ensures { (t : Tree) (p : Parameters) → Represents (bytes_of disk) t p
+        → IfOk result (AnswersCalls t p disk source sink) }
 {
     hold(alloc, disk, source, sink)
 }

@@ -26,7 +26,9 @@ pub fn a_session_costs_its_commits(
     sink: MemSink,
 ) -> Result<Ended, NoMemory>
     ensures { (t : Tree) (p : Parameters) → Represents (bytes_of disk) t p
-        → IfOk result (λ after. CostsJust after.status after.done (committed_trees t source.left p) p disk after.disk) }
+        → IfOk result
+        (λ after. CostsJust after.status after.done (committed_trees t source.left p) p disk
+        after.disk) }
 {
     hold(alloc, disk, source, sink)
 }

@@ -36,10 +36,14 @@ pub fn a_crash_leaves_whole_groups(
     sink: MemSink,
     left: &[u8],
 ) -> Result<Crash, NoMemory>
-    ensures first { (t : Tree) (p : Parameters) → MayLeaveOnly (memory_state disk) (λ image. Represents image t p) →
-        IfOk result (λ crash. KeepsAcknowledged (session_texts t source.left p) (committed_trees t source.left p) t p source sink crash.first) }
-    ensures next { (t : Tree) (p : Parameters) → MayLeaveOnly (memory_state disk) (λ image. Represents image t p) →
-        IfOk result (LosesNothing (session_texts t source.left p) (committed_trees t source.left p) p disk sink left.now) }
+    ensures first { (t : Tree) (p : Parameters)
+        → MayLeaveOnly (memory_state disk) (λ image. Represents image t p) →
+        IfOk result (λ crash. KeepsAcknowledged (session_texts t source.left p)
+        (committed_trees t source.left p) t p source sink crash.first) }
+    ensures next { (t : Tree) (p : Parameters)
+        → MayLeaveOnly (memory_state disk) (λ image. Represents image t p) →
+        IfOk result (LosesNothing (session_texts t source.left p)
+        (committed_trees t source.left p) p disk sink left.now) }
     ensures groups { (t : Tree) (p : Parameters) (count : ℕ) → CommitsWhole t p source.left count }
 {
     groups_are_whole();

@@ -11,7 +11,8 @@ use session_core::every_history_is_serial;
 /// whole in their tree, the one of each commit that was answered `ok` is among them, and each question of its session
 /// has on the tree of the groups before the answer that it had when it was asked.
 pub fn groups_are_whole()
-    ensures { (t : Tree) (p : Parameters) (script : List ℕ) (count : ℕ) → CommitsWhole t p script count }
+    ensures { (t : Tree) (p : Parameters) (script : List ℕ) (count : ℕ)
+        → CommitsWhole t p script count }
 {
     every_history_is_serial();
 }

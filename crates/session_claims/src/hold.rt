@@ -28,7 +28,9 @@ pub(crate) fn hold(
     source: MemSource,
     sink: MemSink,
 ) -> Result<Ended, NoMemory>
-    ensures { IfOk result (AnswersScript words.Session session_texts committed_trees meaning source_state sink_state (outside_of disk source sink)) }
+    ensures { IfOk result
+        (AnswersScript words.Session session_texts committed_trees meaning source_state sink_state
+        (outside_of disk source sink)) }
 {
     every_history_is_serial();
     let words = session_word(alloc)?;

@@ -13,7 +13,9 @@ use Rattle.script_lines.specs.declared.session.Question.TheVariants as questions
 use Rattle.script_lines.specs.Sessions.{question_of}
 
 module _ (t : Tree) (c : Command) (p : Parameters) (same : next_tree t c ≡ t) where
-  filled : (b : Bool) → (let reached : Step = if b then (record { reply = Refused (refusals.Full (page_count (next_tree t c) p) p.slots); tree = t }) else (record { reply = reply_of t c p; tree = next_tree t c }) in reached.tree) ≡ t
+  filled : (b : Bool) → (let reached : Step =
+      if b then (record { reply = Refused (refusals.Full (page_count (next_tree t c) p) p.slots); tree = t }) else
+      (record { reply = reply_of t c p; tree = next_tree t c }) in reached.tree) ≡ t
   filled true = refl
   filled false = same
 
@@ -21,7 +23,9 @@ module _ (t : Tree) (c : Command) (p : Parameters) (same : next_tree t c ≡ t) 
   refused (Some refusal) = refl
   refused None = filled (may_fill c && nat_lt p.slots (page_count (next_tree t c) p))
 
-  versioned : (b : Bool) → (let reached : Step = if b then (record { reply = Refused refusals.Version; tree = t }) else step_by t c p (refusal_of t c) in reached.tree) ≡ t
+  versioned : (b : Bool) → (let reached : Step =
+      if b then (record { reply = Refused refusals.Version; tree = t }) else step_by t c p (refusal_of t c)
+      in reached.tree) ≡ t
   versioned true = refl
   versioned false = refused (refusal_of t c)
 

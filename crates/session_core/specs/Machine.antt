@@ -1,5 +1,7 @@
--- The machine of sessions: a tree, and the sessions that are live. A call answers, and leads to the next tree and sessions.
-use Rattle.std.specs.Prelude.{ℕ, suc, List, [], ◌∷◌, ◌++◌, length, replicate, slice_get, slice_set, Bool, true, false, Option, Some, None, is_none, nat_le, if◌then◌else◌}
+-- The machine of sessions: a tree, and the sessions that are live. A call answers, and leads to the next tree and
+-- sessions.
+use Rattle.std.specs.Prelude.{ℕ, suc, List, [], ◌∷◌, ◌++◌, length, replicate, slice_get, slice_set, Bool, true, false}
+use Rattle.std.specs.Prelude.{Option, Some, None, is_none, nat_le, if◌then◌else◌}
 use Rattle.std.specs.List.{position, position_or_len}
 use Rattle.std.specs.Option.{option_flatten, unwrap_or}
 use Rattle.store_model.specs.declared.refusal.Refusal.{Refusal}
@@ -9,7 +11,8 @@ use Rattle.store_model.specs.Commands.{Command, Reply}
 use Rattle.store_model.specs.Steps.{step}
 use Rattle.script_lines.specs.Sessions.{SessionCall, SessionAnswer, same_reply}
 use Rattle.script_lines.specs.Sessions.SessionCall.{Begin, Ask, Stage, Commit, Leave}
-use Rattle.script_lines.specs.Sessions.SessionAnswer.{Began, Replied, Done, Conflicting, RefusedAt, NoSession, Crowded, Many}
+use Rattle.script_lines.specs.Sessions.SessionAnswer.{Began, Replied, Done, Conflicting, RefusedAt, NoSession, Crowded}
+use Rattle.script_lines.specs.Sessions.SessionAnswer.{Many}
 use Rattle.store_core.specs.Groups.{refused_in, group_tree}
 
 -- how many sessions may be live
@@ -83,7 +86,8 @@ turned_away places (Stage id change) = many_of (session_at places id) (λ sessio
 turned_away places (Commit id) = unknown_of (session_at places id)
 turned_away places (Leave id) = unknown_of (session_at places id)
 
--- the first of these questions that the tree answers otherwise than is noted: its number, the reply noted and the tree's
+-- the first of these questions that the tree answers otherwise than is noted: its number, the reply noted and the
+-- tree's
 unfoldable pub first_difference : Parameters → Tree → List Note → Option (ℕ × Reply × Reply)
 first_difference p t [] = None
 first_difference p t (note ∷ notes) =
@@ -121,7 +125,8 @@ answered p m call = unwrap_or (turned_away m.places call) (served p m call)
 
 -- ---- what stands then
 
--- the sessions behind a call that was answered so: a note or a change comes last, and a commit and a drop end their session
+-- the sessions behind a call that was answered so: a note or a change comes last, and a commit and a drop end their
+-- session
 abbrev pub places_after : Places → SessionCall → SessionAnswer → Places
 places_after places Begin (Began id) = slice_set places id (Some new_session)
 places_after places (Ask id question) (Replied reply) =
@@ -149,8 +154,8 @@ turn p m call =
 
 -- ---- faults and crashes
 
--- The machine, and whether it is stopped: a crash came, or a fault at a write or a sync, or behind one. Then nothing goes on
--- before the image is attached.
+-- The machine, and whether it is stopped: a crash came, or a fault at a write or a sync, or behind one. Then nothing
+-- goes on before the image is attached.
 pub record World : Type 0 where
   pub machine : Machine
   pub is_stopped : Bool
@@ -165,8 +170,8 @@ pub data Event : Type 0 where
   Acts : SessionCall → Event
   -- a call that ends by a fault, with nothing written or synced
   Fails : SessionCall → Event
-  -- a crash in a call, or a fault at a write or a sync or behind one: what it had to commit landed, or did not, as the next
-  -- attachment finds; its sessions can be asked nothing more
+  -- a crash in a call, or a fault at a write or a sync or behind one: what it had to commit landed, or did not, as
+  -- the next attachment finds; its sessions can be asked nothing more
   Breaks : SessionCall → Bool → Event
   -- a crash between two calls
   Crashes : Event
@@ -175,11 +180,35 @@ pub data Event : Type 0 where
 
 -- what is answered, if anything is, and what stands then; of a call that broke and landed, what it would have answered
 abbrev pub happens : Parameters → World → Event → Option SessionAnswer × World
-happens p w (Acts call) = if w.is_stopped then (None, w) else (Some (turn p w.machine call).0, record { machine = (turn p w.machine call).1; is_stopped = false })
+happens p w (Acts call) = if w.is_stopped then (None, w) else (
+  Some (turn p w.machine call).0,
+  record {
+    machine = (turn p w.machine call).1;
+    is_stopped = false;
+  },
+)
 happens p w (Fails call) = (None, w)
 happens p w (Breaks call true) =
     if w.is_stopped then (None, w)
-    else (Some (turn p w.machine call).0, record { machine = record { tree = (turn p w.machine call).1.tree; places = w.machine.places }; is_stopped = true })
-happens p w (Breaks call false) = if w.is_stopped then (None, w) else (None, record { machine = w.machine; is_stopped = true })
-happens p w Crashes = (None, record { machine = record { tree = w.machine.tree; places = no_places }; is_stopped = true })
+    else (
+      Some (turn p w.machine call).0,
+      record {
+        machine = record { tree = (turn p w.machine call).1.tree; places = w.machine.places };
+        is_stopped = true;
+      },
+    )
+happens p w (Breaks call false) = if w.is_stopped then (None, w) else (
+  None,
+  record {
+    machine = w.machine;
+    is_stopped = true;
+  },
+)
+happens p w Crashes = (
+  None,
+  record {
+    machine = record { tree = w.machine.tree; places = no_places };
+    is_stopped = true;
+  },
+)
 happens p w Attaches = (None, world_at w.machine.tree)

@@ -62,7 +62,8 @@ abbrev pub tree_left : {D : Type 0} → SessionsState D → SessionCall → Bool
 tree_left s call landed = (happens s.store.params (world_of s) (Breaks call landed)).1.machine.tree
 
 -- A call on sessions answers as the machine does and leaves what it leaves, or a fault ends it.
-pub record CallsSessions {D A : Type 0} (state : D → DiskState) (call : SessionCall) (answer_of : A → SessionAnswer) (old new : SessionsState D) (result : Result A SessionFault) : Type 0 where
+pub record CallsSessions {D A : Type 0} (state : D → DiskState) (call : SessionCall) (answer_of : A → SessionAnswer)
+    (old new : SessionsState D) (result : Result A SessionFault) : Type 0 where
   pub params : new.store.params ≡ old.store.params
   pub kept : KeepsDisk (state old.store.disk) (state new.store.disk)
   pub faults : (state new.store.disk).faults ≡ apply_faults_after (state old.store.disk).faults (ended_in result)
@@ -78,20 +79,27 @@ pub record CallsSessions {D A : Type 0} (state : D → DiskState) (call : Sessio
   pub unchanged : OnErr result (new.places ≡ old.places)
   -- over an observable disk the machine answers so, and what stands then is what it leaves
   pub answers : IsObservable (state old.store.disk) → old.store.is_stopped ≡ false
-      → IfSome (answer_in answer_of result) (λ answer. happens old.store.params (world_of old) (Acts call) ≡ (Some answer, world_of new))
-  -- a fault that stops nothing is the event that leaves all as it was; one that stops the store is that of a call that broke, of
-  -- which the value keeps the old tree, and what the disk holds is told below
-  pub fails : answer_in answer_of result ≡ None → new.store.is_stopped ≡ old.store.is_stopped → happens old.store.params (world_of old) (Fails call) ≡ (None, world_of new)
-  pub breaks : old.store.is_stopped ≡ false → new.store.is_stopped ≡ true → happens old.store.params (world_of old) (Breaks call false) ≡ (None, world_of new)
+      → IfSome (answer_in answer_of result) (λ answer. happens old.store.params (world_of old) (Acts call)
+      ≡ (Some answer, world_of new))
+  -- a fault that stops nothing is the event that leaves all as it was; one that stops the store is that of a call
+  -- that broke, of which the value keeps the old tree, and what the disk holds is told below
+  pub fails : answer_in answer_of result ≡ None → new.store.is_stopped ≡ old.store.is_stopped
+      → happens old.store.params (world_of old) (Fails call) ≡ (None, world_of new)
+  pub breaks : old.store.is_stopped ≡ false → new.store.is_stopped ≡ true
+      → happens old.store.params (world_of old) (Breaks call false) ≡ (None, world_of new)
   -- only a fault of the disk stops it
   pub runs : old.store.is_stopped ≡ false → (result ≡ Err causes.Disk → ⊥) → new.store.is_stopped ≡ false
-  -- of an observable disk: what it reads then, what a crash leaves at any moment of the call, and what is written and synced,
-  -- by the trees of a call that breaks and does not land, or lands
+  -- of an observable disk: what it reads then, what a crash leaves at any moment of the call, and what is written and
+  -- synced, by the trees of a call that breaks and does not land, or lands
   pub observed : IsObservable (state old.store.disk) → old.store.is_stopped ≡ false
-      → ChangesImage (tree_left old call false) (tree_left old call true) old.store.params (state old.store.disk) (state new.store.disk) new.store.is_stopped (ended_in result)
+      → ChangesImage (tree_left old call false) (tree_left old call true) old.store.params (state old.store.disk)
+      (state new.store.disk) new.store.is_stopped (ended_in result)
 
 -- The sessions alone answer, over any disk: the store is not called.
-pub record IsOfSessions {D A : Type 0} (call : SessionCall) (answer_of : A → SessionAnswer) (old new : SessionsState D) (result : Result A SessionFault) : Type 0 where
+pub record IsOfSessions {D A : Type 0} (call : SessionCall) (answer_of : A → SessionAnswer) (old new : SessionsState D)
+    (result : Result A SessionFault) : Type 0 where
   pub store : new.store ≡ old.store
   pub no_disk : result ≡ Err causes.Disk → ⊥
-  pub answers : old.store.is_stopped ≡ false → IfSome (answer_in answer_of result) (λ answer. happens old.store.params (world_of old) (Acts call) ≡ (Some answer, world_of new))
+  pub answers : old.store.is_stopped ≡ false
+      → IfSome (answer_in answer_of result) (λ answer. happens old.store.params (world_of old) (Acts call)
+      ≡ (Some answer, world_of new))

@@ -1,8 +1,8 @@
 -- What a trace of sessions tells, and the law that it is the trace of one serial run of the groups committed.
 --
--- A history is a list of events, the last of them first. Its trace has with each what was answered, and with a call that
--- broke and landed what it would have answered. What is said of sessions here is read from the trace alone, and not from
--- the machine's lists.
+-- A history is a list of events, the last of them first. Its trace has with each what was answered, and with a call
+-- that broke and landed what it would have answered. What is said of sessions here is read from the trace alone, and
+-- not from the machine's lists.
 use Rattle.std.specs.Prelude.{◌≡◌, ℕ, List, [], ◌∷◌, ◌++◌, Bool, true, false, Option, Some, None, nat_eq, if◌then◌else◌}
 use Rattle.std.specs.List.{All, flat_map}
 use Rattle.std.specs.Option.{option_map_or}
@@ -79,8 +79,8 @@ changes_of gs = flat_map (λ (g : List Command). g) gs
 abbrev pub serial_tree : Parameters → Tree → List (List Command) → Tree
 serial_tree p t gs = tree_by (step_under p) t (changes_of gs)
 
--- whether a session with this number, if one was live, ended here: its commit was answered, it was dropped, or a call broke, a
--- crash or an attachment came
+-- whether a session with this number, if one was live, ended here: its commit was answered, it was dropped, or a call
+-- broke, a crash or an attachment came
 abbrev pub ends : ℕ → Entry → Bool
 ends id (Acts (Commit number), Some Done) = nat_eq number id
 ends id (Acts (Commit number), Some (Conflicting k was now)) = nat_eq number id
@@ -102,7 +102,8 @@ is_live id (entry ∷ before) = if begins id entry then true else if ends id ent
 pub record IsSerial (p : Parameters) (t : Tree) (events : List Event) : Type 0 where
   pub tree : (world_after p t events).machine.tree ≡ serial_tree p t (groups (trace p t events))
   -- none of their changes is refused in that run: each group is in it whole
-  pub whole : All (λ reply. refusal_in reply ≡ None) (replies_by (step_under p) t (changes_of (groups (trace p t events))))
+  pub whole : All (λ reply. refusal_in reply ≡ None)
+      (replies_by (step_under p) t (changes_of (groups (trace p t events))))
   -- and where all of them are changes, as no line stages anything else, each is acknowledged
   pub acknowledged : All (λ change. is_change change ≡ true) (changes_of (groups (trace p t events)))
       → All (λ reply. reply ≡ Acknowledged) (replies_by (step_under p) t (changes_of (groups (trace p t events))))
@@ -110,15 +111,21 @@ pub record IsSerial (p : Parameters) (t : Tree) (events : List Event) : Type 0 w
   pub kept : (id : ℕ) (after before : List Entry) → trace p t events ≡ after ++ (Acts (Commit id), Some Done) ∷ before
       → (later : List (List Command)) × (groups (trace p t events) ≡ groups before ++ staged_since id before ∷ later)
   -- each question of a committed group has on the tree just before the group the answer that it had when it was asked
-  pub asked : (id : ℕ) (entry : Entry) (after before : List Entry) → trace p t events ≡ after ++ entry ∷ before → committed_by entry ≡ Some id
+  pub asked : (id : ℕ) (entry : Entry) (after before : List Entry) → trace p t events ≡ after ++ entry ∷ before
+      → committed_by entry ≡ Some id
       → All (λ (note : Note). (step (serial_tree p t (groups before)) note.0 p).reply ≡ note.1) (asked_since id before)
   -- only a session that is live commits, and so once: none outlives its commit, a drop, a crash or an attachment
-  pub live : (id : ℕ) (entry : Entry) (after before : List Entry) → trace p t events ≡ after ++ entry ∷ before → committed_by entry ≡ Some id → is_live id before ≡ true
+  pub live : (id : ℕ) (entry : Entry) (after before : List Entry) → trace p t events ≡ after ++ entry ∷ before
+      → committed_by entry ≡ Some id → is_live id before ≡ true
   -- a number is given to one live session at a time
-  pub begun : (id : ℕ) (after before : List Entry) → trace p t events ≡ after ++ (Acts Begin, Some (Began id)) ∷ before → is_live id before ≡ false
+  pub begun : (id : ℕ) (after before : List Entry) → trace p t events ≡ after ++ (Acts Begin, Some (Began id)) ∷ before
+      → is_live id before ≡ false
   -- each question sees the tree as it was last committed, and nothing that is only staged
-  pub replied : (id : ℕ) (question : Command) (reply : Reply) (after before : List Entry) → trace p t events ≡ after ++ (Acts (Ask id question), Some (Replied reply)) ∷ before
+  pub replied : (id : ℕ) (question : Command) (reply : Reply) (after before : List Entry)
+      → trace p t events ≡ after ++ (Acts (Ask id question), Some (Replied reply)) ∷ before
       → (step (serial_tree p t (groups before)) question p).reply ≡ reply
   -- each commit is answered as its session's questions and changes alone say on that tree, or there was no session
-  pub answered : (id : ℕ) (answer : SessionAnswer) (after before : List Entry) → trace p t events ≡ after ++ (Acts (Commit id), Some answer) ∷ before
-      → answer ≡ (if is_live id before then commit_answer p (serial_tree p t (groups before)) (record { asked = asked_since id before; staged = staged_since id before }) else NoSession)
+  pub answered : (id : ℕ) (answer : SessionAnswer) (after before : List Entry)
+      → trace p t events ≡ after ++ (Acts (Commit id), Some answer) ∷ before
+      → answer ≡ (if is_live id before then commit_answer p (serial_tree p t (groups before))
+      (record { asked = asked_since id before; staged = staged_since id before }) else NoSession)

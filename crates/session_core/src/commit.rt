@@ -24,9 +24,9 @@ impl<D: Disk> Sessions<D> {
     /// slot make none. Each image that a crash at any moment of the call may leave represents the tree before the whole
     /// group or the one after it.
     ///
-    /// `Stopped`, exactly where the store is stopped. `Unknown`, exactly where no live session has the number. Then `Disk`
-    /// and `NoMemory`, as of `Store::apply_all`: the session stays live, and unless the store is stopped nothing was
-    /// written.
+    /// `Stopped`, exactly where the store is stopped. `Unknown`, exactly where no live session has the number. Then
+    /// `Disk` and `NoMemory`, as of `Store::apply_all`: the session stays live, and unless the store is stopped
+    /// nothing was written.
     pub fn commit(&mut self, id: u32) -> Result<Committed, SessionFault>
         ensures call { CallsSessions D.state (Commit id) committed_answer self.old self.new result }
     {
@@ -35,8 +35,8 @@ impl<D: Disk> Sessions<D> {
     }
 }
 
-/// Commits the group of the session in a place, which is empty behind each answer. `Unknown`, exactly where none is live
-/// there. After a fault the place is as it was.
+/// Commits the group of the session in a place, which is empty behind each answer. `Unknown`, exactly where none is
+/// live there. After a fault the place is as it was.
 fn commit_in<D: Disk>(
     store: &mut Store<D>,
     place: &mut Option<Session>,
@@ -77,8 +77,8 @@ fn commit_session<D: Disk>(
     }
 }
 
-/// Asks noted questions again, one after another, in the place of a reply: up to the first that is answered otherwise than
-/// is noted. Its number is told, and its answer stands in the place.
+/// Asks noted questions again, one after another, in the place of a reply: up to the first that is answered otherwise
+/// than is noted. Its number is told, and its answer stands in the place.
 ///
 /// `Disk` and `NoMemory`, as of `Store::apply`.
 fn first_difference<D: Disk>(
@@ -88,7 +88,8 @@ fn first_difference<D: Disk>(
 ) -> Result<Option<usize>, ApplyFault>
     requires keeps { KeepsTree D.state store.old }
     requires runs { store.old.is_stopped ≡ false }
-    ensures asks { AsksAgain D.state (map note_of notes.now) (reply_of now.new) store.old store.new result }
+    ensures asks { AsksAgain D.state (map note_of notes.now)
+        (reply_of now.new) store.old store.new result }
     ensures within { IfOk result (λ found. IfSome found (λ number. number < length notes.now)) }
 {
     for (index, note) in notes.iter().enumerate() {

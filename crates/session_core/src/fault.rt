@@ -8,8 +8,8 @@ use store_base::NoMemory;
 use store_core::ApplyFault;
 use thiserror::Error;
 
-/// Why a call on sessions gave no answer: the sessions are as they were. Of the first four the first that holds is told,
-/// and before either of the last two.
+/// Why a call on sessions gave no answer: the sessions are as they were. Of the first four the first that holds is
+/// told, and before either of the last two.
 #[derive(Clone, Copy, Debug, PartialEq, Eq, Error)]
 pub enum SessionFault {
     /// The store is stopped, and nothing was called.

@@ -1,5 +1,5 @@
-//! Sessions over a store: each asks questions and stages changes, and its group is committed whole or not at all, and only
-//! where its questions still have the answers that they had.
+//! Sessions over a store: each asks questions and stages changes, and its group is committed whole or not at all, and
+//! only where its questions still have the answers that they had.
 //!
 //! At most 64 sessions are live at a time, each under a number. A question sees the tree as it was last committed, and
 //! not what its session staged. Nothing but a commit writes to the disk.

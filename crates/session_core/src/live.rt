@@ -39,11 +39,12 @@ impl<D: Disk> Sessions<D> {
 
     /// Answers a question on the tree as it was last committed, and notes it with its answer.
     ///
-    /// `Stopped`, exactly where the store is stopped. `Unknown`, exactly where no live session has the number. `Many`,
-    /// exactly where it has 64 questions. Then `Disk` and `NoMemory`, as of `Store::apply`. After each of them nothing is
-    /// noted, and nothing was written.
+    /// `Stopped`, exactly where the store is stopped. `Unknown`, exactly where no live session has the number.
+    /// `Many`, exactly where it has 64 questions. Then `Disk` and `NoMemory`, as of `Store::apply`. After each of
+    /// them nothing is noted, and nothing was written.
     pub fn ask(&mut self, id: u32, question: &Question) -> Result<Reply, SessionFault>
-        ensures call { CallsSessions D.state (Ask id (question_of question.now)) (λ reply. answers.Replied (reply_of reply)) self.old self.new result }
+        ensures call { CallsSessions D.state (Ask id (question_of question.now))
+            (λ reply. answers.Replied (reply_of reply)) self.old self.new result }
     {
         let mut reply = Reply::Ok;
         self.ask_into(id, question, &mut reply)?;
@@ -57,7 +58,9 @@ impl<D: Disk> Sessions<D> {
         question: &Question,
         reply: &mut Reply,
     ) -> Result<(), SessionFault>
-        ensures call { CallsSessions D.state (Ask id (question_of question.now)) (λ reply. answers.Replied (reply_of reply)) self.old self.new (in_place reply.new result) }
+        ensures call { CallsSessions D.state (Ask id (question_of question.now))
+            (λ reply. answers.Replied (reply_of reply))
+            self.old self.new (in_place reply.new result) }
     {
         let place = self.place_of(id)?;
         ask_in(
@@ -74,8 +77,10 @@ impl<D: Disk> Sessions<D> {
     /// `Stopped`, exactly where the store is stopped. `Unknown`, exactly where no live session has the number. `Many`,
     /// exactly where it has 64 changes. Then `NoMemory`. After each of them nothing is noted.
     pub fn stage(&mut self, id: u32, change: &Change) -> Result<(), SessionFault>
-        ensures call { CallsSessions D.state (Stage id (change_of change.now)) (λ _. answers.Done) self.old self.new result }
-        ensures alone { IsOfSessions (Stage id (change_of change.now)) (λ _. answers.Done) self.old self.new result }
+        ensures call { CallsSessions D.state (Stage id (change_of change.now))
+            (λ _. answers.Done) self.old self.new result }
+        ensures alone { IsOfSessions (Stage id (change_of change.now))
+            (λ _. answers.Done) self.old self.new result }
     {
         let place = self.place_of(id)?;
         stage_in(&mut self.places[place], change)
@@ -85,7 +90,8 @@ impl<D: Disk> Sessions<D> {
     ///
     /// `Stopped`, exactly where the store is stopped. `Unknown`, exactly where no live session has the number.
     pub fn drop_group(&mut self, id: u32) -> Result<(), SessionFault>
-        ensures call { CallsSessions D.state (Leave id) (λ _. answers.Done) self.old self.new result }
+        ensures call { CallsSessions D.state (Leave id)
+            (λ _. answers.Done) self.old self.new result }
         ensures alone { IsOfSessions (Leave id) (λ _. answers.Done) self.old self.new result }
         ensures room { result ≡ Err SessionFault.NoMemory → ⊥ }
     {
@@ -142,7 +148,8 @@ fn ask_in<D: Disk>(
     question: &Question,
     reply: &mut Reply,
 ) -> Result<(), SessionFault>
-    ensures { AsksIn D.state (question_of question.now) store.old store.new place.old place.new (in_place reply.new result) }
+    ensures { AsksIn D.state (question_of question.now)
+        store.old store.new place.old place.new (in_place reply.new result) }
 {
     let Some(session) = place else {
         return Err(SessionFault::Unknown);

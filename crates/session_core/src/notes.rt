@@ -28,9 +28,13 @@ impl Model for Session {
 
     ghost Value = { Session };
 
-    ghost view = { λ s. record { asked = map note_of s.asked.items; staged = map change_of s.staged.items } };
+    ghost view = { λ s. record {
+      asked = map note_of s.asked.items;
+      staged = map change_of s.staged.items;
+    } };
 
-    ghost invariant = { λ s. (length s.asked.items ≤ note_limit) × (length s.staged.items ≤ note_limit) };
+    ghost invariant = { λ s. (length s.asked.items ≤ note_limit)
+        × (length s.staged.items ≤ note_limit) };
 }
 
 impl Session {
@@ -54,7 +58,11 @@ impl Session {
     /// `NoMemory`: nothing is noted.
     pub(crate) fn note(&mut self, note: Note) -> Result<(), SessionFault>
         requires { length self.old.asked < note_limit }
-        ensures { TakesNote (length self.old.asked) self.old (record { asked = self.old.asked ++ note_of note ∷ []; staged = self.old.staged }) self.new result }
+        ensures { TakesNote (length self.old.asked) self.old (record {
+          asked = self.old.asked ++ note_of note ∷ [];
+          staged = self.old.staged;
+        })
+            self.new result }
     {
         self.asked.push(note)?;
         Ok(())
@@ -63,7 +71,11 @@ impl Session {
     /// Notes a change, behind those that are staged.
     /// `Many`: it has as many as it may have. Then `NoMemory`. After either of them nothing is noted.
     pub(crate) fn stage(&mut self, change: &Change) -> Result<(), SessionFault>
-        ensures { TakesNote (length self.old.staged) self.old (record { asked = self.old.asked; staged = self.old.staged ++ change_of change.now ∷ [] }) self.new result }
+        ensures { TakesNote (length self.old.staged) self.old (record {
+          asked = self.old.asked;
+          staged = self.old.staged ++ change_of change.now ∷ [];
+        })
+            self.new result }
     {
         if self.staged.len() >= MAX_NOTES {
             return Err(SessionFault::Many);

@@ -41,7 +41,10 @@ impl<D: Disk> Sessions<D> {
     /// No sessions on a store. It takes the room for all that may be live, so `begin` takes none.
     /// `NoMemory`: there was no room. The store is given back as it was.
     pub fn new(alloc: Global, store: Store<D>) -> Result<Sessions<D>, (NoMemory, Store<D>)>
-        ensures ok { IfOk result (λ sessions. sessions ≡ record { store = store; places = no_places }) }
+        ensures ok { IfOk result (λ sessions. sessions ≡ record {
+          store = store;
+          places = no_places;
+        }) }
         ensures err { IfErr result (λ refused. refused.1 ≡ store) }
     {
         match no_places(alloc) {

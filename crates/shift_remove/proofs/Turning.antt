@@ -16,10 +16,15 @@ pub at_of : (slots first u : ℕ) → first < slots → u < slots → At slots f
 at_of slots first u below within = by_case (cases_lt (first + u) slots)
   where
     by_case : (first + u < slots) ⊎ (slots ≤ first + u) → At slots first u (probe slots first u)
-    by_case (inl low) = let e : (first + u) % slots ≡ first + u = mod-eq_of_lt low in record { within = within; in_table = omega (arith, e, low); there = inl e }
+    by_case (inl low) = let e : (first + u) % slots ≡ first + u = mod-eq_of_lt low in record {
+      within = within;
+      in_table = omega (arith, e, low);
+      there = inl e;
+    }
     by_case (inr high) =
         let turned : first + u ≡ slots + (first + u - slots) = omega arith in
-        let e : (first + u) % slots ≡ first + u - slots = ap (λ (n : ℕ). n % slots) turned ∙ add-mod_left slots (first + u - slots) ∙ mod-eq_of_lt (omega arith) in
+        let e : (first + u) % slots ≡ first + u - slots =
+        ap (λ (n : ℕ). n % slots) turned ∙ add-mod_left slots (first + u - slots) ∙ mod-eq_of_lt (omega arith) in
         record { within = within; in_table = omega (arith, e); there = inr (omega (arith, e, high)) }
 
 pub at_is : (slots first u slot : ℕ) → first < slots → At slots first u slot → slot ≡ probe slots first u
@@ -37,7 +42,8 @@ at_slot slots first slot below within =
     (r.0, subst (At slots first r.0) r.2 (at_of slots first r.0 below r.1))
 
 -- a way passes a slot unless they lie in one of three orders
-passes_unless : (s v u : ℕ) → (u < s → v < s → u ≤ v → ⊥) → (s ≤ u → v < s → ⊥) → (s ≤ u → s ≤ v → u ≤ v → ⊥) → Passes s v u
+passes_unless : (s v u : ℕ) → (u < s → v < s → u ≤ v → ⊥) → (s ≤ u → v < s → ⊥)
+    → (s ≤ u → s ≤ v → u ≤ v → ⊥) → Passes s v u
 passes_unless s v u before round behind = by_case (cases_lt u s) (cases_lt v s) (cases_lt v u)
   where
     by_case : (u < s) ⊎ (s ≤ u) → (v < s) ⊎ (s ≤ v) → (v < u) ⊎ (u ≤ v) → Passes s v u
@@ -49,16 +55,112 @@ passes_unless s v u before round behind = by_case (cases_lt u s) (cases_lt v s) 
     by_case (inr su) (inr sv) (inr uv) = absurd (behind su sv uv)
 
 -- ways are the same by numbers behind the first slot
-pub passes_turned : (slots first start s hole v slot u : ℕ) → first < slots → At slots first s start → At slots first v hole → At slots first u slot → Passes start hole slot → Passes s v u
+pub passes_turned : (slots first start s hole v slot u : ℕ) → first < slots → At slots first s start
+    → At slots first v hole → At slots first u slot → Passes start hole slot → Passes s v u
 passes_turned slots first start s hole v slot u below a b c p =
     passes_unless s v u
-    (λ us vs uv. omega (arith, below, a.within, a.in_table, a.there, b.within, b.in_table, b.there, c.within, c.in_table, c.there, p, us, vs, uv))
-    (λ su vs. omega (arith, below, a.within, a.in_table, a.there, b.within, b.in_table, b.there, c.within, c.in_table, c.there, p, su, vs))
-    (λ su sv uv. omega (arith, below, a.within, a.in_table, a.there, b.within, b.in_table, b.there, c.within, c.in_table, c.there, p, su, sv, uv))
+    (λ us vs uv. omega (
+      arith,
+      below,
+      a.within,
+      a.in_table,
+      a.there,
+      b.within,
+      b.in_table,
+      b.there,
+      c.within,
+      c.in_table,
+      c.there,
+      p,
+      us,
+      vs,
+      uv,
+    ))
+    (λ su vs. omega (
+      arith,
+      below,
+      a.within,
+      a.in_table,
+      a.there,
+      b.within,
+      b.in_table,
+      b.there,
+      c.within,
+      c.in_table,
+      c.there,
+      p,
+      su,
+      vs,
+    ))
+    (λ su sv uv. omega (
+      arith,
+      below,
+      a.within,
+      a.in_table,
+      a.there,
+      b.within,
+      b.in_table,
+      b.there,
+      c.within,
+      c.in_table,
+      c.there,
+      p,
+      su,
+      sv,
+      uv,
+    ))
 
-pub passes_back : (slots first start s hole v slot u : ℕ) → first < slots → At slots first s start → At slots first v hole → At slots first u slot → Passes s v u → Passes start hole slot
+pub passes_back : (slots first start s hole v slot u : ℕ) → first < slots → At slots first s start
+    → At slots first v hole → At slots first u slot → Passes s v u → Passes start hole slot
 passes_back slots first start s hole v slot u below a b c p =
     passes_unless start hole slot
-    (λ us vs uv. omega (arith, below, a.within, a.in_table, a.there, b.within, b.in_table, b.there, c.within, c.in_table, c.there, p, us, vs, uv))
-    (λ su vs. omega (arith, below, a.within, a.in_table, a.there, b.within, b.in_table, b.there, c.within, c.in_table, c.there, p, su, vs))
-    (λ su sv uv. omega (arith, below, a.within, a.in_table, a.there, b.within, b.in_table, b.there, c.within, c.in_table, c.there, p, su, sv, uv))
+    (λ us vs uv. omega (
+      arith,
+      below,
+      a.within,
+      a.in_table,
+      a.there,
+      b.within,
+      b.in_table,
+      b.there,
+      c.within,
+      c.in_table,
+      c.there,
+      p,
+      us,
+      vs,
+      uv,
+    ))
+    (λ su vs. omega (
+      arith,
+      below,
+      a.within,
+      a.in_table,
+      a.there,
+      b.within,
+      b.in_table,
+      b.there,
+      c.within,
+      c.in_table,
+      c.there,
+      p,
+      su,
+      vs,
+    ))
+    (λ su sv uv. omega (
+      arith,
+      below,
+      a.within,
+      a.in_table,
+      a.there,
+      b.within,
+      b.in_table,
+      b.there,
+      c.within,
+      c.in_table,
+      c.there,
+      p,
+      su,
+      sv,
+      uv,
+    ))

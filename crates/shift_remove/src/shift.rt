@@ -32,7 +32,8 @@ fn passes(start: u32, hole: u32, place: u32) -> bool
 pub fn remove<S: Slots, W: Draw>(slots: &mut S, draw: &W, at: u32) -> Result<(), Fault>
     requires count { (S.ReadSlots.state slots.old).count ≡ (W.drawn draw.now).slots }
     requires below { at < (S.ReadSlots.state slots.old).count }
-    ensures call { Removes (W.drawn draw.now) (S.ReadSlots.state slots.old) (S.ReadSlots.state slots.new) at result }
+    ensures call { Removes (W.drawn draw.now) (S.ReadSlots.state slots.old)
+        (S.ReadSlots.state slots.new) at result }
     ensures follows { S.ReadSlots.follows slots.old slots.new }
 {
     let count = draw.slots();

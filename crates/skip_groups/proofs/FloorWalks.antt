@@ -1,5 +1,6 @@
 -- A search in the pages of one group, page after page.
-use Rattle.std.proofs.Common.{◌≡◌, ◌⊎◌, ℕ, zero, suc, ◌+◌, ◌-◌, ◌<◌, ◌≤◌, List, length, Option, Some, None, Ok, Err, refl, sym, ap, ◌∙◌, arith}
+use Rattle.std.proofs.Common.{◌≡◌, ◌⊎◌, ℕ, zero, suc, ◌+◌, ◌-◌, ◌<◌, ◌≤◌, List, length, Option, Some, None, Ok, Err}
+use Rattle.std.proofs.Common.{refl, sym, ap, ◌∙◌, arith}
 use Rattle.std.specs.List.{prefix_len, slice_get}
 use Rattle.store_base.specs.declared.store_fault.Fault.{Fault}
 use Rattle.store_model.specs.Labels.{Lead}
@@ -11,7 +12,9 @@ use Rattle.skip_groups.specs.Searches.{seen, IsSeen, IsGroupSearch}
 use Rattle.skip_groups.proofs.GroupSteps.{WalksTo, begins, breaks, ends, goes_on, is_over, same_count}
 use Rattle.skip_groups.proofs.Walks.{Walked, Ends, some_at, walk_start, walk_none, walk_stop, walk_on}
 
-module _ {T : Type 0} (floor after : Cell → T → T) (last_counts : (first second : Cell) (found : T) → floor second (floor first found) ≡ floor second found) (start : T) (old : PagesState) (level : ℕ) (lead : Lead) (key : List ℕ) where
+module _ {T : Type 0} (floor after : Cell → T → T)
+    (last_counts : (first second : Cell) (found : T) → floor second (floor first found) ≡ floor second found)
+    (start : T) (old : PagesState) (level : ℕ) (lead : Lead) (key : List ℕ) where
   -- all cells of the pages that were read are not above the key, and the last of them was seen
   pub record IsPassed (index : ℕ) (found : T) (cells : List Cell) : Type 0 where
     pub cell : Option Cell
@@ -22,12 +25,19 @@ module _ {T : Type 0} (floor after : Cell → T → T) (last_counts : (first sec
   Walks now index found = WalksTo old level lead now index (IsPassed index found)
 
   pub walks_start : Walks old 0 start
-  walks_start = begins old level lead (IsPassed 0 start) (λ cells. record { cell = None; walked = walk_start (is_not_above key) level lead cells; is = refl })
+  walks_start = begins old level lead (IsPassed 0 start) (λ cells. record {
+    cell = None;
+    walked = walk_start (is_not_above key) level lead cells;
+    is = refl;
+  })
 
   -- the search at its end
-  neighbours : (cells : List Cell) (below above : Option Cell) (passed found : T) → passed ≡ seen floor below start → found ≡ seen after above passed → Ends (is_not_above key) level lead cells below above → IsSeen floor after key start found cells
+  neighbours : (cells : List Cell) (below above : Option Cell) (passed found : T) → passed ≡ seen floor below start
+      → found ≡ seen after above passed → Ends (is_not_above key) level lead cells below above
+      → IsSeen floor after key start found cells
   neighbours cells below above passed found passed_is found_is e =
-      found_is ∙ ap (λ o. seen after o passed) e.after_is ∙ ap (seen after (after_of key cells)) (passed_is ∙ ap (λ o. seen floor o start) e.floor_is)
+      found_is ∙ ap (λ o. seen after o passed) e.after_is
+      ∙ ap (seen after (after_of key cells)) (passed_is ∙ ap (λ o. seen floor o start) e.floor_is)
 
   -- the last of the first so many cells of a page, or else the one before
   record Picks (page : Page) (count : ℕ) (last : Option Cell) (found : T) : Type 0 where
@@ -36,8 +46,15 @@ module _ {T : Type 0} (floor after : Cell → T → T) (last_counts : (first sec
     some : 0 < count → cell ≡ slice_get page.cells (count - 1)
     is : found ≡ seen floor cell start
 
-  picks : (page : Page) (count : ℕ) (last : Option Cell) (before found : T) → count ≤ length page.cells → before ≡ seen floor last start → (count ≡ 0 → found ≡ before) → (0 < count → found ≡ seen floor (slice_get page.cells (count - 1)) before) → Picks page count last found
-  picks page zero last before found within is none some = record { cell = last; none = λ e. refl; some = λ h. absurd (omega arith); is = none refl ∙ is }
+  picks : (page : Page) (count : ℕ) (last : Option Cell) (before found : T) → count ≤ length page.cells
+      → before ≡ seen floor last start → (count ≡ 0 → found ≡ before)
+      → (0 < count → found ≡ seen floor (slice_get page.cells (count - 1)) before) → Picks page count last found
+  picks page zero last before found within is none some = record {
+    cell = last;
+    none = λ e. refl;
+    some = λ h. absurd (omega arith);
+    is = none refl ∙ is;
+  }
   picks page (suc n) last before found within is none some =
       let at = some_at page.cells (suc n - 1) (omega arith) in
       record {
@@ -52,30 +69,53 @@ module _ {T : Type 0} (floor after : Cell → T → T) (last_counts : (first sec
       counts (Some first) second = last_counts first second start
 
   module _ (now next : PagesState) (index : ℕ) (before : T) (w : Walks now index before) where
-    pub search_fails : {S : Type 0} (fault : Fault) → IsPageGet now next (label_of level lead index) (Err fault) → IsGroupSearch {S = S} floor after old next level lead key start before (Err fault)
-    search_fails {S} fault get = breaks old level lead now next index (IsPassed index before) w (Err fault) fault (λ cells. Unit {0}) (λ cells. tt) (same_count (Option Page) S old.faults fault) get
+    pub search_fails : {S : Type 0} (fault : Fault) → IsPageGet now next (label_of level lead index) (Err fault)
+        → IsGroupSearch {S = S} floor after old next level lead key start before (Err fault)
+    search_fails {S} fault get = breaks old level lead now next index (IsPassed index before) w (Err fault) fault
+        (λ cells. Unit {0}) (λ cells. tt) (same_count (Option Page) S old.faults fault) get
 
-    pub search_ends : {S : Type 0} (done : S) → index < 4294967296 → IsPageGet now next (label_of level lead index) (Ok None) → IsGroupSearch floor after old next level lead key start before (Ok done)
+    pub search_ends : {S : Type 0} (done : S) → index < 4294967296
+        → IsPageGet now next (label_of level lead index) (Ok None)
+        → IsGroupSearch floor after old next level lead key start before (Ok done)
     search_ends done below get =
-        ends old level lead now next index (IsPassed index before) w None done (IsSeen floor after key start before) below get
-        (λ cells passed here. neighbours cells passed.cell None before before passed.is refl (walk_none (is_not_above key) level lead cells index passed.cell passed.walked here))
+        ends old level lead now next index (IsPassed index before) w None done
+        (IsSeen floor after key start before) below get
+        (λ cells passed here. neighbours cells passed.cell None before before passed.is refl
+        (walk_none (is_not_above key) level lead cells index passed.cell passed.walked here))
 
-    module _ (page : Page) (count : ℕ) (passing : T) (below : index < 4294967296) (get : IsPageGet now next (label_of level lead index) (Ok (Some page))) (counted : count ≡ prefix_len (is_not_above key) page.cells) (within : count ≤ length page.cells)
-        (none : count ≡ 0 → passing ≡ before) (some : 0 < count → passing ≡ seen floor (slice_get page.cells (count - 1)) before) where
-      pub search_stops : {S : Type 0} (done : S) (found : T) → (count < length page.cells) ⊎ (length page.cells < page_room level) → found ≡ seen after (slice_get page.cells count) passing → IsGroupSearch floor after old next level lead key start found (Ok done)
+    module _ (page : Page) (count : ℕ) (passing : T) (below : index < 4294967296)
+        (get : IsPageGet now next (label_of level lead index) (Ok (Some page)))
+        (counted : count ≡ prefix_len (is_not_above key) page.cells) (within : count ≤ length page.cells)
+        (none : count ≡ 0 → passing ≡ before) (some : 0 < count
+        → passing ≡ seen floor (slice_get page.cells (count - 1)) before) where
+      pub search_stops : {S : Type 0} (done : S) (found : T)
+          → (count < length page.cells) ⊎ (length page.cells < page_room level)
+          → found ≡ seen after (slice_get page.cells count) passing
+          → IsGroupSearch floor after old next level lead key start found (Ok done)
       search_stops done found end is =
-          ends old level lead now next index (IsPassed index before) w (Some page) done (IsSeen floor after key start found) below get
+          ends old level lead now next index (IsPassed index before) w (Some page) done
+          (IsSeen floor after key start found) below get
           (λ cells passed here.
           let p = picks page count passed.cell before passing within passed.is none some in
           neighbours cells p.cell (slice_get page.cells count) passing found p.is is
-          (walk_stop (is_not_above key) level lead cells index passed.cell p.cell (slice_get page.cells count) page count passed.walked here counted within end p.none p.some refl))
+          (walk_stop (is_not_above key) level lead cells index passed.cell p.cell (slice_get page.cells count) page
+          count passed.walked here counted within end p.none p.some refl))
 
-      pub search_goes_on : length page.cells ≤ count → page_room level ≤ length page.cells → Walks next (index + 1) passing
+      pub search_goes_on : length page.cells ≤ count → page_room level ≤ length page.cells
+          → Walks next (index + 1) passing
       search_goes_on all full =
-          goes_on old level lead now next index (IsPassed index before) w page (IsPassed (index + 1) passing) full below get
+          goes_on old level lead now next index (IsPassed index before) w page
+          (IsPassed (index + 1) passing) full below get
           (λ cells passed here.
           let p = picks page count passed.cell before passing within passed.is none some in
-          record { cell = p.cell; walked = walk_on (is_not_above key) level lead cells index passed.cell p.cell page count passed.walked here counted within all full p.none p.some; is = p.is })
+          record {
+            cell = p.cell;
+            walked = walk_on (is_not_above key) level lead cells index passed.cell p.cell page count
+                passed.walked here counted within all full p.none p.some;
+            is = p.is;
+          })
 
-  pub search_is_over : {S : Type 0} (done : S) (now : PagesState) (index : ℕ) (found : T) → Walks now index found → most_pages ≤ index → IsGroupSearch floor after old now level lead key start found (Ok done)
-  search_is_over done now index found w far = is_over old level lead now index (IsPassed index found) done (IsSeen floor after key start found) w far
+  pub search_is_over : {S : Type 0} (done : S) (now : PagesState) (index : ℕ) (found : T) → Walks now index found
+      → most_pages ≤ index → IsGroupSearch floor after old now level lead key start found (Ok done)
+  search_is_over done now index found w far =
+      is_over old level lead now index (IsPassed index found) done (IsSeen floor after key start found) w far

@@ -1,5 +1,6 @@
 -- A walk over the pages of one group, page after page, whatever is made of them.
-use Rattle.std.proofs.Common.{◌≡◌, ℕ, ◌+◌, ◌*◌, ◌<◌, ◌≤◌, List, length, Option, Some, Result, Ok, Err, refl, sym, ap, ◌∙◌, arith}
+use Rattle.std.proofs.Common.{◌≡◌, ℕ, ◌+◌, ◌*◌, ◌<◌, ◌≤◌, List, length, Option, Some, Result, Ok, Err, refl, sym, ap}
+use Rattle.std.proofs.Common.{◌∙◌, arith}
 use Rattle.std.specs.List.{slice_get}
 use Rattle.store_base.specs.declared.store_fault.Fault.{Fault}
 use Rattle.store_base.specs.Faults.{disk_faults_after}
@@ -13,7 +14,8 @@ use Rattle.skip_groups.proofs.GroupEnds.{full_page, cost_of_full, some_cells}
 use Rattle.store_base.specs.declared.store_fault.Fault.TheVariants.{Disk, NoMemory}
 
 -- a call that fails counts the same, whatever it would have answered
-pub same_count : (S T : Type 0) (count : ℕ) (f : Fault) → disk_faults_after {T = S} count (Err f) ≡ disk_faults_after {T = T} count (Err f)
+pub same_count : (S T : Type 0) (count : ℕ) (f : Fault)
+    → disk_faults_after {T = S} count (Err f) ≡ disk_faults_after {T = T} count (Err f)
 same_count S T count Disk = refl
 same_count S T count NoMemory = refl
 
@@ -42,17 +44,29 @@ module _ (old : PagesState) (level : ℕ) (lead : Lead) where
     faults = refl;
     lookups_kept = omega arith;
     hidden = λ o. o;
-    observed = λ o. record { observable = o; unchanged = refl; lookups = omega arith; full = λ cells holds. omega arith; seen = λ cells holds. seen cells };
+    observed = λ o. record {
+      observable = o;
+      unchanged = refl;
+      lookups = omega arith;
+      full = λ cells holds. omega arith;
+      seen = λ cells holds. seen cells;
+    };
   }
 
   module _ (now next : PagesState) (index : ℕ) (IsSeen : List Cell → Type 0) (w : WalksTo now index IsSeen) where
     -- what stands under the label
-    found_page : Passes now index IsSeen → (cells : List Cell) (page : Option Page) → HoldsGroup old.pages level lead cells → index < 4294967296 → page ≡ page_at now.pages (label_of level lead index) → slice_get (group_pages level lead cells) index ≡ page
-    found_page s cells page holds below is = sym (is ∙ ap (λ m. page_at m (label_of level lead index)) s.unchanged ∙ holds.each index below)
+    found_page : Passes now index IsSeen → (cells : List Cell) (page : Option Page)
+        → HoldsGroup old.pages level lead cells → index < 4294967296
+        → page ≡ page_at now.pages (label_of level lead index) → slice_get (group_pages level lead cells) index ≡ page
+    found_page s cells page holds below is =
+        sym (is ∙ ap (λ m. page_at m (label_of level lead index)) s.unchanged ∙ holds.each index below)
 
     -- one call more, at which the walk ends
-    ends_with : {T : Type 0} (given : Result (Option Page) Fault) (result : Result T Fault) (IsFound : List Cell → Type 0) → disk_faults_after old.faults given ≡ disk_faults_after old.faults result → IsPageGet now next (label_of level lead index) given
-        → (Passes now index IsSeen → GetsPage now next (label_of level lead index) given → (cells : List Cell) → HoldsGroup old.pages level lead cells → IsFound cells) → EndsWalk next result IsFound
+    ends_with : {T : Type 0} (given : Result (Option Page) Fault) (result : Result T Fault)
+        (IsFound : List Cell → Type 0) → disk_faults_after old.faults given ≡ disk_faults_after old.faults result
+        → IsPageGet now next (label_of level lead index) given
+        → (Passes now index IsSeen → GetsPage now next (label_of level lead index) given → (cells : List Cell)
+        → HoldsGroup old.pages level lead cells → IsFound cells) → EndsWalk next result IsFound
     ends_with given result IsFound same get found = record {
       faults = get.faults ∙ ap (λ n. disk_faults_after n given) w.faults ∙ same;
       lookups_kept = omega (arith, get.lookups_kept, w.lookups_kept);
@@ -61,23 +75,33 @@ module _ (old : PagesState) (level : ℕ) (lead : Lead) where
         observable = g.observable;
         unchanged = g.unchanged ∙ s.unchanged;
         found = λ cells holds few. found s g cells holds;
-        lookups = λ cells holds. omega (arith, get.lookups_most, s.lookups, cost_of_full level index cells (s.full cells holds));
+        lookups = λ cells holds.
+            omega (arith, get.lookups_most, s.lookups, cost_of_full level index cells (s.full cells holds));
       };
     }
 
     -- with a fault
-    pub breaks : {T : Type 0} (given : Result (Option Page) Fault) (fault : Fault) (IsFound : List Cell → Type 0) → ((cells : List Cell) → IsFound cells) → disk_faults_after old.faults given ≡ disk_faults_after {T = T} old.faults (Err fault)
+    pub breaks : {T : Type 0} (given : Result (Option Page) Fault) (fault : Fault) (IsFound : List Cell → Type 0)
+        → ((cells : List Cell) → IsFound cells)
+        → disk_faults_after old.faults given ≡ disk_faults_after {T = T} old.faults (Err fault)
         → IsPageGet now next (label_of level lead index) given → EndsWalk {T = T} next (Err fault) IsFound
-    breaks given fault IsFound found same get = ends_with given (Err fault) IsFound same get (λ s g cells holds. found cells)
+    breaks given fault IsFound found same get =
+        ends_with given (Err fault) IsFound same get (λ s g cells holds. found cells)
 
     -- with an answer
-    pub ends : {T : Type 0} (page : Option Page) (value : T) (IsFound : List Cell → Type 0) → index < 4294967296 → IsPageGet now next (label_of level lead index) (Ok page)
-        → ((cells : List Cell) → IsSeen cells → slice_get (group_pages level lead cells) index ≡ page → IsFound cells) → EndsWalk next (Ok value) IsFound
-    ends page value IsFound below get found = ends_with (Ok page) (Ok value) IsFound refl get (λ s g cells holds. found cells (s.seen cells holds) (found_page s cells page holds below g.found))
+    pub ends : {T : Type 0} (page : Option Page) (value : T) (IsFound : List Cell → Type 0) → index < 4294967296
+        → IsPageGet now next (label_of level lead index) (Ok page)
+        → ((cells : List Cell) → IsSeen cells → slice_get (group_pages level lead cells) index ≡ page → IsFound cells)
+        → EndsWalk next (Ok value) IsFound
+    ends page value IsFound below get found =
+        ends_with (Ok page) (Ok value) IsFound refl get
+        (λ s g cells holds. found cells (s.seen cells holds) (found_page s cells page holds below g.found))
 
     -- and where the page is full, the walk goes on
-    pub goes_on : (page : Page) (IsNext : List Cell → Type 0) → page_room level ≤ length page.cells → index < 4294967296 → IsPageGet now next (label_of level lead index) (Ok (Some page))
-        → ((cells : List Cell) → IsSeen cells → slice_get (group_pages level lead cells) index ≡ Some page → IsNext cells) → WalksTo next (index + 1) IsNext
+    pub goes_on : (page : Page) (IsNext : List Cell → Type 0) → page_room level ≤ length page.cells → index < 4294967296
+        → IsPageGet now next (label_of level lead index) (Ok (Some page))
+        → ((cells : List Cell) → IsSeen cells → slice_get (group_pages level lead cells) index ≡ Some page
+        → IsNext cells) → WalksTo next (index + 1) IsNext
     goes_on page IsNext whole below get seen = record {
       faults = get.faults ∙ w.faults;
       lookups_kept = omega (arith, get.lookups_kept, w.lookups_kept);
@@ -86,13 +110,15 @@ module _ (old : PagesState) (level : ℕ) (lead : Lead) where
         observable = g.observable;
         unchanged = g.unchanged ∙ s.unchanged;
         lookups = omega (arith, s.lookups, get.lookups_most);
-        full = λ cells holds. full_page level lead index cells page (found_page s cells (Some page) holds below g.found) whole (s.full cells holds);
+        full = λ cells holds. full_page level lead index cells page (found_page s cells (Some page) holds below g.found)
+            whole (s.full cells holds);
         seen = λ cells holds. seen cells (s.seen cells holds) (found_page s cells (Some page) holds below g.found);
       };
     }
 
   -- a group of fewer cells ends before
-  pub is_over : {T : Type 0} (now : PagesState) (index : ℕ) (IsSeen : List Cell → Type 0) (value : T) (IsFound : List Cell → Type 0) → WalksTo now index IsSeen → most_pages ≤ index → EndsWalk now (Ok value) IsFound
+  pub is_over : {T : Type 0} (now : PagesState) (index : ℕ) (IsSeen : List Cell → Type 0) (value : T)
+      (IsFound : List Cell → Type 0) → WalksTo now index IsSeen → most_pages ≤ index → EndsWalk now (Ok value) IsFound
   is_over now index IsSeen value IsFound w far = record {
     faults = w.faults;
     lookups_kept = w.lookups_kept;

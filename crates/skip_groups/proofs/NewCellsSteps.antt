@@ -1,5 +1,7 @@
 -- The cells of a key set in a group, read page after page: each step.
-use Rattle.std.proofs.Common.{◌≡◌, ◌⊎◌, inl, inr, ℕ, zero, suc, ◌+◌, ◌-◌, ◌<◌, ◌≤◌, ◌==◌, Bool, true, false, cond, List, [], ◌∷◌, ◌++◌, length, Some, IfSome, Less, Equal, Greater, refl, sym, ap, subst, ◌∙◌, append_assoc, arith}
+use Rattle.std.proofs.Common.{◌≡◌, ◌⊎◌, inl, inr, ℕ, zero, suc, ◌+◌, ◌-◌, ◌<◌, ◌≤◌, ◌==◌, Bool, true, false, cond, List}
+use Rattle.std.proofs.Common.{[], ◌∷◌, ◌++◌, length, Some, IfSome, Less, Equal, Greater, refl, sym, ap, subst, ◌∙◌}
+use Rattle.std.proofs.Common.{append_assoc, arith}
 use Rattle.std.specs.List.{slice_get}
 use Rattle.std.proofs.lemmas.List.{length-append, append-nil}
 use Rattle.std.proofs.lemmas.List.Elements.{filter-append}
@@ -23,11 +25,14 @@ use Rattle.skip_groups.proofs.CellLists.{front_cells}
 use Rattle.skip_groups.proofs.KeptPages.{lead_of_pages}
 
 -- the cells of one page more
-pub cells_push : (pages : List Page) (page : Page) → cells_gathered (pages ++ page ∷ []) ≡ cells_gathered pages ++ page.cells
-cells_push pages page = flat_map-append (λ (p : Page). p.cells) pages (page ∷ []) ∙ ap (λ xs. cells_gathered pages ++ xs) (append-nil page.cells)
+pub cells_push : (pages : List Page) (page : Page)
+    → cells_gathered (pages ++ page ∷ []) ≡ cells_gathered pages ++ page.cells
+cells_push pages page = flat_map-append (λ (p : Page). p.cells) pages (page ∷ [])
+    ∙ ap (λ xs. cells_gathered pages ++ xs) (append-nil page.cells)
 
 -- the page behind all others
-pub page_at_end : (pages : List Page) (page : Page) → slice_get (pages ++ page ∷ []) (length (pages ++ page ∷ []) - 1) ≡ Some page
+pub page_at_end : (pages : List Page) (page : Page)
+    → slice_get (pages ++ page ∷ []) (length (pages ++ page ∷ []) - 1) ≡ Some page
 page_at_end [] page = refl
 page_at_end (p ∷ []) page = refl
 page_at_end (p ∷ q ∷ pages) page =
@@ -50,16 +55,27 @@ some_run level cells some = omega (arith, length-runs level cells, one_run (leve
     one_run false count is = omega arith
 
 -- what is known behind a page where others gave way
-pub step_in : (level : ℕ) (lead : Lead) (page : Page) (made : NewCells) (step : Step) → 1 ≤ made.count → IsStepBehind level page step → IsStep level lead page made step
+pub step_in : (level : ℕ) (lead : Lead) (page : Page) (made : NewCells) (step : Step) → 1 ≤ made.count
+    → IsStepBehind level page step → IsStep level lead page made step
 step_in level lead page made More some h = h
 step_in level lead page made Done some h = (some, inl h)
 step_in level lead page made Same some h = absurd h
 
 module _ (level : ℕ) (lead : Lead) (key : List ℕ) (own : List Cell) where
   -- nothing is read
-  pub set_none : (next : declared.Lead) (cells : CellList) → leads.model_lead next ≡ lead → cells.cells ≡ [] → IsCellsSet level lead key own [] (record { next = next; kept = 0; count = 0; cells = cells })
+  pub set_none : (next : declared.Lead) (cells : CellList) → leads.model_lead next ≡ lead → cells.cells ≡ []
+      → IsCellsSet level lead key own [] (record { next = next; kept = 0; count = 0; cells = cells })
   unfolding last_of
-  set_none next cells leads none = record { stay = []; gone = []; parts = refl; kept_is = refl; count_is = refl; kept = tt; come = (leads, none); few = omega (arith, ap length none) }
+  set_none next cells leads none = record {
+    stay = [];
+    gone = [];
+    parts = refl;
+    kept_is = refl;
+    count_is = refl;
+    kept = tt;
+    come = (leads, none);
+    few = omega (arith, ap length none);
+  }
 
   module _ (pages : List Page) (page : Page) (old : NewCells) (h : IsCellsSet level lead key own pages old) where
     -- where no page gives way yet, all stay
@@ -74,8 +90,15 @@ module _ (level : ℕ) (lead : Lead) (key : List ℕ) (own : List Cell) where
     come_none none = subst (λ ps. ComeIn level lead key own h.stay ps old) (all_stay none).0 h.come
 
     -- one page more that stays
-    pub set_stays : old.count ≡ 0 → IsKept level key page → (next : declared.Lead) (last : List ℕ) → leads.model_lead next ≡ Leader last → 1 ≤ length page.cells → IfSome (slice_get page.cells (length page.cells - 1)) (λ c. c.key ≡ last)
-        → IsCellsSet level lead key own (pages ++ page ∷ []) (record { next = next; kept = old.kept + 1; count = old.count; cells = old.cells })
+    pub set_stays : old.count ≡ 0 → IsKept level key page → (next : declared.Lead) (last : List ℕ)
+        → leads.model_lead next ≡ Leader last → 1 ≤ length page.cells
+        → IfSome (slice_get page.cells (length page.cells - 1)) (λ c. c.key ≡ last)
+        → IsCellsSet level lead key own (pages ++ page ∷ []) (record {
+          next = next;
+          kept = old.kept + 1;
+          count = old.count;
+          cells = old.cells;
+        })
     set_stays none is next last leads some ends =
         let stay = h.stay ++ page ∷ [] in
         record {
@@ -90,9 +113,16 @@ module _ (level : ℕ) (lead : Lead) (key : List ℕ) (own : List Cell) where
         }
 
     -- the first one that gives way
-    pub set_begins : old.count ≡ 0 → IsFirstCell level key page → (next : declared.Lead) (cells : CellList) → length cells.cells ≤ length own + (length page.cells + length page.cells)
-        → (AreCells level (merged key page.cells own page.cells) → IsMerged (leads.model_lead old.next) key page.cells own page.cells (next, cells.cells))
-        → IsCellsSet level lead key own (pages ++ page ∷ []) (record { next = next; kept = old.kept; count = 1; cells = cells })
+    pub set_begins : old.count ≡ 0 → IsFirstCell level key page → (next : declared.Lead) (cells : CellList)
+        → length cells.cells ≤ length own + (length page.cells + length page.cells)
+        → (AreCells level (merged key page.cells own page.cells)
+        → IsMerged (leads.model_lead old.next) key page.cells own page.cells (next, cells.cells))
+        → IsCellsSet level lead key own (pages ++ page ∷ []) (record {
+          next = next;
+          kept = old.kept;
+          count = 1;
+          cells = cells;
+        })
     set_begins none is next cells few made = record {
       stay = h.stay;
       gone = page ∷ [];
@@ -100,17 +130,31 @@ module _ (level : ℕ) (lead : Lead) (key : List ℕ) (own : List Cell) where
       kept_is = h.kept_is;
       count_is = refl;
       kept = h.kept;
-      come = (is, λ valid. subst (λ l. IsMerged l key page.cells own (cells_gathered (page ∷ [])) (next, cells.cells)) (come_none none).0 (made_of_page valid));
+      come = (
+        is,
+        λ valid. subst (λ l. IsMerged l key page.cells own (cells_gathered (page ∷ [])) (next, cells.cells))
+            (come_none none).0 (made_of_page valid),
+      );
       few = omega (arith, few, ap length (append-nil page.cells));
     }
       where
-        made_of_page : AreCells level (merged key page.cells own (cells_gathered (page ∷ []))) → IsMerged (leads.model_lead old.next) key page.cells own (cells_gathered (page ∷ [])) (next, cells.cells)
-        made_of_page = subst (λ xs. AreCells level (merged key page.cells own xs) → IsMerged (leads.model_lead old.next) key page.cells own xs (next, cells.cells)) (sym (append-nil page.cells)) made
+        made_of_page : AreCells level (merged key page.cells own (cells_gathered (page ∷ [])))
+            → IsMerged (leads.model_lead old.next) key page.cells own (cells_gathered (page ∷ [])) (next, cells.cells)
+        made_of_page = subst (λ xs. AreCells level (merged key page.cells own xs)
+            → IsMerged (leads.model_lead old.next) key page.cells own xs (next, cells.cells))
+            (sym (append-nil page.cells)) made
 
     -- one more behind it
-    pub set_goes_on : 1 ≤ old.count → (cells : CellList) → length cells.cells ≤ length old.cells.cells + length page.cells
-        → (AreCells level (old.cells.cells ++ side Greater key page.cells) → cells.cells ≡ old.cells.cells ++ side Greater key page.cells)
-        → IsCellsSet level lead key own (pages ++ page ∷ []) (record { next = old.next; kept = old.kept; count = old.count + 1; cells = cells })
+    pub set_goes_on : 1 ≤ old.count → (cells : CellList)
+        → length cells.cells ≤ length old.cells.cells + length page.cells
+        → (AreCells level (old.cells.cells ++ side Greater key page.cells)
+        → cells.cells ≡ old.cells.cells ++ side Greater key page.cells)
+        → IsCellsSet level lead key own (pages ++ page ∷ []) (record {
+          next = old.next;
+          kept = old.kept;
+          count = old.count + 1;
+          cells = cells;
+        })
     set_goes_on some cells few added = record {
       stay = h.stay;
       gone = h.gone ++ page ∷ [];
@@ -119,11 +163,22 @@ module _ (level : ℕ) (lead : Lead) (key : List ℕ) (own : List Cell) where
       count_is = omega (arith, h.count_is, length-append h.gone (page ∷ []));
       kept = h.kept;
       come = by_gone h.gone h.come (omega (arith, some, h.count_is));
-      few = omega (arith, few, h.few, ap length (cells_push h.gone page), length-append (cells_gathered h.gone) page.cells);
+      few = omega (
+        arith,
+        few,
+        h.few,
+        ap length (cells_push h.gone page),
+        length-append (cells_gathered h.gone) page.cells,
+      );
     }
       where
         by_gone : (gone : List Page) → ComeIn level lead key own h.stay gone old → 1 ≤ length gone
-            → ComeIn level lead key own h.stay (gone ++ page ∷ []) (record { next = old.next; kept = old.kept; count = old.count + 1; cells = cells })
+            → ComeIn level lead key own h.stay (gone ++ page ∷ []) (record {
+              next = old.next;
+              kept = old.kept;
+              count = old.count + 1;
+              cells = cells;
+            })
         by_gone [] come has = absurd (omega arith)
         by_gone (first ∷ rest) come has = (
           come.0,
@@ -131,13 +186,16 @@ module _ (level : ℕ) (lead : Lead) (key : List ℕ) (own : List Cell) where
               let lows = side Less key first.cells ++ side Equal key own in
               let here = cells_gathered (first ∷ rest) in
               let more = side Greater key page.cells in
-              let parts : merged key first.cells own (cells_gathered (first ∷ rest ++ page ∷ [])) ≡ merged key first.cells own here ++ more =
-              ap (λ xs. lows ++ side Greater key xs) (cells_push (first ∷ rest) page) ∙ ap (λ xs. lows ++ xs) (filter-append (compares Greater key) here page.cells)
+              let parts : merged key first.cells own (cells_gathered (first ∷ rest ++ page ∷ []))
+              ≡ merged key first.cells own here ++ more =
+              ap (λ xs. lows ++ side Greater key xs) (cells_push (first ∷ rest) page)
+              ∙ ap (λ xs. lows ++ xs) (filter-append (compares Greater key) here page.cells)
               ∙ sym (append_assoc lows (side Greater key here) more) in
               let all : AreCells level (merged key first.cells own here ++ more) = subst (AreCells level) parts valid in
               let made = come.1 (front_cells level (merged key first.cells own here) more all) in
               record {
                 next = made.next;
-                cells = added (subst (λ xs. AreCells level (xs ++ more)) (sym made.cells) all) ∙ ap (λ xs. xs ++ more) made.cells ∙ sym parts;
+                cells = added (subst (λ xs. AreCells level (xs ++ more)) (sym made.cells) all)
+                    ∙ ap (λ xs. xs ++ more) made.cells ∙ sym parts;
               },
         )

@@ -1,5 +1,6 @@
 -- The pages of a group read to part its cells by a key.
-use Rattle.std.proofs.Common.{◌≡◌, ℕ, ◌+◌, ◌<◌, ◌≤◌, List, [], ◌∷◌, ◌++◌, length, take, Option, Some, None, Ok, Err, refl, sym, ap, subst, arith}
+use Rattle.std.proofs.Common.{◌≡◌, ℕ, ◌+◌, ◌<◌, ◌≤◌, List, [], ◌∷◌, ◌++◌, length, take, Option, Some, None, Ok, Err}
+use Rattle.std.proofs.Common.{refl, sym, ap, subst, arith}
 use Rattle.std.specs.List.{slice_get}
 use Rattle.std.proofs.lemmas.List.{length-drop, take_all}
 use Rattle.store_base.specs.declared.store_fault.Fault.{Fault}
@@ -34,32 +35,57 @@ module _ (old : PagesState) (level : ℕ) (lead : Lead) (key : List ℕ) (start 
   pub parts_none : (made : NewCells) → IsParted level lead key [] start made start → ArePartedTo old 0 made start
   parts_none made h = begins old level lead (Parts made start 0) (λ cells. h)
 
-  module _ (now next : PagesState) (index : ℕ) (made : NewCells) (above : List Cell) (w : ArePartedTo now index made above) where
-    pub parting_fails : (other : NewCells) (others : List Cell) (fault : Fault) → IsPageGet now next (label_of level lead index) (Err fault) → IsGroupParted {T = Unit {0}} old next level lead key start other others (Err fault)
-    parting_fails other others fault get = breaks old level lead now next index (Parts made above index) w (Err fault) fault (λ cells. Unit {0}) (λ cells. tt) (same_count (Option Page) (Unit {0}) old.faults fault) get
+  module _ (now next : PagesState) (index : ℕ) (made : NewCells) (above : List Cell)
+      (w : ArePartedTo now index made above) where
+    pub parting_fails : (other : NewCells) (others : List Cell) (fault : Fault)
+        → IsPageGet now next (label_of level lead index) (Err fault)
+        → IsGroupParted {T = Unit {0}} old next level lead key start other others (Err fault)
+    parting_fails other others fault get =
+        breaks old level lead now next index (Parts made above index) w (Err fault) fault (λ cells. Unit {0})
+        (λ cells. tt) (same_count (Option Page) (Unit {0}) old.faults fault) get
 
     -- memory ran out for what was found
-    pub parting_lacks_memory : (other : NewCells) (others : List Cell) (page : Option Page) → IsPageGet now next (label_of level lead index) (Ok page) → IsGroupParted {T = Unit {0}} old next level lead key start other others (Err NoMemory)
-    parting_lacks_memory other others page get = breaks old level lead now next index (Parts made above index) w (Ok page) NoMemory (λ cells. Unit {0}) (λ cells. tt) refl get
+    pub parting_lacks_memory : (other : NewCells) (others : List Cell) (page : Option Page)
+        → IsPageGet now next (label_of level lead index) (Ok page)
+        → IsGroupParted {T = Unit {0}} old next level lead key start other others (Err NoMemory)
+    parting_lacks_memory other others page get =
+        breaks old level lead now next index (Parts made above index) w (Ok page) NoMemory
+        (λ cells. Unit {0}) (λ cells. tt) refl get
 
     -- there is no further page
-    pub parting_ends : index < 4294967296 → IsPageGet now next (label_of level lead index) (Ok None) → IsGroupParted old next level lead key start made above (Ok (tt {0}))
+    pub parting_ends : index < 4294967296 → IsPageGet now next (label_of level lead index) (Ok None)
+        → IsGroupParted old next level lead key start made above (Ok (tt {0}))
     parting_ends below get =
         ends old level lead now next index (Parts made above index) w None (tt {0}) (Whole made above) below get
-        (λ cells parted none. subst (λ ps. IsParted level lead key ps start made above) (past_end index (group_pages level lead cells) none) parted)
+        (λ cells parted none. subst (λ ps. IsParted level lead key ps start made above)
+        (past_end index (group_pages level lead cells) none) parted)
 
     -- a page was taken in
-    module _ (page : Page) (other : NewCells) (others : List Cell) (part : (pages : List Page) → IsParted level lead key pages start made above → IsParted level lead key (pages ++ page ∷ []) start other others) (below : index < 4294967296) (get : IsPageGet now next (label_of level lead index) (Ok (Some page))) where
-      with_page : (cells : List Cell) → Parts made above index cells → slice_get (group_pages level lead cells) index ≡ Some page → Parts other others (index + 1) cells
-      with_page cells parted there = subst (λ ps. IsParted level lead key ps start other others) (sym (take_next (group_pages level lead cells) index page there)) (part (take index (group_pages level lead cells)) parted)
+    module _ (page : Page) (other : NewCells) (others : List Cell)
+        (part : (pages : List Page) → IsParted level lead key pages start made above
+        → IsParted level lead key (pages ++ page ∷ []) start other others) (below : index < 4294967296)
+        (get : IsPageGet now next (label_of level lead index) (Ok (Some page))) where
+      with_page : (cells : List Cell) → Parts made above index cells
+          → slice_get (group_pages level lead cells) index ≡ Some page → Parts other others (index + 1) cells
+      with_page cells parted there = subst (λ ps. IsParted level lead key ps start other others)
+          (sym (take_next (group_pages level lead cells) index page there))
+          (part (take index (group_pages level lead cells)) parted)
 
       pub parting_goes_on : page_room level ≤ length page.cells → ArePartedTo next (index + 1) other others
-      parting_goes_on full = goes_on old level lead now next index (Parts made above index) w page (Parts other others (index + 1)) full below get with_page
+      parting_goes_on full = goes_on old level lead now next index (Parts made above index) w page
+          (Parts other others (index + 1)) full below get with_page
 
-      pub parting_stops_short : length page.cells < page_room level → IsGroupParted old next level lead key start other others (Ok (tt {0}))
+      pub parting_stops_short : length page.cells < page_room level
+          → IsGroupParted old next level lead key start other others (Ok (tt {0}))
       parting_stops_short short =
-          ends old level lead now next index (Parts made above index) w (Some page) (tt {0}) (Whole other others) below get
-          (λ cells parted there. subst (λ ps. IsParted level lead key ps start other others) (past_end (index + 1) (group_pages level lead cells) (last_page level lead index cells page there short)) (with_page cells parted there))
+          ends old level lead now next index (Parts made above index) w (Some page) (tt {0})
+          (Whole other others) below get
+          (λ cells parted there. subst (λ ps. IsParted level lead key ps start other others)
+          (past_end (index + 1) (group_pages level lead cells) (last_page level lead index cells page there short))
+          (with_page cells parted there))
 
-  pub parting_is_over : (now : PagesState) (index : ℕ) (made : NewCells) (above : List Cell) → ArePartedTo now index made above → most_pages ≤ index → IsGroupParted old now level lead key start made above (Ok (tt {0}))
-  parting_is_over now index made above w far = is_over old level lead now index (Parts made above index) (tt {0}) (Whole made above) w far
+  pub parting_is_over : (now : PagesState) (index : ℕ) (made : NewCells) (above : List Cell)
+      → ArePartedTo now index made above → most_pages ≤ index
+      → IsGroupParted old now level lead key start made above (Ok (tt {0}))
+  parting_is_over now index made above w far =
+      is_over old level lead now index (Parts made above index) (tt {0}) (Whole made above) w far

@@ -1,5 +1,6 @@
 -- So many pages of a group changed to those of a list of cells, one after another.
-use Rattle.std.proofs.Common.{◌≡◌, ℕ, zero, suc, ◌+◌, ◌-◌, ◌*◌, ◌<◌, ◌≤◌, List, [], ◌∷◌, ◌++◌, length, take, drop, Bool, true, false, cond, Some, Result, Ok, Err, OnOk, OnErr, refl, sym, ap, subst, ◌∙◌, arith}
+use Rattle.std.proofs.Common.{◌≡◌, ℕ, zero, suc, ◌+◌, ◌-◌, ◌*◌, ◌<◌, ◌≤◌, List, [], ◌∷◌, ◌++◌, length, take, drop, Bool}
+use Rattle.std.proofs.Common.{true, false, cond, Some, Result, Ok, Err, OnOk, OnErr, refl, sym, ap, subst, ◌∙◌, arith}
 use Rattle.std.specs.List.{slice_get}
 use Rattle.std.specs.FinMap.{len, len-remove, contains_key}
 use Rattle.std.specs.Cmp.Lexicographic.{nat_list_cmp_total}
@@ -34,7 +35,8 @@ either_result (Ok value) f g a b = f a
 either_result (Err fault) f g a b = g b
 
 len-without_page : (m : PageMap) (l : Label) → len (without_page m l) ≤ len m
-len-without_page m l = subst (λ n. n ≤ len m) (sym (len-remove nat_list_cmp_total m (label_bytes l))) (by_test (contains_key m (label_bytes l)))
+len-without_page m l = subst (λ n. n ≤ len m) (sym (len-remove nat_list_cmp_total m (label_bytes l)))
+    (by_test (contains_key m (label_bytes l)))
   where
     by_test : (b : Bool) → cond b (len m - 1) (len m) ≤ len m
     by_test true = omega arith
@@ -52,16 +54,21 @@ module _ (old : PagesState) (lead : Lead) (first count : ℕ) (list : CellList) 
       room = omega arith;
       changed = λ olds news front back run change is.
           let here : first ≡ first + 0 = omega arith in
-          is ∙ ap (λ ps. map_of_pages (front ++ (ps ++ back))) (sym run.start ∙ ap (λ n. changed_pages n olds news) here);
+          is ∙ ap (λ ps. map_of_pages (front ++ (ps ++ back)))
+          (sym run.start ∙ ap (λ n. changed_pages n olds news) here);
     };
   }
 
   -- one more is
-  module _ (now new : PagesState) (i : ℕ) (h : IsRunChange {T = Unit {0}} old now lead first count list i (Ok (tt {0}))) (below : first + i < 4294967296) where
-    pub run_puts : {T : Type 0} (result : Result T Fault) → i < length (runs (page_room list.level) list.cells) → IsPagePut now new (page_of_run list.level lead (first + i) (take (page_room list.level) (drop (page_room list.level * i) list.cells))) result
+  module _ (now new : PagesState) (i : ℕ) (h : IsRunChange {T = Unit {0}} old now lead first count list i (Ok (tt {0})))
+      (below : first + i < 4294967296) where
+    pub run_puts : {T : Type 0} (result : Result T Fault) → i < length (runs (page_room list.level) list.cells)
+        → IsPagePut now new (page_of_run list.level lead (first + i)
+        (take (page_room list.level) (drop (page_room list.level * i) list.cells))) result
         → IsRunChange old new lead first count list (i + 1) result
     run_puts result within put =
-        let page = page_of_run list.level lead (first + i) (take (page_room list.level) (drop (page_room list.level * i) list.cells)) in
+        let page = page_of_run list.level lead (first + i)
+        (take (page_room list.level) (drop (page_room list.level * i) list.cells)) in
         let further : first + i + 1 ≡ first + (i + 1) = omega arith in
         record {
           faults = put.faults ∙ ap (λ n. disk_faults_after n result) h.faults;
@@ -69,15 +76,26 @@ module _ (old : PagesState) (lead : Lead) (first count : ℕ) (list : CellList) 
           hidden = λ o. h.hidden (put.hidden o);
           observed = λ o. let s = h.observed o in record {
             observable = (put.observed s.observable).observable;
-            room = let p = put.observed s.observable in either_result result (λ changed. let l = len-with_page now.pages page in omega (arith, ap len changed, s.room)) (λ kept. omega (arith, ap len kept, s.room)) p.changed p.unchanged;
+            room = let p = put.observed s.observable
+                in either_result result (λ changed. let l = len-with_page now.pages page
+                in omega (arith, ap len changed, s.room))
+                (λ kept. omega (arith, ap len kept, s.room)) p.changed p.unchanged;
             changed = λ olds news front back run change is.
-                let there = run.put i page (page_at list.level lead first i list.cells (run_within list.level i list.cells within)) in
-                subst (λ n. OnOk result (new.pages ≡ map_of_pages (front ++ (changed_pages n olds news ++ back)))) further
-                (where_ok result (λ changed. changed ∙ ap (λ m. with_page m page) (s.changed olds news front back run change is) ∙ page_put list.level lead front back olds news change (first + i) below page there) (put.observed s.observable).changed);
+                let there =
+                run.put i page (page_at list.level lead first i
+                list.cells (run_within list.level i list.cells within)) in
+                subst (λ n. OnOk result (new.pages ≡ map_of_pages (front ++ (changed_pages n olds news ++ back))))
+                further
+                (where_ok result (λ changed. changed
+                ∙ ap (λ m. with_page m page) (s.changed olds news front back run change is)
+                ∙ page_put list.level lead front back olds news change (first + i) below page there)
+                (put.observed s.observable).changed);
           };
         }
 
-    pub run_drops : {T : Type 0} (result : Result T Fault) (l : Label) → l ≡ label_of list.level lead (first + i) → length (runs (page_room list.level) list.cells) ≤ i → i < count → IsPageDrop now new l result → IsRunChange old new lead first count list (i + 1) result
+    pub run_drops : {T : Type 0} (result : Result T Fault) (l : Label) → l ≡ label_of list.level lead (first + i)
+        → length (runs (page_room list.level) list.cells) ≤ i → i < count → IsPageDrop now new l result
+        → IsRunChange old new lead first count list (i + 1) result
     run_drops result l label past within dropped =
         let further : first + i + 1 ≡ first + (i + 1) = omega arith in
         record {
@@ -86,13 +104,23 @@ module _ (old : PagesState) (lead : Lead) (first count : ℕ) (list : CellList) 
           hidden = λ o. h.hidden (dropped.hidden o);
           observed = λ o. let s = h.observed o in record {
             observable = (dropped.observed s.observable).observable;
-            room = let p = dropped.observed s.observable in either_result result (λ changed. let m = len-without_page now.pages l in omega (arith, ap len changed, s.room)) (λ kept. omega (arith, ap len kept, s.room)) p.changed p.unchanged;
+            room = let p = dropped.observed s.observable
+                in either_result result (λ changed. let m = len-without_page now.pages l
+                in omega (arith, ap len changed, s.room))
+                (λ kept. omega (arith, ap len kept, s.room)) p.changed p.unchanged;
             changed = λ olds news front back run change is.
                 let there = page_there olds (first + i) (omega (arith, run.within)) in
-                let labelled : l ≡ there.0.label = label ∙ sym (label_at list.level lead 0 (first + i) olds there.0 change.old_pages.numbered there.1 ∙ ap (label_of list.level lead) from_0) in
-                subst (λ n. OnOk result (new.pages ≡ map_of_pages (front ++ (changed_pages n olds news ++ back)))) further
-                (where_ok result (λ changed. changed ∙ ap (λ k. without_page now.pages k) labelled ∙ ap (λ m. without_page m there.0.label) (s.changed olds news front back run change is)
-                ∙ page_dropped list.level lead front back olds news change (first + i) below there.0 (run.dropped i (omega (arith, past, length-pages_from list.level lead first list.cells)) within) there.1) (dropped.observed s.observable).changed);
+                let labelled : l ≡ there.0.label = label
+                ∙ sym (label_at list.level lead 0 (first + i) olds there.0 change.old_pages.numbered there.1
+                ∙ ap (label_of list.level lead) from_0) in
+                subst (λ n. OnOk result (new.pages ≡ map_of_pages (front ++ (changed_pages n olds news ++ back))))
+                further
+                (where_ok result (λ changed. changed ∙ ap (λ k. without_page now.pages k) labelled
+                ∙ ap (λ m. without_page m there.0.label) (s.changed olds news front back run change is)
+                ∙ page_dropped list.level lead front back olds news change
+                (first + i) below there.0 (run.dropped i
+                (omega (arith, past, length-pages_from list.level lead first list.cells)) within) there.1)
+                (dropped.observed s.observable).changed);
           };
         }
       where
@@ -105,17 +133,26 @@ module _ (old : PagesState) (lead : Lead) (first count : ℕ) (list : CellList) 
         page_there (p ∷ ps) (suc n) far = page_there ps n (omega arith)
 
   -- a fault ends it
-  pub run_fails : {A B : Type 0} (new : PagesState) (past all : ℕ) (fault : Fault) → past ≤ all → IsRunChange {T = A} old new lead first count list past (Err fault) → IsRunChange {T = B} old new lead first count list all (Err fault)
+  pub run_fails : {A B : Type 0} (new : PagesState) (past all : ℕ) (fault : Fault) → past ≤ all
+      → IsRunChange {T = A} old new lead first count list past (Err fault)
+      → IsRunChange {T = B} old new lead first count list all (Err fault)
   run_fails {A} {B} new past all fault within h = record {
     faults = h.faults ∙ same_count A B old.faults fault;
     lookups = h.lookups;
     hidden = h.hidden;
-    observed = λ o. let s = h.observed o in record { observable = s.observable; room = omega (arith, s.room); changed = λ olds news front back run change is. tt };
+    observed = λ o. let s = h.observed o in record {
+      observable = s.observable;
+      room = omega (arith, s.room);
+      changed = λ olds news front back run change is. tt;
+    };
   }
 
 -- a page of the group is put with one cell more
-pub run_inserts : {T : Type 0} (old new : PagesState) (level : ℕ) (lead : Lead) (first : ℕ) (page : Page) (at : ℕ) (cell : Cell) (l : Label) (result : Result T Fault) → first < 4294967296 → length page.cells < page_room level
-    → (IsObservable old → IsPageMap old.pages) → (IsObservable old → maps.page_at old.pages (label_of level lead first) ≡ Some page) → l ≡ label_of level lead first → IsCellInsert old new l at cell result
+pub run_inserts : {T : Type 0} (old new : PagesState) (level : ℕ) (lead : Lead) (first : ℕ) (page : Page) (at : ℕ)
+    (cell : Cell) (l : Label) (result : Result T Fault) → first < 4294967296 → length page.cells < page_room level
+    → (IsObservable old → IsPageMap old.pages)
+    → (IsObservable old → maps.page_at old.pages (label_of level lead first) ≡ Some page)
+    → l ≡ label_of level lead first → IsCellInsert old new l at cell result
     → IsRunChange old new lead first 1 (record { level = level; cells = (with_cell page at cell).cells }) 1 result
 run_inserts old new level lead first page at cell l result below room map found label_is insert = record {
   faults = insert.faults;
@@ -125,23 +162,41 @@ run_inserts old new level lead first page at cell l result below room map found 
       let put = insert.observed o page (ap (maps.page_at old.pages) label_is ∙ found o) in
       record {
         observable = put.observable;
-        room = let n = len-with_page old.pages (with_cell page at cell) in either_result result (λ changed. omega (arith, ap len changed, n)) (λ kept. omega (arith, ap len kept)) put.changed put.unchanged;
+        room = let n = len-with_page old.pages (with_cell page at cell)
+            in either_result result (λ changed. omega (arith, ap len changed, n))
+            (λ kept. omega (arith, ap len kept)) put.changed put.unchanged;
         changed = λ olds news front back run change is.
             let under = map o (label_bytes (label_of level lead first)) page (found o) in
-            let labelled : label_of level lead first ≡ page.label = labels_same (label_of level lead first) page.label (record { level = change.low; lead = change.led; index = below }) under.valid.label under.under in
+            let labelled : label_of level lead first ≡ page.label =
+            labels_same (label_of level lead first) page.label (record {
+              level = change.low;
+              lead = change.led;
+              index = below;
+            }) under.valid.label under.under in
             let there = run.put 0 (with_cell page at cell) (pages_are (sym labelled)) in
             let here : first + 0 ≡ first = omega arith in
-            where_ok result (λ changed. changed ∙ ap (λ m. with_page m (with_cell page at cell)) (is ∙ ap (λ ps. map_of_pages (front ++ (ps ++ back))) (sym run.start))
-            ∙ page_put level lead front back olds news change first below (with_cell page at cell) (ap (slice_get news) (sym here) ∙ there)) put.changed;
+            where_ok result (λ changed. changed ∙ ap (λ m. with_page m (with_cell page at cell))
+            (is ∙ ap (λ ps. map_of_pages (front ++ (ps ++ back))) (sym run.start))
+            ∙ page_put level lead front back olds news change first below (with_cell page at cell)
+            (ap (slice_get news) (sym here) ∙ there)) put.changed;
       };
 }
   where
     longer : length (with_cell page at cell).cells ≡ length page.cells + 1
-    longer = omega (arith, length-append (take at page.cells) (cell ∷ drop at page.cells), length-append (take at page.cells) (drop at page.cells), ap length (take-append-drop at page.cells))
+    longer = omega (
+      arith,
+      length-append (take at page.cells)
+          (cell ∷ drop at page.cells),
+      length-append (take at page.cells) (drop at page.cells),
+      ap length
+          (take-append-drop at page.cells),
+    )
 
-    pages_are : page.label ≡ label_of level lead first → slice_get (pages_from level lead first (with_cell page at cell).cells) 0 ≡ Some (with_cell page at cell)
+    pages_are : page.label ≡ label_of level lead first
+        → slice_get (pages_from level lead first (with_cell page at cell).cells) 0 ≡ Some (with_cell page at cell)
     pages_are labelled =
         let cells = (with_cell page at cell).cells in
         ap (λ ps. slice_get ps 0) (next_page level lead first cells (omega (arith, longer)))
-        ∙ ap (λ run. Some (page_of_run level lead first run)) (take_all (page_room level) cells (omega (arith, longer, room)))
+        ∙ ap (λ run. Some (page_of_run level lead first run))
+        (take_all (page_room level) cells (omega (arith, longer, room)))
         ∙ ap (λ k. Some (record { label = k; cells = cells })) (sym labelled)

@@ -1,5 +1,6 @@
 -- The cells of one group, and what a change of one key makes of them.
-use Rattle.std.specs.Prelude.{◌≡◌, ◌⊎◌, ℕ, ◌<◌, ◌≤◌, List, [], ◌∷◌, ◌++◌, map, filter, length, take, drop, Bool, true, Option, Some, None, ◌==◌}
+use Rattle.std.specs.Prelude.{◌≡◌, ◌⊎◌, ℕ, ◌<◌, ◌≤◌, List, [], ◌∷◌, ◌++◌, map, filter, length, take, drop, Bool, true}
+use Rattle.std.specs.Prelude.{Option, Some, None, ◌==◌}
 use Rattle.std.specs.List.{AllByRecursion}
 use Rattle.std.specs.List.Sorted.{IsStrictlySortedBy}
 use Rattle.std.specs.Option.{option_map}
@@ -46,7 +47,8 @@ abbrev pub merged : List ℕ → List Cell → List Cell → List Cell → List 
 merged key low own high = (side Less key low ++ side Equal key own) ++ side Greater key high
 
 -- what leads the next lower group of a search path, and the cells with those of the key
-pub record IsMerged (lead : Lead) (key : List ℕ) (low own high : List Cell) (made : declared.Lead × List Cell) : Type 0 where
+pub record IsMerged (lead : Lead) (key : List ℕ) (low own high : List Cell)
+    (made : declared.Lead × List Cell) : Type 0 where
   pub next : leads.model_lead made.0 ≡ lead_from (last_of (side Less key low)) lead
   pub cells : made.1 ≡ merged key low own high
 

@@ -14,9 +14,10 @@ use Rattle.skip_groups.specs.GroupCells.{AreCells, IsKept, side}
 use Rattle.skip_groups.specs.NewCells.{cells_gathered}
 use Rattle.skip_groups.specs.Searches.{IsGroupWalk}
 
--- So many first pages of a group in two parts: those that stay, and those that give way. The cells of these that are below the key come in
--- their place, and those above it come behind others.
-pub record IsParted (level : ℕ) (lead : Lead) (key : List ℕ) (pages : List Page) (start : List Cell) (made : NewCells) (above : List Cell) : Type 0 where
+-- So many first pages of a group in two parts: those that stay, and those that give way. The cells of these that are
+-- below the key come in their place, and those above it come behind others.
+pub record IsParted (level : ℕ) (lead : Lead) (key : List ℕ) (pages : List Page) (start : List Cell) (made : NewCells)
+    (above : List Cell) : Type 0 where
   pub stay : List Page
   pub gone : List Page
   pub parts : pages ≡ stay ++ gone
@@ -24,14 +25,19 @@ pub record IsParted (level : ℕ) (lead : Lead) (key : List ℕ) (pages : List P
   pub count_is : made.count ≡ length gone
   pub kept : AllByRecursion (IsKept level key) stay
   pub next : leads.model_lead made.next ≡ lead_from (last_of (cells_gathered stay)) lead
-  pub low : AreCells level (side Less key (cells_gathered gone)) → made.cells.cells ≡ side Less key (cells_gathered gone)
-  pub high : AreCells level (start ++ side Greater key (cells_gathered gone)) → above ≡ start ++ side Greater key (cells_gathered gone)
+  pub low : AreCells level (side Less key (cells_gathered gone))
+      → made.cells.cells ≡ side Less key (cells_gathered gone)
+  pub high : AreCells level (start ++ side Greater key (cells_gathered gone))
+      → above ≡ start ++ side Greater key (cells_gathered gone)
   pub few_low : length made.cells.cells ≤ length (cells_gathered gone)
   pub few_high : length above ≤ length start + length (cells_gathered gone)
 
 -- reading all pages of the group that the lead leads on the level, to part its cells by the key
-abbrev pub IsGroupParted : {T : Type 0} (old new : PagesState) (level : ℕ) (lead : Lead) (key : List ℕ) (start : List Cell) (made : NewCells) (above : List Cell) (result : Result T Fault) → Type 0
-IsGroupParted old new level lead key start made above result = IsGroupWalk old new level lead (λ cells. OnOk result (IsParted level lead key (group_pages level lead cells) start made above)) result
+abbrev pub IsGroupParted : {T : Type 0} (old new : PagesState) (level : ℕ) (lead : Lead) (key : List ℕ)
+    (start : List Cell) (made : NewCells) (above : List Cell) (result : Result T Fault) → Type 0
+IsGroupParted old new level lead key start made above result =
+    IsGroupWalk old new level lead
+    (λ cells. OnOk result (IsParted level lead key (group_pages level lead cells) start made above)) result
 
 -- how many pages are changed from the first one on that gives way
 abbrev pub run_past : NewCells → ℕ

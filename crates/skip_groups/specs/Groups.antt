@@ -19,10 +19,11 @@ pub record IsNumbered (level : ℕ) (lead : Lead) (pages : List Page) : Type 0 w
   pub numbered : AreNumbered level lead 0 pages
   pub valid : AllByRecursion IsPage pages
 
--- The map has the pages of these cells as the group that the lead leads on the level, and no other page of that group. A
--- group of no cell is not there.
+-- The map has the pages of these cells as the group that the lead leads on the level, and no other page of that
+-- group. A group of no cell is not there.
 pub record HoldsGroup (m : PageMap) (level : ℕ) (lead : Lead) (cells : List Cell) : Type 0 where
-  pub each : (index : ℕ) → index < 4294967296 → page_at m (label_of level lead index) ≡ slice_get (group_pages level lead cells) index
+  pub each : (index : ℕ) → index < 4294967296
+      → page_at m (label_of level lead index) ≡ slice_get (group_pages level lead cells) index
 
 -- what reading a group costs: a lookup for each full page, and one that finds a page with room, or none
 abbrev pub group_cost : ℕ → List Cell → ℕ

@@ -23,18 +23,28 @@ pub record IsInsertPlace (level : ℕ) (key : List ℕ) (own : List Cell) (page 
 
 -- the cells of a page with one more come in the place of those of that page, behind the pages that stay
 abbrev pub with_place : NewCells → Page → ℕ → Cell → NewCells
-with_place made page at cell = record { next = made.next; kept = made.kept; count = 1; cells = record { level = made.cells.level; cells = (with_cell page at cell).cells } }
+with_place made page at cell = record {
+  next = made.next;
+  kept = made.kept;
+  count = 1;
+  cells = record { level = made.cells.level; cells = (with_cell page at cell).cells };
+}
 
 -- a group read up to the page behind those that stay, which takes the key's cell
-pub record IsPlaceRead {T : Type 0} (old new : PagesState) (level : ℕ) (lead : Lead) (key : List ℕ) (own : List Cell) (made : NewCells) (at : ℕ) (result : Result T Fault) : Type 0 where
+pub record IsPlaceRead {T : Type 0} (old new : PagesState) (level : ℕ) (lead : Lead) (key : List ℕ) (own : List Cell)
+    (made : NewCells) (at : ℕ) (result : Result T Fault) : Type 0 where
   pub page : Page
   pub place : IsInsertPlace level key own page at
   pub found : IsObservable new → page_at new.pages (label_of level lead made.kept) ≡ Some page
   pub read : IsNewCellsRead old new level lead key own (with_place made page at place.cell) result
 
--- Reading the pages of the group that the lead leads on the level, for the cells of a key that are set there. The answer is the place of the
--- key's cell in one page, where that page takes it.
-abbrev pub IsSetRead : (old new : PagesState) (level : ℕ) (lead : Lead) (key : List ℕ) (own : List Cell) (made : NewCells) (result : Result (Option ℕ) Fault) → Type 0
-IsSetRead old new level lead key own made (Ok (Some at)) = IsPlaceRead {T = Option ℕ} old new level lead key own made at (Ok (Some at))
-IsSetRead old new level lead key own made (Ok None) = IsNewCellsRead {T = Option ℕ} old new level lead key own made (Ok None)
-IsSetRead old new level lead key own made (Err fault) = IsNewCellsRead {T = Option ℕ} old new level lead key own made (Err fault)
+-- Reading the pages of the group that the lead leads on the level, for the cells of a key that are set there. The
+-- answer is the place of the key's cell in one page, where that page takes it.
+abbrev pub IsSetRead : (old new : PagesState) (level : ℕ) (lead : Lead) (key : List ℕ) (own : List Cell)
+    (made : NewCells) (result : Result (Option ℕ) Fault) → Type 0
+IsSetRead old new level lead key own made (Ok (Some at)) =
+    IsPlaceRead {T = Option ℕ} old new level lead key own made at (Ok (Some at))
+IsSetRead old new level lead key own made (Ok None) =
+    IsNewCellsRead {T = Option ℕ} old new level lead key own made (Ok None)
+IsSetRead old new level lead key own made (Err fault) =
+    IsNewCellsRead {T = Option ℕ} old new level lead key own made (Err fault)

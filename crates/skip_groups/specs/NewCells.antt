@@ -1,5 +1,6 @@
 -- What setting the cells of a key makes of the pages of its group.
-use Rattle.std.specs.Prelude.{◌≡◌, ◌⊎◌, ℕ, ◌+◌, ◌<◌, ◌≤◌, List, [], ◌∷◌, ◌++◌, length, take, drop, slice_get, Some, Result, OnOk}
+use Rattle.std.specs.Prelude.{◌≡◌, ◌⊎◌, ℕ, ◌+◌, ◌<◌, ◌≤◌, List, [], ◌∷◌, ◌++◌, length, take, drop, slice_get, Some}
+use Rattle.std.specs.Prelude.{Result, OnOk}
 use Rattle.std.specs.List.{AllByRecursion, flat_map}
 use Rattle.std.specs.declared.cmp.Ordering.TheVariants.{Less, Equal}
 use Rattle.store_base.specs.declared.store_fault.Fault.{Fault}
@@ -21,12 +22,16 @@ cells_gathered pages = flat_map (λ page. page.cells) pages
 
 -- the cells that come in the place of those of some pages of a group, behind pages that stay
 abbrev pub ComeIn : ℕ → Lead → List ℕ → List Cell → List Page → List Page → NewCells → Type 0
-ComeIn level lead key own stay [] made = (leads.model_lead made.next ≡ lead_from (last_of (cells_gathered stay)) lead) × (made.cells.cells ≡ [])
+ComeIn level lead key own stay [] made = (leads.model_lead made.next ≡ lead_from (last_of (cells_gathered stay)) lead)
+    × (made.cells.cells ≡ [])
 ComeIn level lead key own stay (first ∷ pages) made = IsFirstCell level key first
-    × (AreCells level (merged key first.cells own (cells_gathered (first ∷ pages))) → IsMerged (lead_from (last_of (cells_gathered stay)) lead) key first.cells own (cells_gathered (first ∷ pages)) (made.next, made.cells.cells))
+    × (AreCells level (merged key first.cells own (cells_gathered (first ∷ pages)))
+    → IsMerged (lead_from (last_of (cells_gathered stay)) lead) key first.cells own (cells_gathered (first ∷ pages))
+    (made.next, made.cells.cells))
 
 -- what setting the cells of a key makes of so many first pages of a group
-pub record IsCellsSet (level : ℕ) (lead : Lead) (key : List ℕ) (own : List Cell) (pages : List Page) (made : NewCells) : Type 0 where
+pub record IsCellsSet (level : ℕ) (lead : Lead) (key : List ℕ) (own : List Cell) (pages : List Page)
+    (made : NewCells) : Type 0 where
   pub stay : List Page
   pub gone : List Page
   pub parts : pages ≡ stay ++ gone
@@ -45,7 +50,8 @@ pub record IsAlone (page : Page) (made : NewCells) : Type 0 where
 abbrev pub IsStep : ℕ → Lead → Page → NewCells → Step → Type 0
 IsStep level lead page made More = page_room level ≤ length page.cells
 IsStep level lead page made Done = (1 ≤ made.count) × ((length page.cells < page_room level) ⊎ IsAlone page made)
-IsStep level lead page made Same = IsAlone page made × (slice_get (pages_from level lead made.kept made.cells.cells) 0 ≡ Some page)
+IsStep level lead page made Same = IsAlone page made
+    × (slice_get (pages_from level lead made.kept made.cells.cells) 0 ≡ Some page)
 
 -- where no page gave way, the key's cells come behind all others
 pub record IsEnd (level : ℕ) (key : List ℕ) (own : List Cell) (old new : NewCells) : Type 0 where
@@ -53,14 +59,18 @@ pub record IsEnd (level : ℕ) (key : List ℕ) (own : List Cell) (old new : New
   pub kept : new.kept ≡ old.kept
   pub count : new.count ≡ old.count
   pub some : 1 ≤ old.count → new.cells ≡ old.cells
-  pub none : old.count ≡ 0 → old.cells.cells ≡ [] → AreCells level (side Equal key own) → new.cells.cells ≡ side Equal key own
+  pub none : old.count ≡ 0 → old.cells.cells ≡ [] → AreCells level (side Equal key own)
+      → new.cells.cells ≡ side Equal key own
   pub few : length new.cells.cells ≤ length old.cells.cells + length own
 
 -- the pages of a group of other cells: the first ones stay, behind them come those of new cells, and then the last ones
 pub record IsRenewed (level : ℕ) (lead : Lead) (cells news : List Cell) (made : NewCells) : Type 0 where
   pub pages : group_pages level lead news
-      ≡ take made.kept (group_pages level lead cells) ++ (pages_from level lead made.kept made.cells.cells ++ drop (made.kept + made.count) (group_pages level lead cells))
-  pub fits : made.kept + made.count < length (group_pages level lead cells) → length (pages_from level lead made.kept made.cells.cells) ≡ made.count
+      ≡ take made.kept (group_pages level lead cells)
+      ++ (pages_from level lead made.kept made.cells.cells
+      ++ drop (made.kept + made.count) (group_pages level lead cells))
+  pub fits : made.kept + made.count < length (group_pages level lead cells)
+      → length (pages_from level lead made.kept made.cells.cells) ≡ made.count
 
 -- the pages of a group with the cells of a key set anew
 pub record IsMade (level : ℕ) (lead : Lead) (key : List ℕ) (own cells : List Cell) (made : NewCells) : Type 0 where
@@ -80,5 +90,7 @@ IsStepBehind level page Done = length page.cells < page_room level
 IsStepBehind level page Same = ⊥
 
 -- reading the pages of the group that the lead leads on the level, for the cells of a key that are set there
-abbrev pub IsNewCellsRead : {T : Type 0} (old new : PagesState) (level : ℕ) (lead : Lead) (key : List ℕ) (own : List Cell) (made : NewCells) (result : Result T Fault) → Type 0
-IsNewCellsRead old new level lead key own made result = IsGroupWalk old new level lead (λ cells. OnOk result (AreNew level lead key own cells made)) result
+abbrev pub IsNewCellsRead : {T : Type 0} (old new : PagesState) (level : ℕ) (lead : Lead) (key : List ℕ)
+    (own : List Cell) (made : NewCells) (result : Result T Fault) → Type 0
+IsNewCellsRead old new level lead key own made result =
+    IsGroupWalk old new level lead (λ cells. OnOk result (AreNew level lead key own cells made)) result

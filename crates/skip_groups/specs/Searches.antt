@@ -29,12 +29,16 @@ pub record ReadsGroup (old new : PagesState) (level : ℕ) (lead : Lead) (IsFoun
   pub observable : IsObservable new
   pub unchanged : new.pages ≡ old.pages
   pub found : (cells : List Cell) → HoldsGroup old.pages level lead cells → length cells < most_pages → IsFound cells
-  pub lookups : (cells : List Cell) → HoldsGroup old.pages level lead cells → new.lookups ≤ old.lookups + group_cost level cells
+  pub lookups : (cells : List Cell) → HoldsGroup old.pages level lead cells
+      → new.lookups ≤ old.lookups + group_cost level cells
 
 -- a walk over the pages of the group that the lead leads on the level, for what is found in its cells
-abbrev pub IsGroupWalk : {T : Type 0} (old new : PagesState) (level : ℕ) (lead : Lead) (IsFound : List Cell → Type 0) (result : Result T Fault) → Type 0
+abbrev pub IsGroupWalk : {T : Type 0} (old new : PagesState) (level : ℕ) (lead : Lead) (IsFound : List Cell → Type 0)
+    (result : Result T Fault) → Type 0
 IsGroupWalk old new level lead IsFound result = IsPagesRead old new (ReadsGroup old new level lead IsFound) result
 
 -- a search in a group for what the cells next to a key make of what was there before
-abbrev pub IsGroupSearch : {S T : Type 0} (floor after : Cell → T → T) (old new : PagesState) (level : ℕ) (lead : Lead) (key : List ℕ) (before now : T) (result : Result S Fault) → Type 0
-IsGroupSearch floor after old new level lead key before now result = IsGroupWalk old new level lead (λ cells. IfOk result (λ done. IsSeen floor after key before now cells)) result
+abbrev pub IsGroupSearch : {S T : Type 0} (floor after : Cell → T → T) (old new : PagesState) (level : ℕ) (lead : Lead)
+    (key : List ℕ) (before now : T) (result : Result S Fault) → Type 0
+IsGroupSearch floor after old new level lead key before now result =
+    IsGroupWalk old new level lead (λ cells. IfOk result (λ done. IsSeen floor after key before now cells)) result

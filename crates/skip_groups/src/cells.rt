@@ -1,11 +1,13 @@
 //! The cells of one group, and how a change of one key leaves them.
 
-ghost use Rattle.std.specs.Prelude.{◌≡◌, ◌↔◌, ◌+◌, ◌-◌, ◌<◌, ◌≤◌, ◌++◌, [], ◌∷◌, length, take, drop, IsTrue, IfSome, IfOk, OnOk, true, false};
+ghost use Rattle.std.specs.Prelude.{◌≡◌, ◌↔◌, ◌+◌, ◌-◌, ◌<◌, ◌≤◌, ◌++◌, [], ◌∷◌, length, take, drop, IsTrue, IfSome};
+ghost use Rattle.std.specs.Prelude.{IfOk, OnOk, true, false};
 ghost use Rattle.std.specs.declared.cmp.Ordering.TheVariants.{Less, Equal, Greater};
 ghost use Rattle.store_model.specs.Pages.{IsCell};
 ghost use Rattle.store_base.specs.Leads.{model_lead};
 ghost use Rattle.skip_groups.specs.Floors.{last_of, lead_from};
-ghost use Rattle.skip_groups.specs.GroupCells.{AreCells, IsRisingList, AreBetween, IsKept, IsFirstCell, IsMerged, last_key_of, is_behind, side, merged};
+ghost use Rattle.skip_groups.specs.GroupCells.{AreCells, IsRisingList, AreBetween, IsKept, IsFirstCell, IsMerged};
+ghost use Rattle.skip_groups.specs.GroupCells.{last_key_of, is_behind, side, merged};
 ghost use Rattle.skip_groups.specs.InsertPlaces.{IsInsertPlace};
 
 use crate::group::is_last;
@@ -54,7 +56,8 @@ pub fn lead_behind(cells: &Cells, lead: &Lead) -> Lead
 fn push_rising(cells: &mut Cells, cell: &Cell) -> Result<(), NoMemory>
     requires { AreCells cells.old.level cells.old.cells }
     ensures valid { IsRisingList cells.old.level cells.new }
-    ensures added { AreCells cells.old.level (cells.old.cells ++ cell.now ∷ []) → OnOk result (cells.new.cells ≡ cells.old.cells ++ cell.now ∷ []) }
+    ensures added { AreCells cells.old.level (cells.old.cells ++ cell.now ∷ [])
+        → OnOk result (cells.new.cells ≡ cells.old.cells ++ cell.now ∷ []) }
     ensures few { length cells.new.cells ≤ length cells.old.cells + 1 }
 {
     if !cell.is_of(cells.level()) || !is_above(&cell.key, last_key(cells)) {
@@ -68,7 +71,8 @@ fn push_rising(cells: &mut Cells, cell: &Cell) -> Result<(), NoMemory>
 pub fn append_own(cells: &mut Cells, own: &[Cell], key: &Key) -> Result<(), NoMemory>
     requires { AreCells cells.old.level cells.old.cells }
     ensures valid { IsRisingList cells.old.level cells.new }
-    ensures added { AreCells cells.old.level (cells.old.cells ++ side Equal key.now own.now) → OnOk result (cells.new.cells ≡ cells.old.cells ++ side Equal key.now own.now) }
+    ensures added { AreCells cells.old.level (cells.old.cells ++ side Equal key.now own.now)
+        → OnOk result (cells.new.cells ≡ cells.old.cells ++ side Equal key.now own.now) }
     ensures few { length cells.new.cells ≤ length cells.old.cells + length own.now }
 {
     for cell in own {
@@ -86,7 +90,8 @@ fn append_rising(cells: &mut Cells, page: &Page, first: u32, past: u32) -> Resul
     requires within { past ≤ length page.now.cells }
     requires cells { AreCells cells.old.level cells.old.cells }
     ensures valid { IsRisingList cells.old.level cells.new }
-    ensures added { AreCells cells.old.level (cells.old.cells ++ drop first (take past page.now.cells))
+    ensures added { AreCells cells.old.level
+        (cells.old.cells ++ drop first (take past page.now.cells))
         → OnOk result (cells.new.cells ≡ cells.old.cells ++ drop first (take past page.now.cells)) }
     ensures few { length cells.new.cells ≤ length cells.old.cells + (past - first) }
 {
@@ -139,7 +144,8 @@ pub fn place_of_own(level: u8, page: &Page, key: &Key, own: &[Cell]) -> Option<u
 /// below the key: the last of them, or else what leads this one.
 pub fn lead_before(page: &Page, at: u32, lead: &Lead) -> Lead
     requires { at ≤ length page.now.cells }
-    ensures { model_lead result ≡ lead_from (last_of (take at page.now.cells)) (model_lead lead.now) }
+    ensures { model_lead result ≡ lead_from (last_of (take at page.now.cells))
+        (model_lead lead.now) }
 {
     if at == 0 {
         return *lead;
@@ -152,7 +158,8 @@ pub fn lead_before(page: &Page, at: u32, lead: &Lead) -> Lead
 pub fn append_above(cells: &mut Cells, page: &Page, key: &Key) -> Result<(), NoMemory>
     requires { AreCells cells.old.level cells.old.cells }
     ensures valid { IsRisingList cells.old.level cells.new }
-    ensures added { AreCells cells.old.level (cells.old.cells ++ side Greater key.now page.now.cells)
+    ensures added { AreCells cells.old.level
+        (cells.old.cells ++ side Greater key.now page.now.cells)
         → OnOk result (cells.new.cells ≡ cells.old.cells ++ side Greater key.now page.now.cells) }
     ensures few { length cells.new.cells ≤ length cells.old.cells + length page.now.cells }
 {
@@ -203,8 +210,11 @@ pub fn merge_page(
     requires { cells.old.cells ≡ [] }
     ensures valid { IsRisingList cells.old.level cells.new }
     ensures merged { AreCells cells.old.level (merged key.now page.now.cells own.now page.now.cells)
-        → IfOk result (λ next. IsMerged (model_lead lead.now) key.now page.now.cells own.now page.now.cells (next, cells.new.cells)) }
-    ensures few { length cells.new.cells ≤ length page.now.cells + (length own.now + length page.now.cells) }
+        → IfOk result
+        (λ next. IsMerged (model_lead lead.now)
+        key.now page.now.cells own.now page.now.cells (next, cells.new.cells)) }
+    ensures few { length cells.new.cells ≤ length page.now.cells
+        + (length own.now + length page.now.cells) }
 {
     let (at, past) = places_of(page, key);
     append_rising(cells, page, 0, at)?;

@@ -50,7 +50,8 @@ fn count_in_group(level: u8, page: &Page, key: &Key) -> u32
 fn see_last<T: Wanted>(page: &Page, count: u32, key: &Key, found: &mut T)
     requires { count ≤ length page.now.cells }
     ensures none { count ≡ 0 → found.new ≡ found.old }
-    ensures some { 0 < count → found.new ≡ seen (T.floor key.now) (slice_get page.now.cells (count - 1)) found.old }
+    ensures some { 0 < count → found.new
+        ≡ seen (T.floor key.now) (slice_get page.now.cells (count - 1)) found.old }
 {
     if count > 0 {
         found.see_floor(page, count - 1, key);
@@ -76,7 +77,8 @@ pub fn search_group<P: Pages, T: Wanted>(
     key: &Key,
     found: &mut T,
 ) -> Result<(), Fault>
-    ensures call { IsGroupSearch (T.floor key.now) (T.after key.now) (P.state pages.old) (P.state pages.new) level (model_lead lead.now) key.now found.old found.new result }
+    ensures call { IsGroupSearch (T.floor key.now) (T.after key.now) (P.state pages.old)
+        (P.state pages.new) level (model_lead lead.now) key.now found.old found.new result }
     ensures follows { P.follows pages.old pages.new }
 {
     for index in 0..u32::MAX {

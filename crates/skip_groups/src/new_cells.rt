@@ -58,8 +58,10 @@ impl NewCells {
     pub fn new(alloc: Global, level: u8, lead: &Lead) -> Self
         ensures valid { IsRisingList level result.cells }
         ensures empty { result.cells.cells ≡ [] }
-        ensures set { (key : List ℕ) (own : List model.Cell) → IsCellsSet level (model_lead lead.now) key own [] result }
-        ensures parted { (key : List ℕ) (start : List model.Cell) → IsParted level (model_lead lead.now) key [] start result start }
+        ensures set { (key : List ℕ) (own : List model.Cell)
+            → IsCellsSet level (model_lead lead.now) key own [] result }
+        ensures parted { (key : List ℕ) (start : List model.Cell)
+            → IsParted level (model_lead lead.now) key [] start result start }
     {
         NewCells {
             next: *lead,
@@ -76,9 +78,14 @@ impl NewCells {
         requires number { self.old.kept + self.old.count < 4294967295 }
         ensures valid { OnOk result (IsRisingList self.old.cells.level self.new.cells) }
         ensures some { OnOk result (0 < self.new.count) }
-        ensures counted { OnOk result (self.new.kept + self.new.count ≡ self.old.kept + self.old.count + 1) }
-        ensures set { (lead : labels.Lead) (own : List model.Cell) (pages : List model.Page) → IsCellsSet self.old.cells.level lead key.now own pages self.old → OnOk result (IsCellsSet self.old.cells.level lead key.now own (pages ++ page.now ∷ []) self.new) }
-        ensures step { (lead : labels.Lead) → IfOk result (λ step. IsStep self.old.cells.level lead page.now self.new step) }
+        ensures counted { OnOk result
+            (self.new.kept + self.new.count ≡ self.old.kept + self.old.count + 1) }
+        ensures set { (lead : labels.Lead) (own : List model.Cell) (pages : List model.Page)
+            → IsCellsSet self.old.cells.level lead key.now own pages self.old
+            → OnOk result (IsCellsSet self.old.cells.level lead key.now own
+            (pages ++ page.now ∷ []) self.new) }
+        ensures step { (lead : labels.Lead)
+            → IfOk result (λ step. IsStep self.old.cells.level lead page.now self.new step) }
     {
         let level = self.cells.level();
         append_above(&mut self.cells, page, key)?;
@@ -95,9 +102,15 @@ impl NewCells {
         requires number { self.old.kept < 4294967295 }
         ensures valid { OnOk result (IsRisingList self.old.cells.level self.new.cells) }
         ensures some { OnOk result (0 < self.new.count) }
-        ensures counted { OnOk result (self.new.kept + self.new.count ≡ self.old.kept + self.old.count + 1) }
-        ensures set { (pages : List model.Page) → IsCellsSet self.old.cells.level (model_lead lead.now) key.now own.now pages self.old → OnOk result (IsCellsSet self.old.cells.level (model_lead lead.now) key.now own.now (pages ++ page.now ∷ []) self.new) }
-        ensures step { IfOk result (λ step. IsStep self.old.cells.level (model_lead lead.now) page.now self.new step) }
+        ensures counted { OnOk result
+            (self.new.kept + self.new.count ≡ self.old.kept + self.old.count + 1) }
+        ensures set { (pages : List model.Page)
+            → IsCellsSet self.old.cells.level (model_lead lead.now) key.now own.now pages self.old
+            → OnOk result
+            (IsCellsSet self.old.cells.level (model_lead lead.now)
+            key.now own.now (pages ++ page.now ∷ []) self.new) }
+        ensures step { IfOk result
+            (λ step. IsStep self.old.cells.level (model_lead lead.now) page.now self.new step) }
     {
         let level = self.cells.level();
         self.next = merge_page(&mut self.cells, &self.next, page, key, own)?;
@@ -115,7 +128,8 @@ impl NewCells {
     /// Where the cell of the key comes into a page behind those that stay, and changes no other page.
     pub(crate) fn place(&self, page: &Page, key: &Key, own: &[Cell]) -> Option<u32>
         ensures none { IfSome result (λ at. self.now.count ≡ 0) }
-        ensures place { IfSome result (λ at. IsInsertPlace self.now.cells.level key.now own.now page.now at) }
+        ensures place { IfSome result
+            (λ at. IsInsertPlace self.now.cells.level key.now own.now page.now at) }
     {
         if self.count > 0 {
             return None;
@@ -136,9 +150,15 @@ impl NewCells {
         requires number { self.old.kept + self.old.count < 4294967295 }
         ensures valid { OnOk result (IsRisingList self.old.cells.level self.new.cells) }
         ensures empty { OnOk result (self.new.count ≡ 0 → self.new.cells.cells ≡ []) }
-        ensures counted { OnOk result (self.new.kept + self.new.count ≡ self.old.kept + self.old.count + 1) }
-        ensures set { (pages : List model.Page) → IsCellsSet self.old.cells.level (model_lead lead.now) key.now own.now pages self.old → OnOk result (IsCellsSet self.old.cells.level (model_lead lead.now) key.now own.now (pages ++ page.now ∷ []) self.new) }
-        ensures step { IfOk result (λ step. IsStep self.old.cells.level (model_lead lead.now) page.now self.new step) }
+        ensures counted { OnOk result
+            (self.new.kept + self.new.count ≡ self.old.kept + self.old.count + 1) }
+        ensures set { (pages : List model.Page)
+            → IsCellsSet self.old.cells.level (model_lead lead.now) key.now own.now pages self.old
+            → OnOk result
+            (IsCellsSet self.old.cells.level (model_lead lead.now)
+            key.now own.now (pages ++ page.now ∷ []) self.new) }
+        ensures step { IfOk result
+            (λ step. IsStep self.old.cells.level (model_lead lead.now) page.now self.new step) }
     {
         if self.count > 0 {
             return self.append(page, key);
@@ -159,8 +179,12 @@ impl NewCells {
         requires number { self.old.kept + self.old.count < 4294967295 }
         ensures low { OnOk result (IsRisingList self.old.cells.level self.new.cells) }
         ensures high { OnOk result (IsRisingList self.old.cells.level above.new) }
-        ensures counted { OnOk result (self.new.kept + self.new.count ≡ self.old.kept + self.old.count + 1) }
-        ensures parted { (lead : labels.Lead) (start : List model.Cell) (pages : List model.Page) → IsParted self.old.cells.level lead key.now pages start self.old above.old.cells → OnOk result (IsParted self.old.cells.level lead key.now (pages ++ page.now ∷ []) start self.new above.new.cells) }
+        ensures counted { OnOk result
+            (self.new.kept + self.new.count ≡ self.old.kept + self.old.count + 1) }
+        ensures parted { (lead : labels.Lead) (start : List model.Cell) (pages : List model.Page)
+            → IsParted self.old.cells.level lead key.now pages start self.old above.old.cells
+            → OnOk result (IsParted self.old.cells.level lead key.now (pages ++ page.now ∷ []) start
+            self.new above.new.cells) }
     {
         if self.count == 0 && stays(self.cells.level(), page, key) {
             self.next = Lead::Key(page.key(page.len() - 1));

@@ -34,8 +34,11 @@ pub fn read_new_cells<P: Pages>(
 ) -> Result<Option<u32>, Fault>
     requires valid { AreCells made.old.cells.level made.old.cells.cells }
     requires empty { made.old.cells.cells ≡ [] }
-    requires none { IsCellsSet made.old.cells.level (model_lead lead.now) key.now own.now [] made.old }
-    ensures call { IsSetRead (P.state pages.old) (P.state pages.new) made.old.cells.level (model_lead lead.now) key.now own.now made.new result }
+    requires none { IsCellsSet made.old.cells.level (model_lead lead.now)
+        key.now own.now [] made.old }
+    ensures call { IsSetRead (P.state pages.old)
+        (P.state pages.new) made.old.cells.level (model_lead lead.now)
+        key.now own.now made.new result }
     ensures valid { OnOk result (IsRisingList made.old.cells.level made.new.cells) }
     ensures number { IfOk result (λ place. IfSome place (λ at. made.new.kept < 4294967296)) }
     ensures follows { P.follows pages.old pages.new }
@@ -76,8 +79,11 @@ pub fn part_group<P: Pages>(
 ) -> Result<(), Fault>
     requires valid { AreCells made.old.cells.level made.old.cells.cells }
     requires above { IsRisingList made.old.cells.level above.old }
-    requires none { IsParted made.old.cells.level (model_lead lead.now) key.now [] above.old.cells made.old above.old.cells }
-    ensures call { IsGroupParted (P.state pages.old) (P.state pages.new) made.old.cells.level (model_lead lead.now) key.now above.old.cells made.new above.new.cells result }
+    requires none { IsParted made.old.cells.level (model_lead lead.now) key.now []
+        above.old.cells made.old above.old.cells }
+    ensures call { IsGroupParted (P.state pages.old)
+        (P.state pages.new) made.old.cells.level (model_lead lead.now)
+        key.now above.old.cells made.new above.new.cells result }
     ensures valid { OnOk result (IsRisingList made.old.cells.level made.new.cells) }
     ensures above { OnOk result (IsRisingList made.old.cells.level above.new) }
     ensures number { OnOk result (made.new.kept + made.new.count < 4294967296) }
@@ -116,8 +122,11 @@ pub fn change_run<P: Pages>(
     cells: &Cells,
 ) -> Result<(), Fault>
     requires rising { IsStrictlySortedBy key_cmp (map (λ c. c.key) cells.now.cells) }
-    requires room { IsObservable (P.state pages.old) → maps.len (P.state pages.old).pages + (count + length cells.now.cells) < most_pages }
-    ensures call { IsRunChange (P.state pages.old) (P.state pages.new) (model_lead lead.now) first count cells.now (max count (length (runs (page_room cells.now.level) cells.now.cells))) result }
+    requires room { IsObservable (P.state pages.old)
+        → maps.len (P.state pages.old).pages + (count + length cells.now.cells) < most_pages }
+    ensures call { IsRunChange (P.state pages.old) (P.state pages.new)
+        (model_lead lead.now) first count
+        cells.now (max count (length (runs (page_room cells.now.level) cells.now.cells))) result }
     ensures follows { P.follows pages.old pages.new }
 {
     let level = cells.level();

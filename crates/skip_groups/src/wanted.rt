@@ -31,7 +31,8 @@ pub trait Wanted {
         ensures { self.new ≡ seen (after key.now) (slice_get page.now.cells index) self.old };
 
     /// Of several cells that are not above the key, the last counts.
-    ghost last_counts: { (key : List ℕ) (first second : model.Cell) (found : Self) → floor key second (floor key first found) ≡ floor key second found };
+    ghost last_counts: { (key : List ℕ) (first second : model.Cell) (found : Self)
+        → floor key second (floor key first found) ≡ floor key second found };
 }
 
 impl Wanted for Option<Value> {
@@ -77,7 +78,8 @@ impl Wanted for Option<(Key, Value)> {
 /// Whether the cell of a page with this number is that of the key.
 fn has_key(page: &Page, index: u32, key: &Key) -> bool
     requires { index < length page.now.cells }
-    ensures { IfSome (slice_get page.now.cells index) (λ cell. result ≡ is_eq (key_cmp key.now cell.key)) }
+    ensures { IfSome (slice_get page.now.cells index)
+        (λ cell. result ≡ is_eq (key_cmp key.now cell.key)) }
 {
     byte_order(key.as_bytes(), page.key_bytes(index)).is_eq()
 }

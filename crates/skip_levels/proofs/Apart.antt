@@ -23,25 +23,33 @@ module _ {A : Type 0} (cuts : A → Bool) where
   IsUncut (x ∷ xs) = AllByRecursion (λ y. cuts y ≡ false) xs
 
   -- the first part of a list begins with its first element
-  pub first_part : (y : A) (parts : List (List A)) → (part : List A) × (rest : List (List A)) × (onto_part cuts y parts ≡ (y ∷ part) ∷ rest)
+  pub first_part : (y : A) (parts : List (List A))
+      → (part : List A) × (rest : List (List A)) × (onto_part cuts y parts ≡ (y ∷ part) ∷ rest)
   unfolding onto_part
   first_part y [] = ([], [], refl)
   first_part y ([] ∷ parts) = ([], parts, refl)
-  first_part y ((z ∷ part) ∷ parts) = elim (cuts z) as (λ b. (front : List A) × (rest : List (List A)) × (cond b ((y ∷ []) ∷ (z ∷ part) ∷ parts) ((y ∷ z ∷ part) ∷ parts) ≡ (y ∷ front) ∷ rest)) [
-    | true ↦ ([], (z ∷ part) ∷ parts, refl)
-    | false ↦ (z ∷ part, parts, refl)
-  ]
+  first_part y ((z ∷ part) ∷ parts) =
+      elim (cuts z) as (λ b. (front : List A) × (rest : List (List A))
+      × (cond b ((y ∷ []) ∷ (z ∷ part) ∷ parts) ((y ∷ z ∷ part) ∷ parts) ≡ (y ∷ front) ∷ rest)) [
+        | true ↦ ([], (z ∷ part) ∷ parts, refl)
+        | false ↦ (z ∷ part, parts, refl)
+      ]
 
   -- an element in front of parts, where the next begins at a cut
-  onto_apart : (x y : A) (part : List A) (rest parts : List (List A)) → cuts y ≡ true → onto_part cuts x (parts ++ (y ∷ part) ∷ rest) ≡ onto_part cuts x parts ++ (y ∷ part) ∷ rest
+  onto_apart : (x y : A) (part : List A) (rest parts : List (List A)) → cuts y ≡ true
+      → onto_part cuts x (parts ++ (y ∷ part) ∷ rest) ≡ onto_part cuts x parts ++ (y ∷ part) ∷ rest
   unfolding onto_part
   onto_apart x y part rest [] cut = ap (λ b. cond b ((x ∷ []) ∷ (y ∷ part) ∷ rest) ((x ∷ y ∷ part) ∷ rest)) cut
   onto_apart x y part rest ([] ∷ parts) cut = refl
-  onto_apart x y part rest ((z ∷ front) ∷ parts) cut = elim (cuts z) as (λ b. cond b ((x ∷ []) ∷ (z ∷ front) ∷ (parts ++ (y ∷ part) ∷ rest)) ((x ∷ z ∷ front) ∷ (parts ++ (y ∷ part) ∷ rest))
-      ≡ cond b ((x ∷ []) ∷ (z ∷ front) ∷ parts) ((x ∷ z ∷ front) ∷ parts) ++ (y ∷ part) ∷ rest) [ true ↦ refl | false ↦ refl ]
+  onto_apart x y part rest ((z ∷ front) ∷ parts) cut =
+      elim (cuts z) as (λ b. cond b ((x ∷ []) ∷ (z ∷ front) ∷ (parts ++ (y ∷ part) ∷ rest))
+      ((x ∷ z ∷ front) ∷ (parts ++ (y ∷ part) ∷ rest))
+      ≡ cond b ((x ∷ []) ∷ (z ∷ front) ∷ parts) ((x ∷ z ∷ front) ∷ parts) ++ (y ∷ part) ∷ rest)
+      [ true ↦ refl | false ↦ refl ]
 
   -- what lies before and behind a cut is cut apart
-  pub cut_apart : (xs ys : List A) → BeginsAtCut ys → cut_before cuts (xs ++ ys) ≡ cut_before cuts xs ++ cut_before cuts ys
+  pub cut_apart : (xs ys : List A) → BeginsAtCut ys
+      → cut_before cuts (xs ++ ys) ≡ cut_before cuts xs ++ cut_before cuts ys
   unfolding cut_before
   cut_apart xs [] cut = ap (cut_before cuts) (append-nil xs) ∙ sym (append-nil (cut_before cuts xs))
   cut_apart [] (y ∷ ys) cut = refl
@@ -56,7 +64,8 @@ module _ {A : Type 0} (cuts : A → Bool) where
   unfolding cut_before onto_part
   one_part x [] uncut = refl
   one_part x (y ∷ ys) uncut =
-      ap (onto_part cuts x) (one_part y ys uncut.1) ∙ ap (λ b. cond b ((x ∷ []) ∷ (y ∷ ys) ∷ []) ((x ∷ y ∷ ys) ∷ [])) uncut.0
+      ap (onto_part cuts x) (one_part y ys uncut.1)
+      ∙ ap (λ b. cond b ((x ∷ []) ∷ (y ∷ ys) ∷ []) ((x ∷ y ∷ ys) ∷ [])) uncut.0
 
 -- ---- the pages of a list of cells on a level
 
@@ -75,14 +84,18 @@ module _ (d : Draw) (level : ℕ) where
   list_pages_none = refl
 
   -- what lies before and behind a key of a higher level is paged apart
-  pub paged_apart : (xs ys : List Cell) → BeginsAtCut (leads_group d level) ys → list_pages (xs ++ ys) ≡ list_pages xs ++ list_pages ys
+  pub paged_apart : (xs ys : List Cell) → BeginsAtCut (leads_group d level) ys
+      → list_pages (xs ++ ys) ≡ list_pages xs ++ list_pages ys
   unfolding list_pages
-  paged_apart xs ys cut = ap (flat_map pages_of_group) (cut_apart (leads_group d level) xs ys cut) ∙ flat_map-append pages_of_group (cut_before (leads_group d level) xs) (cut_before (leads_group d level) ys)
+  paged_apart xs ys cut = ap (flat_map pages_of_group) (cut_apart (leads_group d level) xs ys cut)
+      ∙ flat_map-append pages_of_group (cut_before (leads_group d level) xs) (cut_before (leads_group d level) ys)
 
   -- a group's pages are those of its cells
-  pub group_alone : (x : Cell) (xs : List Cell) → IsUncut (leads_group d level) (x ∷ xs) → list_pages (x ∷ xs) ≡ pages_of_group (x ∷ xs)
+  pub group_alone : (x : Cell) (xs : List Cell) → IsUncut (leads_group d level) (x ∷ xs)
+      → list_pages (x ∷ xs) ≡ pages_of_group (x ∷ xs)
   unfolding list_pages
-  group_alone x xs uncut = ap (flat_map pages_of_group) (one_part (leads_group d level) x xs uncut) ∙ append-nil (pages_of_group (x ∷ xs))
+  group_alone x xs uncut = ap (flat_map pages_of_group) (one_part (leads_group d level) x xs uncut)
+      ∙ append-nil (pages_of_group (x ∷ xs))
 
   -- a group of no cell has no page
   pub no_page_of_none : pages_of_group [] ≡ []

@@ -12,11 +12,18 @@ use Rattle.skip_levels.specs.CellChanges.{IsPagesCall}
 use Rattle.skip_groups.proofs.GroupSteps.{same_count}
 use Rattle.skip_groups.specs.Searches.{IsGroupWalk}
 
-pub memory_lacks : {A C : Type 0} (old mid : PagesState) (a : A) → IsPagesCall {T = A} old mid (Ok a) → IsPagesCall {T = C} old mid (Err NoMemory)
-memory_lacks old mid a h = record { faults = h.faults; lookups_kept = h.lookups_kept; hidden = h.hidden; observable = h.observable }
+pub memory_lacks : {A C : Type 0} (old mid : PagesState) (a : A) → IsPagesCall {T = A} old mid (Ok a)
+    → IsPagesCall {T = C} old mid (Err NoMemory)
+memory_lacks old mid a h = record {
+  faults = h.faults;
+  lookups_kept = h.lookups_kept;
+  hidden = h.hidden;
+  observable = h.observable;
+}
 
 -- one behind another
-pub goes_behind : {A B : Type 0} (old mid new : PagesState) (a : A) (result : Result B Fault) → IsPagesCall {T = A} old mid (Ok a) → IsPagesCall {T = B} mid new result → IsPagesCall {T = B} old new result
+pub goes_behind : {A B : Type 0} (old mid new : PagesState) (a : A) (result : Result B Fault)
+    → IsPagesCall {T = A} old mid (Ok a) → IsPagesCall {T = B} mid new result → IsPagesCall {T = B} old new result
 goes_behind {A} {B} old mid new a result h g = record {
   faults = g.faults ∙ ap (λ n. disk_faults_after {T = B} n result) h.faults;
   lookups_kept = omega (arith, h.lookups_kept, g.lookups_kept);
@@ -25,15 +32,35 @@ goes_behind {A} {B} old mid new a result h g = record {
 }
 
 -- and one alone
-pub failed_call : {A C : Type 0} (old new : PagesState) (fault : Fault) → IsPagesCall {T = A} old new (Err fault) → IsPagesCall {T = C} old new (Err fault)
-failed_call {A} {C} old new fault h = record { faults = h.faults ∙ same_count A C old.faults fault; lookups_kept = h.lookups_kept; hidden = h.hidden; observable = h.observable }
+pub failed_call : {A C : Type 0} (old new : PagesState) (fault : Fault) → IsPagesCall {T = A} old new (Err fault)
+    → IsPagesCall {T = C} old new (Err fault)
+failed_call {A} {C} old new fault h = record {
+  faults = h.faults ∙ same_count A C old.faults fault;
+  lookups_kept = h.lookups_kept;
+  hidden = h.hidden;
+  observable = h.observable;
+}
 
-pub fails_behind : {A B C : Type 0} (old mid new : PagesState) (a : A) (fault : Fault) → IsPagesCall {T = A} old mid (Ok a) → IsPagesCall {T = B} mid new (Err fault) → IsPagesCall {T = C} old new (Err fault)
+pub fails_behind : {A B C : Type 0} (old mid new : PagesState) (a : A) (fault : Fault)
+    → IsPagesCall {T = A} old mid (Ok a) → IsPagesCall {T = B} mid new (Err fault)
+    → IsPagesCall {T = C} old new (Err fault)
 fails_behind {A} {B} {C} old mid new a fault h g = failed_call old new fault (goes_behind old mid new a (Err fault) h g)
 
 -- the pages of a group read, or changed
-pub walk_call : {T : Type 0} (old new : PagesState) (level : ℕ) (lead : Lead) {IsFound : List Cell → Type 0} (result : Result T Fault) → IsGroupWalk old new level lead IsFound result → IsPagesCall old new result
-walk_call old new level lead result h = record { faults = h.faults; lookups_kept = h.lookups_kept; hidden = h.hidden; observable = λ o. (h.observed o).observable }
+pub walk_call : {T : Type 0} (old new : PagesState) (level : ℕ) (lead : Lead) {IsFound : List Cell → Type 0}
+    (result : Result T Fault) → IsGroupWalk old new level lead IsFound result → IsPagesCall old new result
+walk_call old new level lead result h = record {
+  faults = h.faults;
+  lookups_kept = h.lookups_kept;
+  hidden = h.hidden;
+  observable = λ o. (h.observed o).observable;
+}
 
-pub run_call : {T : Type 0} (old new : PagesState) {lead : Lead} {first count : ℕ} {list : CellList} {past : ℕ} (result : Result T Fault) → IsRunChange old new lead first count list past result → IsPagesCall old new result
-run_call old new result h = record { faults = h.faults; lookups_kept = omega (arith, h.lookups); hidden = h.hidden; observable = λ o. (h.observed o).observable }
+pub run_call : {T : Type 0} (old new : PagesState) {lead : Lead} {first count : ℕ} {list : CellList} {past : ℕ}
+    (result : Result T Fault) → IsRunChange old new lead first count list past result → IsPagesCall old new result
+run_call old new result h = record {
+  faults = h.faults;
+  lookups_kept = omega (arith, h.lookups);
+  hidden = h.hidden;
+  observable = λ o. (h.observed o).observable;
+}

@@ -1,5 +1,6 @@
 -- The place of a key on level 0 is that of every key between what leads its group and the next leader.
-use Rattle.std.proofs.Common.{◌≡◌, ℕ, List, [], ◌∷◌, map, filter, Bool, true, false, not, cond, nat_lt, Option, Some, None, Less, Equal, Greater, refl, sym, ap, subst, ◌∙◌}
+use Rattle.std.proofs.Common.{◌≡◌, ℕ, List, [], ◌∷◌, map, filter, Bool, true, false, not, cond, nat_lt, Option, Some}
+use Rattle.std.proofs.Common.{None, Less, Equal, Greater, refl, sym, ap, subst, ◌∙◌}
 use Rattle.std.specs.Ordering.{is_le, is_lt}
 use Rattle.std.specs.declared.cmp.Ordering.{Ordering}
 use Rattle.std.specs.List.{AllByRecursion, slice_get}
@@ -42,25 +43,34 @@ le_itself a = ap is_le (tied_itself nat_list_cmp_total a)
 
 -- ---- what is kept of a list
 
-all_unkept : {X : Type 0} (P : X → Type 0) (q : X → Bool) (xs : List X) → AllByRecursion P (filter q xs) → AllByRecursion (λ x. q x ≡ true → P x) xs
+all_unkept : {X : Type 0} (P : X → Type 0) (q : X → Bool) (xs : List X) → AllByRecursion P (filter q xs)
+    → AllByRecursion (λ x. q x ≡ true → P x) xs
 all_unkept P q [] h = tt
 all_unkept P q (x ∷ xs) h = by_test (q x) refl h (λ rest. all_unkept P q xs rest)
   where
-    by_test : (b : Bool) → q x ≡ b → AllByRecursion P (cond b (x ∷ filter q xs) (filter q xs)) → (AllByRecursion P (filter q xs) → AllByRecursion (λ y. q y ≡ true → P y) xs) → (q x ≡ true → P x) × AllByRecursion (λ y. q y ≡ true → P y) xs
+    by_test : (b : Bool) → q x ≡ b → AllByRecursion P (cond b (x ∷ filter q xs) (filter q xs))
+        → (AllByRecursion P (filter q xs) → AllByRecursion (λ y. q y ≡ true → P y) xs)
+        → (q x ≡ true → P x) × AllByRecursion (λ y. q y ≡ true → P y) xs
     by_test true e kept further = (λ passes. kept.0, further kept.1)
     by_test false e kept further = (λ passes. absurd (let wrong : true ≡ false = sym passes ∙ e in cc), further kept)
 
-filter_same : {X : Type 0} (stands q r : X → Bool) (xs : List X) → AllByRecursion (λ x. stands x ≡ true → q x ≡ r x) xs → filter stands (filter q xs) ≡ filter stands (filter r xs)
+filter_same : {X : Type 0} (stands q r : X → Bool) (xs : List X) → AllByRecursion (λ x. stands x ≡ true → q x ≡ r x) xs
+    → filter stands (filter q xs) ≡ filter stands (filter r xs)
 filter_same stands q r [] h = refl
 filter_same stands q r (x ∷ xs) h = by_test (stands x) (q x) (r x) refl h.0 (filter_same stands q r xs h.1)
   where
-    by_test : (s b c : Bool) → stands x ≡ s → (stands x ≡ true → b ≡ c) → filter stands (filter q xs) ≡ filter stands (filter r xs) → filter stands (cond b (x ∷ filter q xs) (filter q xs)) ≡ filter stands (cond c (x ∷ filter r xs) (filter r xs))
+    by_test : (s b c : Bool) → stands x ≡ s → (stands x ≡ true → b ≡ c)
+        → filter stands (filter q xs) ≡ filter stands (filter r xs)
+        → filter stands (cond b (x ∷ filter q xs) (filter q xs))
+        ≡ filter stands (cond c (x ∷ filter r xs) (filter r xs))
     by_test s true true e same rest = ap (λ ys. cond (stands x) (x ∷ ys) ys) rest
     by_test s false false e same rest = rest
     by_test true true false e same rest = absurd (let wrong : true ≡ false = same e in cc)
     by_test true false true e same rest = absurd (let wrong : false ≡ true = same e in cc)
-    by_test false true false e same rest = ap (λ b. cond b (x ∷ filter stands (filter q xs)) (filter stands (filter q xs))) e ∙ rest
-    by_test false false true e same rest = rest ∙ sym (ap (λ b. cond b (x ∷ filter stands (filter r xs)) (filter stands (filter r xs))) e)
+    by_test false true false e same rest =
+        ap (λ b. cond b (x ∷ filter stands (filter q xs)) (filter stands (filter q xs))) e ∙ rest
+    by_test false false true e same rest =
+        rest ∙ sym (ap (λ b. cond b (x ∷ filter stands (filter r xs)) (filter stands (filter r xs))) e)
 
 -- ---- pairs whose keys rise
 
@@ -70,13 +80,15 @@ Rises (e ∷ s) = AllByRecursion (λ (f : Pair). key_cmp e.0 f.0 ≡ Less) s × 
 
 rises : (s : List Pair) → IsStrictlySortedBy (λ a b. key_cmp a.0 b.0) s → Rises s
 rises [] h = tt
-rises (e ∷ s) h = (rising_head (λ (a b : Pair). key_cmp a.0 b.0) e s h, rises s (rising_tail (λ (a b : Pair). key_cmp a.0 b.0) e s h))
+rises (e ∷ s) h =
+    (rising_head (λ (a b : Pair). key_cmp a.0 b.0) e s h, rises s (rising_tail (λ (a b : Pair). key_cmp a.0 b.0) e s h))
 
 rises_kept : (q : Pair → Bool) (s : List Pair) → Rises s → Rises (filter q s)
 rises_kept q [] h = tt
 rises_kept q (e ∷ s) h = by_test (q e) (rises_kept q s h.1) (all_filter (λ (f : Pair). key_cmp e.0 f.0 ≡ Less) q s h.0)
   where
-    by_test : (b : Bool) → Rises (filter q s) → AllByRecursion (λ (f : Pair). key_cmp e.0 f.0 ≡ Less) (filter q s) → Rises (cond b (e ∷ filter q s) (filter q s))
+    by_test : (b : Bool) → Rises (filter q s) → AllByRecursion (λ (f : Pair). key_cmp e.0 f.0 ≡ Less) (filter q s)
+        → Rises (cond b (e ∷ filter q s) (filter q s))
     by_test true rest all = (all, rest)
     by_test false rest all = rest
 
@@ -107,15 +119,21 @@ IsAtOrBehind (Some n) key = is_le (key_cmp n key) ≡ true
 
 behind_first : (s : List Pair) → Rises s → AllByRecursion (λ pair. IsAtOrBehind (slice_get (keys s) 0) pair.0) s
 behind_first [] h = tt
-behind_first (e ∷ s) h = (le_itself e.0, all_weaker (λ (f : Pair). key_cmp e.0 f.0 ≡ Less) (λ f. is_le (key_cmp e.0 f.0) ≡ true) (λ f less. ap is_le less) s h.0)
+behind_first (e ∷ s) h = (
+  le_itself e.0,
+  all_weaker (λ (f : Pair). key_cmp e.0 f.0 ≡ Less) (λ f. is_le (key_cmp e.0 f.0) ≡ true)
+      (λ f less. ap is_le less) s h.0,
+)
 
 -- ---- the place of every such key
 
-all_with : {X : Type 0} (A B C : X → Type 0) → ((x : X) → A x → B x → C x) → (xs : List X) → AllByRecursion A xs → AllByRecursion B xs → AllByRecursion C xs
+all_with : {X : Type 0} (A B C : X → Type 0) → ((x : X) → A x → B x → C x) → (xs : List X) → AllByRecursion A xs
+    → AllByRecursion B xs → AllByRecursion C xs
 all_with A B C f [] a b = tt
 all_with A B C f (x ∷ xs) a b = (f x a.0 b.0, all_with A B C f xs a.1 b.1)
 
-module _ (d : Draw) (s : List Pair) (known : List ℕ) (end : PathEnd) (rising : IsStrictlySortedBy (λ a b. key_cmp a.0 b.0) s) (at : IsPlace d s 0 known end) where
+module _ (d : Draw) (s : List Pair) (known : List ℕ) (end : PathEnd)
+    (rising : IsStrictlySortedBy (λ a b. key_cmp a.0 b.0) s) (at : IsPlace d s 0 known end) where
   abbrev stands : Pair → Bool
   stands pair = nat_lt 0 (d.level pair.0)
 
@@ -126,20 +144,25 @@ module _ (d : Draw) (s : List Pair) (known : List ℕ) (end : PathEnd) (rising :
   led =
       all_unkept (λ pair. stands pair ≡ true → IsLedBy (model_lead end.lead) pair.0) (lies known) s
       (all_unkept (λ pair. IsLedBy (model_lead end.lead) pair.0) stands (not_above known s)
-      (subst (λ l. AllByRecursion (λ pair. IsLedBy l pair.0) (filter stands (not_above known s))) (sym at.lead) (led_by_last (filter stands (not_above known s)) (rises_kept stands (not_above known s) (rises_kept (lies known) s (rises s rising))))))
+      (subst (λ l. AllByRecursion (λ pair. IsLedBy l pair.0) (filter stands (not_above known s))) (sym at.lead)
+      (led_by_last (filter stands (not_above known s))
+      (rises_kept stands (not_above known s) (rises_kept (lies known) s (rises s rising))))))
 
   behind : AllByRecursion (λ pair. not (lies known pair) ≡ true → stands pair ≡ true → IsAtOrBehind end.next pair.0) s
   behind =
       all_unkept (λ pair. stands pair ≡ true → IsAtOrBehind end.next pair.0) (λ pair. not (lies known pair)) s
       (all_unkept (λ pair. IsAtOrBehind end.next pair.0) stands (above known s)
-      (subst (λ o. AllByRecursion (λ pair. IsAtOrBehind o pair.0) (filter stands (above known s))) (sym at.next) (behind_first (filter stands (above known s)) (rises_kept stands (above known s) (rises_kept (λ pair. not (lies known pair)) s (rises s rising))))))
+      (subst (λ o. AllByRecursion (λ pair. IsAtOrBehind o pair.0) (filter stands (above known s))) (sym at.next)
+      (behind_first (filter stands (above known s))
+      (rises_kept stands (above known s) (rises_kept (λ pair. not (lies known pair)) s (rises s rising))))))
 
   module _ (key : List ℕ) (here : LiesIn end key) where
     below_key : (pair : Pair) → (l : Lead) → IsLedBy l pair.0 → is_from l key ≡ true → lies key pair ≡ true
     below_key pair Start h from = absurd h
     below_key pair (Leader l) h from = le_trans pair.0 l key h from
 
-    not_behind : (pair : Pair) (o : Option (List ℕ)) → IsAtOrBehind o pair.0 → is_before o key ≡ true → lies key pair ≡ true → ⊥
+    not_behind : (pair : Pair) (o : Option (List ℕ)) → IsAtOrBehind o pair.0 → is_before o key ≡ true
+        → lies key pair ≡ true → ⊥
     not_behind pair None h before low = h
     not_behind pair (Some n) h before low =
         let less : key_cmp key n ≡ Less = lt_less (key_cmp key n) before in
@@ -154,8 +177,13 @@ module _ (d : Draw) (s : List Pair) (known : List ℕ) (end : PathEnd) (rising :
 
     same_side : AllByRecursion (λ pair. stands pair ≡ true → lies known pair ≡ lies key pair) s
     same_side =
-        all_with (λ pair. lies known pair ≡ true → stands pair ≡ true → IsLedBy (model_lead end.lead) pair.0) (λ pair. not (lies known pair) ≡ true → stands pair ≡ true → IsAtOrBehind end.next pair.0) (λ pair. stands pair ≡ true → lies known pair ≡ lies key pair)
-        (λ pair low high on. both_ways (lies known pair) (lies key pair) (λ t. below_key pair (model_lead end.lead) (low t on) here.from) (λ t. by_test (lies known pair) refl (λ fails. not_behind pair end.next (high fails on) here.before t))) s led behind
+        all_with (λ pair. lies known pair ≡ true → stands pair ≡ true → IsLedBy (model_lead end.lead) pair.0)
+        (λ pair. not (lies known pair) ≡ true → stands pair ≡ true → IsAtOrBehind end.next pair.0)
+        (λ pair. stands pair ≡ true → lies known pair ≡ lies key pair)
+        (λ pair low high on. both_ways (lies known pair) (lies key pair)
+        (λ t. below_key pair (model_lead end.lead) (low t on) here.from)
+        (λ t. by_test (lies known pair) refl (λ fails. not_behind pair end.next (high fails on) here.before t))) s
+        led behind
       where
         by_test : (b : Bool) → b ≡ b → (not b ≡ true → ⊥) → b ≡ true
         by_test true e h = refl
@@ -167,9 +195,13 @@ module _ (d : Draw) (s : List Pair) (known : List ℕ) (end : PathEnd) (rising :
       next = at.next
           ∙ ap (λ xs. slice_get (keys xs) 0)
           (filter_same stands (λ pair. not (lies known pair)) (λ pair. not (lies key pair)) s
-          (all_weaker (λ pair. stands pair ≡ true → lies known pair ≡ lies key pair) (λ pair. stands pair ≡ true → not (lies known pair) ≡ not (lies key pair)) (λ pair h on. ap not (h on)) s same_side));
+          (all_weaker (λ pair. stands pair ≡ true → lies known pair ≡ lies key pair)
+          (λ pair. stands pair ≡ true → not (lies known pair) ≡ not (lies key pair))
+          (λ pair h on. ap not (h on)) s same_side));
     }
 
 -- the place of one key is known from then on
-pub known_at : (d : Draw) (s : List Pair) (key : List ℕ) (place : PathEnd) → IsPairs s → IsPlace d s 0 key place → IsKnownGroup d s (Some place)
-known_at d s key place valid at other here = place_of_all d s key place (rising_from_is_sorted key_cmp s valid.sorted) at other here
+pub known_at : (d : Draw) (s : List Pair) (key : List ℕ) (place : PathEnd) → IsPairs s → IsPlace d s 0 key place
+    → IsKnownGroup d s (Some place)
+known_at d s key place valid at other here =
+    place_of_all d s key place (rising_from_is_sorted key_cmp s valid.sorted) at other here

@@ -1,5 +1,6 @@
 -- A group cut in two by a key, or two joined: the pages that come of it, and the calls that read and change them.
-use Rattle.std.proofs.Common.{◌≡◌, ℕ, ◌+◌, ◌<◌, ◌≤◌, max, List, [], ◌∷◌, ◌++◌, length, Bool, true, false, cond, Less, Equal, Greater, Result, Ok, Err, refl, sym, ap, ap₂, subst, ◌∙◌, append_assoc, arith}
+use Rattle.std.proofs.Common.{◌≡◌, ℕ, ◌+◌, ◌<◌, ◌≤◌, max, List, [], ◌∷◌, ◌++◌, length, Bool, true, false, cond, Less}
+use Rattle.std.proofs.Common.{Equal, Greater, Result, Ok, Err, refl, sym, ap, ap₂, subst, ◌∙◌, append_assoc, arith}
 use Rattle.std.specs.List.{slice_get}
 use Rattle.std.specs.FinMap as maps
 use Rattle.std.proofs.lemmas.List.{length-append, append-nil, take_all, drop_all}
@@ -43,28 +44,39 @@ module _ (level : ℕ) (lead : Lead) (list : CellList) where
     start = refl;
     put = λ i page there.
         let first : 0 + i ≡ i = omega arith in
-        ap₂ slice_get (sym (all_pages level lead list.cells) ∙ ap (λ n. pages_from n lead 0 list.cells) (sym same)) first ∙ there;
+        ap₂ slice_get (sym (all_pages level lead list.cells) ∙ ap (λ n. pages_from n lead 0 list.cells) (sym same))
+        first ∙ there;
     dropped = λ i past few. absurd (omega arith);
     within = omega arith;
   }
 
-  pub all_put : (past : ℕ) → list.level ≡ level → past ≡ max 0 (length (runs (page_room list.level) list.cells)) → changed_pages (0 + past) [] (group_pages level lead list.cells) ≡ group_pages level lead list.cells
+  pub all_put : (past : ℕ) → list.level ≡ level → past ≡ max 0 (length (runs (page_room list.level) list.cells))
+      → changed_pages (0 + past) [] (group_pages level lead list.cells) ≡ group_pages level lead list.cells
   all_put past same past_is =
       let news = group_pages level lead list.cells in
-      let long : length news ≤ 0 + past = omega (arith, past_is, length_of_group level lead list.cells, ap (λ n. length (runs (page_room n) list.cells)) same) in
+      let long : length news ≤ 0 + past =
+      omega (
+        arith,
+        past_is,
+        length_of_group level lead list.cells,
+        ap (λ n. length (runs (page_room n) list.cells)) same,
+      ) in
       ap₂ (λ ps qs. ps ++ qs) (take_all (0 + past) news long) (drop_all (0 + past) [] (omega arith)) ∙ append-nil news
 
   module _ (olds : List Page) (count : ℕ) (none : list.cells ≡ []) (all : count ≡ length olds) where
     pub is_drop : IsCellRun lead 0 count list olds []
     is_drop = record {
       start = refl;
-      put = λ i page there. absurd (let gone = ap (λ ps. slice_get ps i) (no_page list.level lead 0 list.cells none) in cc);
+      put = λ i page there. absurd (let gone = ap (λ ps. slice_get ps i) (no_page list.level lead 0 list.cells none)
+          in cc);
       dropped = λ i past few. omega arith;
       within = omega (arith, all);
     }
 
-    pub all_dropped : (past : ℕ) → past ≡ max count (length (runs (page_room list.level) list.cells)) → changed_pages (0 + past) olds [] ≡ []
-    all_dropped past past_is = ap₂ (λ ps qs. ps ++ qs) (take_all (0 + past) [] (omega arith)) (drop_all (0 + past) olds (omega (arith, past_is, all)))
+    pub all_dropped : (past : ℕ) → past ≡ max count (length (runs (page_room list.level) list.cells))
+        → changed_pages (0 + past) olds [] ≡ []
+    all_dropped past past_is = ap₂ (λ ps qs. ps ++ qs) (take_all (0 + past) [] (omega arith))
+        (drop_all (0 + past) olds (omega (arith, past_is, all)))
 
 -- no more pages are changed than there are old ones and new cells
 pub past_few : (moved : Bool) (made : NewCells) → cond moved (run_past made) 0 ≤ made.count + length made.cells.cells
@@ -73,7 +85,8 @@ past_few false made = omega arith
 
 -- ---- a group parted by a key
 
-module _ (level : ℕ) (lead : Lead) (key : List ℕ) (cells start : List Cell) (made : NewCells) (above : List Cell) (h : IsParted level lead key (group_pages level lead cells) start made above) where
+module _ (level : ℕ) (lead : Lead) (key : List ℕ) (cells start : List Cell) (made : NewCells) (above : List Cell)
+    (h : IsParted level lead key (group_pages level lead cells) start made above) where
   abbrev gone : List Cell
   gone = cells_gathered h.gone
 
@@ -93,36 +106,54 @@ module _ (level : ℕ) (lead : Lead) (key : List ℕ) (cells start : List Cell) 
   few_above = omega (arith, h.few_high, few_gone)
 
   pub lows_are : side Less key cells ≡ cells_gathered h.stay ++ side Less key gone
-  lows_are = ap (side Less key) all_cells ∙ low_behind key (cells_gathered h.stay) (kept_below level key h.stay h.kept) gone
+  lows_are = ap (side Less key) all_cells
+      ∙ low_behind key (cells_gathered h.stay) (kept_below level key h.stay h.kept) gone
 
   pub low_is : AreCells level (side Less key cells) → made.cells.cells ≡ side Less key gone
-  low_is valid = h.low (back_cells level (cells_gathered h.stay) (side Less key gone) (subst (AreCells level) lows_are valid))
+  low_is valid =
+      h.low (back_cells level (cells_gathered h.stay) (side Less key gone) (subst (AreCells level) lows_are valid))
 
   pub above_is : AreCells level (start ++ side Greater key cells) → above ≡ start ++ side Greater key cells
   above_is = subst (λ xs. AreCells level (start ++ xs) → above ≡ start ++ xs) (sym highs_are) h.high
     where
       highs_are : side Greater key cells ≡ side Greater key gone
-      highs_are = ap (side Greater key) all_cells ∙ filter-append (compares Greater key) (cells_gathered h.stay) gone ∙ ap (λ xs. xs ++ side Greater key gone) (side_no Greater Less key (cells_gathered h.stay) refl (kept_below level key h.stay h.kept))
+      highs_are = ap (side Greater key) all_cells ∙ filter-append (compares Greater key) (cells_gathered h.stay) gone
+          ∙ ap (λ xs. xs ++ side Greater key gone)
+          (side_no Greater Less key (cells_gathered h.stay) refl (kept_below level key h.stay h.kept))
 
   -- what leads on from the cells below the key
-  pub next_is : AreCells level (side Less key cells) → lead_from (last_of made.cells.cells) (leads.model_lead made.next) ≡ lead_from (last_of (side Less key cells)) lead
-  next_is valid = ap₂ (λ xs l. lead_from (last_of xs) l) (low_is valid) h.next ∙ lead_on (cells_gathered h.stay) (side Less key gone) lead ∙ ap (λ xs. lead_from (last_of xs) lead) (sym lows_are)
+  pub next_is : AreCells level (side Less key cells)
+      → lead_from (last_of made.cells.cells) (leads.model_lead made.next)
+      ≡ lead_from (last_of (side Less key cells)) lead
+  next_is valid = ap₂ (λ xs l. lead_from (last_of xs) l) (low_is valid) h.next
+      ∙ lead_on (cells_gathered h.stay) (side Less key gone) lead
+      ∙ ap (λ xs. lead_from (last_of xs) lead) (sym lows_are)
 
   -- other cells behind them
-  pub goes_with : (more news : List Cell) (others : NewCells) → AreCells level (side Less key cells) → news ≡ side Less key cells ++ more → others.kept ≡ made.kept → others.count ≡ made.count → others.cells.cells ≡ made.cells.cells ++ more → IsRenewed level lead cells news others
+  pub goes_with : (more news : List Cell) (others : NewCells) → AreCells level (side Less key cells)
+      → news ≡ side Less key cells ++ more → others.kept ≡ made.kept → others.count ≡ made.count
+      → others.cells.cells ≡ made.cells.cells ++ more → IsRenewed level lead cells news others
   goes_with more news others valid news_are kept count are =
-      renewed_to_end level lead cells h.stay h.gone news others h.parts (are_full level lead key [] cells h.stay h.kept) (kept ∙ h.kept_is) (count ∙ h.count_is)
-      (news_are ∙ ap (λ xs. xs ++ more) lows_are ∙ append_assoc (cells_gathered h.stay) (side Less key gone) more ∙ ap (λ xs. cells_gathered h.stay ++ (xs ++ more)) (sym (low_is valid)) ∙ ap (λ xs. cells_gathered h.stay ++ xs) (sym are))
+      renewed_to_end level lead cells h.stay h.gone news others h.parts (are_full level lead key [] cells h.stay h.kept)
+      (kept ∙ h.kept_is) (count ∙ h.count_is)
+      (news_are ∙ ap (λ xs. xs ++ more) lows_are ∙ append_assoc (cells_gathered h.stay) (side Less key gone) more
+      ∙ ap (λ xs. cells_gathered h.stay ++ (xs ++ more)) (sym (low_is valid))
+      ∙ ap (λ xs. cells_gathered h.stay ++ xs) (sym are))
 
   -- they are changed, unless all cells are where they were
-  pub goes_to : (news : List Cell) (others : NewCells) (moved : Bool) → others.cells.level ≡ level → others.kept + others.count ≤ length (group_pages level lead cells) → IsRenewed level lead cells news others → (moved ≡ false → cells ≡ news)
-      → changed_pages (others.kept + cond moved (run_past others) 0) (group_pages level lead cells) (group_pages level lead news) ≡ group_pages level lead news
+  pub goes_to : (news : List Cell) (others : NewCells) (moved : Bool) → others.cells.level ≡ level
+      → others.kept + others.count ≤ length (group_pages level lead cells) → IsRenewed level lead cells news others
+      → (moved ≡ false → cells ≡ news)
+      → changed_pages (others.kept + cond moved (run_past others) 0) (group_pages level lead cells)
+      (group_pages level lead news) ≡ group_pages level lead news
   goes_to news others true same within renewed still =
       all_changed level lead cells news others same within renewed (run_past others)
-      (ap (λ n. max others.count (length (runs (page_room n) others.cells.cells))) same ∙ ap (max others.count) (sym (length-pages_from level lead others.kept others.cells.cells)))
+      (ap (λ n. max others.count (length (runs (page_room n) others.cells.cells))) same
+      ∙ ap (max others.count) (sym (length-pages_from level lead others.kept others.cells.cells)))
   goes_to news others false same within renewed still =
       let here : others.kept + 0 ≡ others.kept = omega arith in
-      ap (λ n. changed_pages n (group_pages level lead cells) (group_pages level lead news)) here ∙ (is_run level lead cells news others same within renewed).start ∙ ap (group_pages level lead) (still refl)
+      ap (λ n. changed_pages n (group_pages level lead cells) (group_pages level lead news)) here
+      ∙ (is_run level lead cells news others same within renewed).start ∙ ap (group_pages level lead) (still refl)
 
 -- ---- a group cut in two
 
@@ -131,16 +162,30 @@ none_behind : (xs ys zs : List Cell) → zs ≡ xs ++ ys → length zs ≤ lengt
 none_behind xs [] zs is few = refl
 none_behind xs (y ∷ ys) zs is few = absurd (omega (arith, ap length is, length-append xs (y ∷ ys)))
 
-module _ (old mid : PagesState) (level : ℕ) (lead : Lead) (key : List ℕ) (own start : List Cell) (made : NewCells) (above : CellList) (same : made.cells.level ≡ level) (read : IsGroupParted {T = Unit {0}} old mid level lead key start made above.cells (Ok (tt {0})))
+module _ (old mid : PagesState) (level : ℕ) (lead : Lead) (key : List ℕ) (own start : List Cell) (made : NewCells)
+    (above : CellList) (same : made.cells.level ≡ level)
+    (read : IsGroupParted {T = Unit {0}} old mid level lead key start made above.cells (Ok (tt {0})))
     (few : length start ≤ length own) where
-  pub room_to_split : (IsObservable old → PagesHaveRoom old.pages level lead) → IsObservable mid → maps.len mid.pages + (made.count + length made.cells.cells) < most_pages
+  pub room_to_split : (IsObservable old → PagesHaveRoom old.pages level lead) → IsObservable mid
+      → maps.len mid.pages + (made.count + length made.cells.cells) < most_pages
   room_to_split room o =
       let h = room (read.hidden o) in
       let r = read.observed (read.hidden o) in
       let p = r.found h.cells h.holds (omega (arith, h.few)) in
-      omega (arith, whole level lead key h.cells start made above.cells p, few_lows level lead key h.cells start made above.cells p, h.few, few_group_pages level lead h.cells, ap maps.len r.unchanged, h.room)
+      omega (
+        arith,
+        whole level lead key h.cells start made above.cells p,
+        few_lows level lead key h.cells start made
+            above.cells p,
+        h.few,
+        few_group_pages level lead h.cells,
+        ap maps.len r.unchanged,
+        h.room,
+      )
 
-  pub room_behind : {T : Type 0} (between : PagesState) (unit : T) (moved : Bool) → length own ≤ 1 → (IsObservable old → PagesHaveRoom old.pages level lead) → IsRunChange mid between lead made.kept made.count made.cells (cond moved (run_past made) 0) (Ok unit)
+  pub room_behind : {T : Type 0} (between : PagesState) (unit : T) (moved : Bool) → length own ≤ 1
+      → (IsObservable old → PagesHaveRoom old.pages level lead)
+      → IsRunChange mid between lead made.kept made.count made.cells (cond moved (run_past made) 0) (Ok unit)
       → IsObservable between → maps.len between.pages + (0 + length above.cells) < most_pages
   room_behind between unit moved one room write o =
       let seen = write.hidden o in
@@ -162,9 +207,14 @@ module _ (old mid : PagesState) (level : ℕ) (lead : Lead) (key : List ℕ) (ow
         h.room,
       )
 
-  pub group_split : {T S : Type 0} (between new : PagesState) (unit : T) (unit' : S) (moved : Bool) (past : ℕ) (next : declared.Lead) → above.level ≡ level → (AreCells level (side Equal key own) → start ≡ side Equal key own) → (moved ≡ false → length above.cells ≤ length start)
-      → past ≡ max 0 (length (runs (page_room above.level) above.cells)) → leads.model_lead next ≡ lead_from (last_of made.cells.cells) (leads.model_lead made.next)
-      → IsRunChange mid between lead made.kept made.count made.cells (cond moved (run_past made) 0) (Ok unit) → IsRunChange between new (Leader key) 0 0 above past (Ok unit') → SplitsGroup old new level lead key own (Ok next)
+  pub group_split : {T S : Type 0} (between new : PagesState) (unit : T) (unit' : S) (moved : Bool) (past : ℕ)
+      (next : declared.Lead) → above.level ≡ level → (AreCells level (side Equal key own) → start ≡ side Equal key own)
+      → (moved ≡ false → length above.cells ≤ length start)
+      → past ≡ max 0 (length (runs (page_room above.level) above.cells))
+      → leads.model_lead next ≡ lead_from (last_of made.cells.cells) (leads.model_lead made.next)
+      → IsRunChange mid between lead made.kept made.count made.cells (cond moved (run_past made) 0) (Ok unit)
+      → IsRunChange between new (Leader key) 0 0 above past (Ok unit')
+      → SplitsGroup old new level lead key own (Ok next)
   group_split between new unit unit' moved past next same' added still past_is next_leads write write' = record {
     call = record {
       faults = write'.faults ∙ write.faults ∙ read.faults;
@@ -181,33 +231,47 @@ module _ (old mid : PagesState) (level : ℕ) (lead : Lead) (key : List ℕ) (ow
         let highs = merged key [] own group in
         let low_pages = group_pages level lead lows in
         let high_pages = group_pages level (Leader key) highs in
-        let lows_is : lows ≡ side Less key group = append-nil (side Less key group ++ []) ∙ append-nil (side Less key group) in
+        let lows_is : lows ≡ side Less key group =
+        append-nil (side Less key group ++ []) ∙ append-nil (side Less key group) in
         let valid : AreCells level (side Less key group) = subst (AreCells level) lows_is h.low_valid in
         let start_is = added (front_cells level (side Equal key own) (side Greater key group) h.high_valid) in
         let above_are : above.cells ≡ highs =
-        above_is level lead key group start made above.cells p (subst (λ xs. AreCells level (xs ++ side Greater key group)) (sym start_is) h.high_valid) ∙ ap (λ xs. xs ++ side Greater key group) start_is in
-        let within : made.kept + made.count ≤ length (group_pages level lead group) = omega (arith, whole level lead key group start made above.cells p) in
-        let renewed = goes_with level lead key group start made above.cells p [] lows made valid (lows_is ∙ sym (append-nil (side Less key group))) refl refl (sym (append-nil made.cells.cells)) in
+        above_is level lead key group start made above.cells p
+        (subst (λ xs. AreCells level (xs ++ side Greater key group)) (sym start_is) h.high_valid)
+        ∙ ap (λ xs. xs ++ side Greater key group) start_is in
+        let within : made.kept + made.count ≤ length (group_pages level lead group) =
+        omega (arith, whole level lead key group start made above.cells p) in
+        let renewed = goes_with level lead key group start made above.cells p [] lows made valid
+        (lows_is ∙ sym (append-nil (side Less key group))) refl refl (sym (append-nil made.cells.cells)) in
         let stays = λ (e : moved ≡ false).
-        let none = none_behind start (side Greater key group) above.cells (above_are ∙ ap (λ xs. xs ++ side Greater key group) (sym start_is)) (still e) in
+        let none = none_behind start (side Greater key group)
+        above.cells (above_are ∙ ap (λ xs. xs ++ side Greater key group) (sym start_is)) (still e) in
         h.sides ∙ ap (λ xs. side Less key group ++ xs) none ∙ append-nil (side Less key group) ∙ sym lows_is in
-        let low_change = subst (λ n. IsChange n lead front back (group_pages level lead group) low_pages) (sym same) h.first in
-        let kept = w.changed (group_pages level lead group) low_pages front back (is_run level lead group lows made same within renewed) low_change (r.unchanged ∙ h.pages_are)
-        ∙ ap (λ ps. map_of_pages (front ++ (ps ++ back))) (goes_to level lead key group start made above.cells p lows made moved same within renewed stays) in
+        let low_change = subst (λ n. IsChange n lead front back (group_pages level lead group) low_pages)
+        (sym same) h.first in
+        let kept = w.changed (group_pages level lead group) low_pages front back
+        (is_run level lead group lows made same within renewed) low_change (r.unchanged ∙ h.pages_are)
+        ∙ ap (λ ps. map_of_pages (front ++ (ps ++ back)))
+        (goes_to level lead key group start made above.cells p lows made moved same within renewed stays) in
         let put_pages = group_pages level (Leader key) above.cells in
         let put_are : put_pages ≡ high_pages = ap (group_pages level (Leader key)) above_are in
-        let high_change = subst (λ n. IsChange n (Leader key) (front ++ low_pages) back [] put_pages) (sym same') (subst (IsChange level (Leader key) (front ++ low_pages) back []) (sym put_are) h.second) in
+        let high_change = subst (λ n. IsChange n (Leader key) (front ++ low_pages) back [] put_pages) (sym same')
+        (subst (IsChange level (Leader key) (front ++ low_pages) back []) (sym put_are) h.second) in
         record {
           pages_are =
-              w'.changed [] put_pages (front ++ low_pages) back (is_put level (Leader key) above same') high_change (kept ∙ ap map_of_pages (sym (append_assoc front low_pages back)))
-              ∙ ap (λ ps. map_of_pages ((front ++ low_pages) ++ (ps ++ back))) (all_put level (Leader key) above past same' past_is ∙ put_are) ∙ ap map_of_pages (append_assoc front low_pages (high_pages ++ back));
+              w'.changed [] put_pages (front ++ low_pages) back (is_put level (Leader key) above same') high_change
+              (kept ∙ ap map_of_pages (sym (append_assoc front low_pages back)))
+              ∙ ap (λ ps. map_of_pages ((front ++ low_pages) ++ (ps ++ back)))
+              (all_put level (Leader key) above past same' past_is ∙ put_are)
+              ∙ ap map_of_pages (append_assoc front low_pages (high_pages ++ back));
           next_is = next_leads ∙ next_is level lead key group start made above.cells p valid;
         };
     lookups = λ o group holds. omega (arith, write'.lookups, write.lookups, (read.observed o).lookups group holds);
   }
 
 -- memory ran out before anything was read
-pub group_not_begun : (old : PagesState) (level : ℕ) (lead : Lead) (key : List ℕ) (own : List Cell) → SplitsGroup old old level lead key own (Err NoMemory)
+pub group_not_begun : (old : PagesState) (level : ℕ) (lead : Lead) (key : List ℕ) (own : List Cell)
+    → SplitsGroup old old level lead key own (Err NoMemory)
 group_not_begun old level lead key own = record {
   call = record { faults = refl; lookups_kept = omega arith; hidden = λ o. o; observable = λ o. o };
   split = λ o cells front back h. tt;
@@ -215,7 +279,10 @@ group_not_begun old level lead key own = record {
 }
 
 -- a call failed
-pub group_not_split : {T : Type 0} (old mid new : PagesState) (level : ℕ) (lead : Lead) (key : List ℕ) (own : List Cell) (fault : Fault) {IsFound : List Cell → Type 0} {result : Result T Fault} → IsGroupWalk old mid level lead IsFound result → new.lookups ≡ mid.lookups → IsPagesCall {T = declared.Lead} old new (Err fault)
+pub group_not_split : {T : Type 0} (old mid new : PagesState) (level : ℕ) (lead : Lead) (key : List ℕ) (own : List Cell)
+    (fault : Fault) {IsFound : List Cell → Type 0} {result : Result T Fault}
+    → IsGroupWalk old mid level lead IsFound result → new.lookups ≡ mid.lookups
+    → IsPagesCall {T = declared.Lead} old new (Err fault)
     → SplitsGroup old new level lead key own (Err fault)
 group_not_split old mid new level lead key own fault read same call = record {
   call = call;
@@ -225,23 +292,47 @@ group_not_split old mid new level lead key own fault read same call = record {
 
 -- ---- two groups joined
 
-module _ (old mid read_all : PagesState) (level : ℕ) (lead : Lead) (key : List ℕ) (none : List Cell) (lows : NewCells) (passed : List Cell) (highs : NewCells) (above : CellList) (same : lows.cells.level ≡ level) (same' : above.level ≡ level)
-    (read : IsGroupParted {T = Unit {0}} old mid level lead key none lows passed (Ok (tt {0}))) (read' : IsGroupParted {T = Unit {0}} mid read_all level (Leader key) key lows.cells.cells highs above.cells (Ok (tt {0}))) where
+module _ (old mid read_all : PagesState) (level : ℕ) (lead : Lead) (key : List ℕ) (none : List Cell) (lows : NewCells)
+    (passed : List Cell) (highs : NewCells) (above : CellList) (same : lows.cells.level ≡ level)
+    (same' : above.level ≡ level)
+    (read : IsGroupParted {T = Unit {0}} old mid level lead key none lows passed (Ok (tt {0})))
+    (read' : IsGroupParted {T = Unit {0}} mid read_all level
+    (Leader key) key lows.cells.cells highs above.cells (Ok (tt {0}))) where
   -- the group of the lead behind the change
   abbrev joined : NewCells
   joined = record { next = lows.next; kept = lows.kept; count = lows.count; cells = above }
 
-  pub room_to_drop : (count : ℕ) (empty : List Cell) → count ≡ highs.kept + highs.count → empty ≡ [] → (IsObservable old → PagesHaveRoom old.pages level (Leader key)) → IsObservable read_all → maps.len read_all.pages + (count + length empty) < most_pages
+  pub room_to_drop : (count : ℕ) (empty : List Cell) → count ≡ highs.kept + highs.count → empty ≡ []
+      → (IsObservable old → PagesHaveRoom old.pages level (Leader key)) → IsObservable read_all
+      → maps.len read_all.pages + (count + length empty) < most_pages
   room_to_drop count empty count_is empty_is room o =
       let seen = read'.hidden o in
       let h = room (read.hidden seen) in
       let r = read.observed (read.hidden seen) in
       let r' = read'.observed seen in
-      let p = r'.found h.cells (subst (λ m. HoldsGroup m level (Leader key) h.cells) (sym r.unchanged) h.holds) (omega (arith, h.few)) in
-      omega (arith, count_is, ap length empty_is, whole level (Leader key) key h.cells lows.cells.cells highs above.cells p, h.few, few_group_pages level (Leader key) h.cells, ap maps.len r.unchanged, ap maps.len r'.unchanged, h.room)
+      let p = r'.found h.cells (subst (λ m. HoldsGroup m level (Leader key) h.cells) (sym r.unchanged) h.holds)
+      (omega (arith, h.few)) in
+      omega (
+        arith,
+        count_is,
+        ap length empty_is,
+        whole level
+            (Leader key) key h.cells lows.cells.cells highs above.cells p,
+        h.few,
+        few_group_pages level
+            (Leader key) h.cells,
+        ap maps.len r.unchanged,
+        ap maps.len r'.unchanged,
+        h.room,
+      )
 
-  module _ {T : Type 0} (between : PagesState) (unit : T) (count past : ℕ) (empty : CellList) (count_is : count ≡ highs.kept + highs.count) (empty_is : empty.cells ≡ []) (past_is : past ≡ max count (length (runs (page_room empty.level) empty.cells))) (write : IsRunChange read_all between (Leader key) 0 count empty past (Ok unit)) where
-    pub room_to_join : (IsObservable old → PagesHaveRoom old.pages level lead) → (IsObservable old → PagesHaveRoom old.pages level (Leader key)) → IsObservable between → maps.len between.pages + (lows.count + length above.cells) < most_pages
+  module _ {T : Type 0} (between : PagesState) (unit : T) (count past : ℕ) (empty : CellList)
+      (count_is : count ≡ highs.kept + highs.count) (empty_is : empty.cells ≡ [])
+      (past_is : past ≡ max count (length (runs (page_room empty.level) empty.cells)))
+      (write : IsRunChange read_all between (Leader key) 0 count empty past (Ok unit)) where
+    pub room_to_join : (IsObservable old → PagesHaveRoom old.pages level lead)
+        → (IsObservable old → PagesHaveRoom old.pages level (Leader key)) → IsObservable between
+        → maps.len between.pages + (lows.count + length above.cells) < most_pages
     room_to_join room own_room o =
         let seen' = write.hidden o in
         let seen = read'.hidden seen' in
@@ -250,7 +341,8 @@ module _ (old mid read_all : PagesState) (level : ℕ) (lead : Lead) (key : List
         let r = read.observed (read.hidden seen) in
         let r' = read'.observed seen in
         let p = r.found h.cells h.holds (omega (arith, h.few)) in
-        let p' = r'.found h'.cells (subst (λ m. HoldsGroup m level (Leader key) h'.cells) (sym r.unchanged) h'.holds) (omega (arith, h'.few)) in
+        let p' = r'.found h'.cells (subst (λ m. HoldsGroup m level (Leader key) h'.cells) (sym r.unchanged) h'.holds)
+        (omega (arith, h'.few)) in
         omega (
           arith,
           count_is,
@@ -271,14 +363,19 @@ module _ (old mid read_all : PagesState) (level : ℕ) (lead : Lead) (key : List
           h.room,
         )
 
-    pub groups_joined : {S : Type 0} (new : PagesState) (unit' : S) (moved : Bool) (next : declared.Lead) → empty.level ≡ level → (moved ≡ false → length above.cells ≤ length lows.cells.cells) → leads.model_lead next ≡ lead_from (last_of lows.cells.cells) (leads.model_lead lows.next)
-        → IsRunChange between new lead lows.kept lows.count above (cond moved (run_past joined) 0) (Ok unit') → JoinsGroups old new level lead key (Ok next)
+    pub groups_joined : {S : Type 0} (new : PagesState) (unit' : S) (moved : Bool) (next : declared.Lead)
+        → empty.level ≡ level → (moved ≡ false → length above.cells ≤ length lows.cells.cells)
+        → leads.model_lead next ≡ lead_from (last_of lows.cells.cells) (leads.model_lead lows.next)
+        → IsRunChange between new lead lows.kept lows.count above (cond moved (run_past joined) 0) (Ok unit')
+        → JoinsGroups old new level lead key (Ok next)
     groups_joined new unit' moved next same'' still next_leads write' = record {
       call = record {
         faults = write'.faults ∙ write.faults ∙ read'.faults ∙ read.faults;
         lookups_kept = omega (arith, write'.lookups, write.lookups, read.lookups_kept, read'.lookups_kept);
         hidden = λ o. read.hidden (read'.hidden (write.hidden (write'.hidden o)));
-        observable = λ o. (write'.observed (write.observed (read'.observed (read.observed o).observable).observable).observable).observable;
+        observable =
+            λ o. (write'.observed
+            (write.observed (read'.observed (read.observed o).observable).observable).observable).observable;
       };
       joined = λ o low high front back h.
           let r = read.observed o in
@@ -286,7 +383,8 @@ module _ (old mid read_all : PagesState) (level : ℕ) (lead : Lead) (key : List
           let w = write.observed r'.observable in
           let w' = write'.observed w.observable in
           let p = r.found low h.low_holds h.low_few in
-          let p' = r'.found high (subst (λ m. HoldsGroup m level (Leader key) high) (sym r.unchanged) h.high_holds) h.high_few in
+          let p' = r'.found high (subst (λ m. HoldsGroup m level (Leader key) high) (sym r.unchanged) h.high_holds)
+          h.high_few in
           let low_pages = group_pages level lead low in
           let high_pages = group_pages level (Leader key) high in
           let below = side Less key low in
@@ -297,29 +395,56 @@ module _ (old mid read_all : PagesState) (level : ℕ) (lead : Lead) (key : List
           let valid = front_cells level below more all in
           let stay = cells_gathered p.stay in
           let gone = side Less key (cells_gathered p.gone) in
-          let rest = back_cells level stay (gone ++ more) (subst (AreCells level) (ap (λ xs. xs ++ more) (lows_are level lead key low none lows passed p) ∙ append_assoc stay gone more) all) in
-          let above_are = above_is level (Leader key) key high lows.cells.cells highs above.cells p' (subst (λ xs. AreCells level (xs ++ more)) (sym (low_is level lead key low none lows passed p valid)) rest) in
-          let within : lows.kept + lows.count ≤ length low_pages = omega (arith, whole level lead key low none lows passed p) in
-          let renewed = goes_with level lead key low none lows passed p more news joined valid news_is refl refl above_are in
-          let stays = λ (e : moved ≡ false). sym h.below ∙ sym (append-nil below) ∙ ap (λ xs. below ++ xs) (sym (none_behind lows.cells.cells more above.cells above_are (still e))) ∙ sym news_is in
-          let all_gone : count ≡ length high_pages = count_is ∙ whole level (Leader key) key high lows.cells.cells highs above.cells p' in
-          let first = subst (λ n. IsChange n (Leader key) (front ++ low_pages) back high_pages []) (sym same'') h.first in
-          let dropped = w.changed high_pages [] (front ++ low_pages) back (is_drop level (Leader key) empty high_pages count empty_is all_gone) first (r'.unchanged ∙ r.unchanged ∙ h.pages_are ∙ ap map_of_pages (sym (append_assoc front low_pages (high_pages ++ back))))
-          ∙ ap (λ ps. map_of_pages ((front ++ low_pages) ++ (ps ++ back))) (all_dropped level (Leader key) empty high_pages count empty_is all_gone past past_is) ∙ ap map_of_pages (append_assoc front low_pages back) in
-          let second = subst (λ n. IsChange n lead front back low_pages (group_pages level lead news)) (sym same') h.second in
+          let rest = back_cells level stay (gone ++ more)
+          (subst (AreCells level) (ap (λ xs. xs ++ more) (lows_are level lead key low none lows passed p)
+          ∙ append_assoc stay gone more) all) in
+          let above_are = above_is level (Leader key) key high lows.cells.cells highs above.cells p'
+          (subst (λ xs. AreCells level (xs ++ more))
+          (sym (low_is level lead key low none lows passed p valid)) rest) in
+          let within : lows.kept + lows.count ≤ length low_pages =
+          omega (arith, whole level lead key low none lows passed p) in
+          let renewed = goes_with level lead key low none lows passed p more news joined valid
+          news_is refl refl above_are in
+          let stays = λ (e : moved ≡ false). sym h.below ∙ sym (append-nil below)
+          ∙ ap (λ xs. below ++ xs) (sym (none_behind lows.cells.cells more above.cells above_are (still e)))
+          ∙ sym news_is in
+          let all_gone : count ≡ length high_pages =
+          count_is ∙ whole level (Leader key) key high lows.cells.cells highs above.cells p' in
+          let first = subst (λ n. IsChange n (Leader key) (front ++ low_pages) back high_pages []) (sym same'') h.first
+          in
+          let dropped = w.changed high_pages [] (front ++ low_pages) back
+          (is_drop level (Leader key) empty high_pages count empty_is all_gone) first
+          (r'.unchanged ∙ r.unchanged ∙ h.pages_are
+          ∙ ap map_of_pages (sym (append_assoc front low_pages (high_pages ++ back))))
+          ∙ ap (λ ps. map_of_pages ((front ++ low_pages) ++ (ps ++ back)))
+          (all_dropped level (Leader key) empty high_pages count empty_is all_gone past past_is)
+          ∙ ap map_of_pages (append_assoc front low_pages back) in
+          let second = subst (λ n. IsChange n lead front back low_pages (group_pages level lead news))
+          (sym same') h.second in
           record {
-            pages_are = w'.changed low_pages (group_pages level lead news) front back (is_run level lead low news joined same' within renewed) second dropped
-                ∙ ap (λ ps. map_of_pages (front ++ (ps ++ back))) (goes_to level lead key low none lows passed p news joined moved same' within renewed stays);
+            pages_are = w'.changed low_pages (group_pages level lead news) front back
+                (is_run level lead low news joined same' within renewed) second dropped
+                ∙ ap (λ ps. map_of_pages (front ++ (ps ++ back)))
+                (goes_to level lead key low none lows passed p news joined moved same' within renewed stays);
             next_is = next_leads ∙ next_is level lead key low none lows passed p valid;
           };
       lookups = λ o low high low_holds high_holds.
           let r = read.observed o in
           let r' = read'.observed r.observable in
-          omega (arith, write'.lookups, write.lookups, r.lookups low low_holds, r'.lookups high (subst (λ m. HoldsGroup m level (Leader key) high) (sym r.unchanged) high_holds));
+          omega (
+            arith,
+            write'.lookups,
+            write.lookups,
+            r.lookups low low_holds,
+            r'.lookups high
+                (subst (λ m. HoldsGroup m level (Leader key) high) (sym r.unchanged) high_holds),
+          );
     }
 
 -- the first group was not read
-pub first_not_read : {T : Type 0} (old mid : PagesState) (level : ℕ) (lead : Lead) (key : List ℕ) (fault : Fault) {IsFound : List Cell → Type 0} → IsGroupWalk {T = T} old mid level lead IsFound (Err fault) → JoinsGroups old mid level lead key (Err fault)
+pub first_not_read : {T : Type 0} (old mid : PagesState) (level : ℕ) (lead : Lead) (key : List ℕ)
+    (fault : Fault) {IsFound : List Cell → Type 0} → IsGroupWalk {T = T} old mid level lead IsFound (Err fault)
+    → JoinsGroups old mid level lead key (Err fault)
 first_not_read old mid level lead key fault read = record {
   call = failed_call old mid fault (walk_call old mid level lead (Err fault) read);
   joined = λ o low high front back h. tt;
@@ -327,13 +452,22 @@ first_not_read old mid level lead key fault read = record {
 }
 
 -- a call behind it failed
-pub groups_not_joined : {T S : Type 0} (old mid read_all new : PagesState) (level : ℕ) (lead : Lead) (key : List ℕ) (fault : Fault) {IsFound IsFound' : List Cell → Type 0} {result : Result T Fault} {result' : Result S Fault} → IsGroupWalk old mid level lead IsFound result → IsGroupWalk mid read_all level (Leader key) IsFound' result'
-    → new.lookups ≡ read_all.lookups → IsPagesCall {T = declared.Lead} old new (Err fault) → JoinsGroups old new level lead key (Err fault)
+pub groups_not_joined : {T S : Type 0} (old mid read_all new : PagesState) (level : ℕ) (lead : Lead) (key : List ℕ)
+    (fault : Fault) {IsFound IsFound' : List Cell → Type 0} {result : Result T Fault} {result' : Result S Fault}
+    → IsGroupWalk old mid level lead IsFound result → IsGroupWalk mid read_all level (Leader key) IsFound' result'
+    → new.lookups ≡ read_all.lookups → IsPagesCall {T = declared.Lead} old new (Err fault)
+    → JoinsGroups old new level lead key (Err fault)
 groups_not_joined old mid read_all new level lead key fault read read' same call = record {
   call = call;
   joined = λ o low high front back h. tt;
   lookups = λ o low high low_holds high_holds.
       let r = read.observed o in
       let r' = read'.observed r.observable in
-      omega (arith, same, r.lookups low low_holds, r'.lookups high (subst (λ m. HoldsGroup m level (Leader key) high) (sym r.unchanged) high_holds));
+      omega (
+        arith,
+        same,
+        r.lookups low low_holds,
+        r'.lookups high
+            (subst (λ m. HoldsGroup m level (Leader key) high) (sym r.unchanged) high_holds),
+      );
 }

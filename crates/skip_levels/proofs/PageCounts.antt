@@ -24,7 +24,8 @@ len-map_of_pages (p ∷ ps) = omega (arith, len-with_page (map_of_pages ps) p, l
 
 module _ (d : Draw) where
   -- groups have no more pages than cells
-  few_of_parts : (level : ℕ) (parts : List (List Cell)) → length (flat_map (pages_of_group d level) parts) ≤ length (flat_map (λ cells. cells) parts)
+  few_of_parts : (level : ℕ) (parts : List (List Cell))
+      → length (flat_map (pages_of_group d level) parts) ≤ length (flat_map (λ cells. cells) parts)
   few_of_parts level [] = omega arith
   few_of_parts level (cells ∷ parts) =
       omega (
@@ -37,21 +38,43 @@ module _ (d : Draw) where
 
   few_of_list : (level : ℕ) (cells : List Cell) → length (list_pages d level cells) ≤ length cells
   unfolding list_pages
-  few_of_list level cells = omega (arith, few_of_parts level (cut_before (leads_group d level) cells), ap length (flat_map-cut_before (leads_group d level) cells))
+  few_of_list level cells =
+      omega (
+        arith,
+        few_of_parts level (cut_before (leads_group d level) cells),
+        ap length
+            (flat_map-cut_before (leads_group d level) cells),
+      )
 
   -- nor has a level more pages than the list has pairs
   few_of_level : (s : List Pair) (level : ℕ) → length (level_pages d s level) ≤ length s
   unfolding level_list
   few_of_level s level =
       let stays = λ (pair : Pair). nat_le level (d.level pair.0) in
-      omega (arith, ap length (level_is_list d level s), few_of_list level (level_list d s level), length-map (filter stays s) (cell_on level), length-filter-le stays s)
+      omega (
+        arith,
+        ap length (level_is_list d level s),
+        few_of_list level
+            (level_list d s level),
+        length-map (filter stays s) (cell_on level),
+        length-filter-le stays s,
+      )
 
-  few_of_levels : (s : List Pair) (levels : List ℕ) → length s ≤ 8388608 → length (flat_map (level_pages d s) levels) ≤ 8388608 * length levels
+  few_of_levels : (s : List Pair) (levels : List ℕ) → length s ≤ 8388608
+      → length (flat_map (level_pages d s) levels) ≤ 8388608 * length levels
   few_of_levels s [] few = omega arith
-  few_of_levels s (level ∷ levels) few = omega (arith, few_of_level s level, few_of_levels s levels few, length-append (level_pages d s level) (flat_map (level_pages d s) levels))
+  few_of_levels s (level ∷ levels) few =
+      omega (
+        arith,
+        few_of_level s level,
+        few_of_levels s levels few,
+        length-append (level_pages d s level)
+            (flat_map (level_pages d s) levels),
+      )
 
 -- in the middle of a change, with levels of the old list and of the new one
-pub few_between : (m : PageMap) (d : Draw) (s t : List Pair) (level : ℕ) → d.height ≤ 256 → length s ≤ 8388608 → length t ≤ 8388608 → level ≤ d.height → m ≡ map_of_pages (pages_between d s t level) → maps.len m ≤ 2147483648
+pub few_between : (m : PageMap) (d : Draw) (s t : List Pair) (level : ℕ) → d.height ≤ 256 → length s ≤ 8388608
+    → length t ≤ 8388608 → level ≤ d.height → m ≡ map_of_pages (pages_between d s t level) → maps.len m ≤ 2147483648
 few_between m d s t level narrow old_few new_few within is =
     omega (
       arith,

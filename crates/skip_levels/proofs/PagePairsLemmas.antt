@@ -1,5 +1,6 @@
 -- The pages of a list hold its pairs.
-use Rattle.std.proofs.Common.{◌≡◌, ℕ, zero, suc, ◌<◌, ◌≤◌, List, [], ◌∷◌, ◌++◌, map, filter, cond, nat_le, Some, None, refl, sym, ap, ap₂, subst, ◌∙◌, arith}
+use Rattle.std.proofs.Common.{◌≡◌, ℕ, zero, suc, ◌<◌, ◌≤◌, List, [], ◌∷◌, ◌++◌, map, filter, cond, nat_le, Some, None}
+use Rattle.std.proofs.Common.{refl, sym, ap, ap₂, subst, ◌∙◌, arith}
 use Rattle.std.specs.List.{flat_map, AllByRecursion}
 use Rattle.std.specs.FinMap as maps
 use Rattle.std.proofs.lemmas.Grind.{flat_map-append}
@@ -26,7 +27,10 @@ pairs_of_level_0 (pair ∷ s) = ap (λ xs. pair ∷ xs) (pairs_of_level_0 s)
 -- and no other level has one
 no_pair : (level : ℕ) (pair : Pair) → 0 < level → pairs_with (cell_on level pair).key (cell_on level pair).value ≡ []
 no_pair level pair some =
-    ap (λ b. pairs_with (cond {A = Cell} b (record { key = pair.0; value = Some pair.1 }) (record { key = pair.0; value = None })).key (cond {A = Cell} b (record { key = pair.0; value = Some pair.1 }) (record { key = pair.0; value = None })).value) (not_zero level some)
+    ap (λ b. pairs_with (cond {A = Cell} b (record { key = pair.0; value = Some pair.1 })
+    (record { key = pair.0; value = None })).key
+    (cond {A = Cell} b (record { key = pair.0; value = Some pair.1 })
+    (record { key = pair.0; value = None })).value) (not_zero level some)
 
 no_pairs : (level : ℕ) (s : List Pair) → 0 < level → pairs_of_cells (map (cell_on level) s) ≡ []
 no_pairs level [] some = refl
@@ -35,22 +39,28 @@ no_pairs level (pair ∷ s) some = ap₂ (λ xs ys. xs ++ ys) (no_pair level pai
 module _ (d : Draw) (s : List Pair) where
   pairs-append : (xs ys : List Page) → pairs_of_pages (xs ++ ys) ≡ pairs_of_pages xs ++ pairs_of_pages ys
   pairs-append xs ys =
-      ap pairs_of_cells (flat_map-append (λ (page : Page). page.cells) xs ys) ∙ flat_map-append (λ (cell : Cell). pairs_with cell.key cell.value) (flat_map (λ (page : Page). page.cells) xs) (flat_map (λ (page : Page). page.cells) ys)
+      ap pairs_of_cells (flat_map-append (λ (page : Page). page.cells) xs ys)
+      ∙ flat_map-append (λ (cell : Cell). pairs_with cell.key cell.value)
+      (flat_map (λ (page : Page). page.cells) xs) (flat_map (λ (page : Page). page.cells) ys)
 
   none_above : (level : ℕ) → 0 < level → pairs_of_pages (level_pages d s level) ≡ []
   unfolding level_list
-  none_above level some = ap pairs_of_cells (cells_of_level d s level) ∙ no_pairs level (filter (λ pair. nat_le level (d.level pair.0)) s) some
+  none_above level some = ap pairs_of_cells (cells_of_level d s level)
+      ∙ no_pairs level (filter (λ pair. nat_le level (d.level pair.0)) s) some
 
-  none_on : (levels : List ℕ) → AllByRecursion (λ level. 1 ≤ level) levels → pairs_of_pages (flat_map (level_pages d s) levels) ≡ []
+  none_on : (levels : List ℕ) → AllByRecursion (λ level. 1 ≤ level) levels
+      → pairs_of_pages (flat_map (level_pages d s) levels) ≡ []
   none_on [] h = refl
-  none_on (level ∷ levels) h = pairs-append (level_pages d s level) (flat_map (level_pages d s) levels) ∙ ap₂ (λ xs ys. xs ++ ys) (none_above level h.0) (none_on levels h.1)
+  none_on (level ∷ levels) h = pairs-append (level_pages d s level) (flat_map (level_pages d s) levels)
+      ∙ ap₂ (λ xs ys. xs ++ ys) (none_above level h.0) (none_on levels h.1)
 
   on_all : (height : ℕ) → 1 ≤ height → pairs_of_pages (flat_map (level_pages d s) (numbers_below height)) ≡ s
   unfolding numbers_from
   on_all zero some = absurd (omega arith)
   on_all (suc n) some =
       pairs-append (level_pages d s 0) (flat_map (level_pages d s) (numbers_from 1 n))
-      ∙ ap₂ (λ xs ys. xs ++ ys) (ap pairs_of_cells (cells_of_level_0 d s) ∙ pairs_of_level_0 s) (none_on (numbers_from 1 n) (all_numbers_from 1 n))
+      ∙ ap₂ (λ xs ys. xs ++ ys) (ap pairs_of_cells (cells_of_level_0 d s) ∙ pairs_of_level_0 s)
+      (none_on (numbers_from 1 n) (all_numbers_from 1 n))
       ∙ append-nil s
 
   -- the pairs of the map of the pages of a list are that list
@@ -58,11 +68,13 @@ module _ (d : Draw) (s : List Pair) where
   unfolding pairs_of_map pages_of_pairs
   pairs_of_list lawful valid =
       let some = lawful.level_in_range [] in
-      ap pairs_of_pages (pages_of_rising_map (pages_of_pairs d s) (rising_pages d s (keyed s valid))) ∙ on_all d.height (omega arith)
+      ap pairs_of_pages (pages_of_rising_map (pages_of_pairs d s) (rising_pages d s (keyed s valid)))
+      ∙ on_all d.height (omega arith)
 
 -- what a map holds is what its pages hold
 pub holds_own : (d : Draw) (s : List Pair) (m : PageMap) → HoldsPairs d s m → pairs_of_map m ≡ s
-holds_own d s m h = ap pairs_of_map h.map_is ∙ pairs_of_list d s h.lawful (record { pairs = h.pairs; few = omega (arith, h.few) })
+holds_own d s m h = ap pairs_of_map h.map_is
+    ∙ pairs_of_list d s h.lawful (record { pairs = h.pairs; few = omega (arith, h.few) })
 
 pub holds_its_pairs : (d : Draw) (s : List Pair) (m : PageMap) → HoldsPairs d s m → HoldsPairs d (pairs_of_map m) m
 holds_its_pairs d s m h = subst (λ pairs. HoldsPairs d pairs m) (sym (holds_own d s m h)) h

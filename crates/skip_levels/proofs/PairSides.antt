@@ -1,5 +1,6 @@
 -- A list of pairs on the two sides of a key, with its pair and without.
-use Rattle.std.proofs.Common.{◌≡◌, ℕ, List, [], ◌∷◌, ◌++◌, not, cond, Some, None, Less, Equal, Greater, refl, sym, ap, ap₂, subst, ◌∙◌}
+use Rattle.std.proofs.Common.{◌≡◌, ℕ, List, [], ◌∷◌, ◌++◌, not, cond, Some, None, Less, Equal, Greater, refl, sym, ap}
+use Rattle.std.proofs.Common.{ap₂, subst, ◌∙◌}
 use Rattle.std.specs.Ordering.{is_le, is_lt, is_eq}
 use Rattle.std.specs.List.{AllByRecursion}
 use Rattle.std.specs.List.Sorted.{IsStrictlySortedBy}
@@ -43,14 +44,20 @@ module _ (key : List ℕ) where
       record {
         none_below = ap (λ o. cond (is_lt o) (e ∷ below key s) (below key s)) h.0 ∙ rest.none_below;
         none_at = ap (λ o. cond (is_le o) (e ∷ not_above key s) (not_above key s)) h.0 ∙ rest.none_at;
-        all_above = ap (λ o. cond (not (is_le o)) (e ∷ above key s) (above key s)) h.0 ∙ ap (λ xs. e ∷ xs) rest.all_above;
-        all_kept = ap (λ o. cond (not (is_eq o)) (e ∷ without key s) (without key s)) (reversed e.0 key Greater h.0) ∙ ap (λ xs. e ∷ xs) rest.all_kept;
+        all_above = ap (λ o. cond (not (is_le o)) (e ∷ above key s) (above key s)) h.0
+            ∙ ap (λ xs. e ∷ xs) rest.all_above;
+        all_kept = ap (λ o. cond (not (is_eq o)) (e ∷ without key s) (without key s)) (reversed e.0 key Greater h.0)
+            ∙ ap (λ xs. e ∷ xs) rest.all_kept;
       }
 
   -- what stands behind a pair that is not below the key
-  above_all : (e : Pair) (s : List Pair) → IsStrictlySortedBy (λ a b. key_cmp a.0 b.0) (e ∷ s) → ((other : List ℕ) → key_cmp e.0 other ≡ Less → key_cmp key other ≡ Less) → AllByRecursion (λ p. key_cmp p.0 key ≡ Greater) s
+  above_all : (e : Pair) (s : List Pair) → IsStrictlySortedBy (λ a b. key_cmp a.0 b.0) (e ∷ s)
+      → ((other : List ℕ) → key_cmp e.0 other ≡ Less → key_cmp key other ≡ Less)
+      → AllByRecursion (λ p. key_cmp p.0 key ≡ Greater) s
   above_all e s rising further =
-      all_weaker (λ (p : Pair). key_cmp e.0 p.0 ≡ Less) (λ p. key_cmp p.0 key ≡ Greater) (λ p less. reversed key p.0 Less (further p.0 less)) s (rising_head (λ (a b : Pair). key_cmp a.0 b.0) e s rising)
+      all_weaker (λ (p : Pair). key_cmp e.0 p.0 ≡ Less) (λ p. key_cmp p.0 key ≡ Greater)
+      (λ p less. reversed key p.0 Less (further p.0 less)) s
+      (rising_head (λ (a b : Pair). key_cmp a.0 b.0) e s rising)
 
   -- a pair below the key
   module _ (e : Pair) (s : List Pair) (greater : key_cmp key e.0 ≡ Greater) where
@@ -67,7 +74,8 @@ module _ (key : List ℕ) where
     above_same = ap (λ o. cond (not (is_le o)) (e ∷ above key s) (above key s)) lower
 
     pub put_more : (value : List ℕ) → put key_cmp key value (e ∷ s) ≡ e ∷ put key_cmp key value s
-    put_more value = ap (λ o. by_order o ((key, value) ∷ e ∷ s) ((e.0, value) ∷ s) (e ∷ put key_cmp key value s)) greater
+    put_more value = ap (λ o. by_order o ((key, value) ∷ e ∷ s) ((e.0, value) ∷ s) (e ∷ put key_cmp key value s))
+        greater
 
     pub without_more : without key (e ∷ s) ≡ e ∷ without key s
     without_more = ap (λ o. cond (not (is_eq o)) (e ∷ without key s) (without key s)) greater
@@ -76,70 +84,91 @@ module _ (key : List ℕ) where
     find_same = ap (λ o. cond (is_eq o) (Some e.1) (find key_cmp key s)) greater
 
   -- all pairs are above the key
-  lacks_first : (e : Pair) (s : List Pair) → AllByRecursion (λ p. key_cmp p.0 key ≡ Greater) (e ∷ s) → key_cmp key e.0 ≡ Less → Lacks key (e ∷ s)
+  lacks_first : (e : Pair) (s : List Pair) → AllByRecursion (λ p. key_cmp p.0 key ≡ Greater) (e ∷ s)
+      → key_cmp key e.0 ≡ Less → Lacks key (e ∷ s)
   lacks_first e s all less =
       let a = are_above (e ∷ s) all in
       record {
         sides = sym (ap₂ (λ xs ys. xs ++ ys) a.none_below a.all_above);
         floor = a.none_at ∙ sym a.none_below;
-        put = λ value. ap (λ o. by_order o ((key, value) ∷ e ∷ s) ((e.0, value) ∷ s) (e ∷ put key_cmp key value s)) less ∙ sym (ap₂ (λ xs ys. xs ++ (key, value) ∷ ys) a.none_below a.all_above);
+        put = λ value. ap (λ o. by_order o ((key, value) ∷ e ∷ s) ((e.0, value) ∷ s) (e ∷ put key_cmp key value s)) less
+            ∙ sym (ap₂ (λ xs ys. xs ++ (key, value) ∷ ys) a.none_below a.all_above);
         kept = a.all_kept;
       }
 
-  pub lacks_pair : (s : List Pair) → IsStrictlySortedBy (λ a b. key_cmp a.0 b.0) s → find key_cmp key s ≡ None → Lacks key s
+  pub lacks_pair : (s : List Pair) → IsStrictlySortedBy (λ a b. key_cmp a.0 b.0) s
+      → find key_cmp key s ≡ None → Lacks key s
   lacks_pair [] rising none = record { sides = refl; floor = refl; put = λ value. refl; kept = refl }
   lacks_pair (e ∷ s) rising none =
       elim (key_cmp key e.0) as (λ o. key_cmp key e.0 ≡ o → Lacks key (e ∷ s)) [
-        | Less ↦ λ less. lacks_first e s (reversed key e.0 Less less, above_all e s rising (λ other h. nat_list_cmp_total.trans key e.0 other less h)) less
-        | Equal ↦ λ equal. let found = sym (ap (λ o. cond (is_eq o) (Some e.1) (find key_cmp key s)) equal) ∙ none in absurd (cc)
+        | Less ↦ λ less. lacks_first e s (
+          reversed key e.0 Less less,
+          above_all e s rising
+              (λ other h. nat_list_cmp_total.trans key e.0 other less h),
+        ) less
+        | Equal ↦ λ equal. let found = sym (ap (λ o. cond (is_eq o) (Some e.1) (find key_cmp key s)) equal) ∙ none
+            in absurd (cc)
         | Greater ↦ λ greater.
-            let rest = lacks_pair s (rising_tail (λ (a b : Pair). key_cmp a.0 b.0) e s rising) (sym (find_same e s greater) ∙ none) in
+            let rest = lacks_pair s (rising_tail (λ (a b : Pair). key_cmp a.0 b.0) e s rising)
+            (sym (find_same e s greater) ∙ none) in
             let joined = ap₂ (λ xs ys. xs ++ ys) (below_more e s greater) (above_same e s greater) in
             record {
               sides = ap (λ xs. e ∷ xs) rest.sides ∙ sym joined;
               floor = at_more e s greater ∙ ap (λ xs. e ∷ xs) rest.floor ∙ sym (below_more e s greater);
-              put = λ value. put_more e s greater value ∙ ap (λ xs. e ∷ xs) (rest.put value) ∙ sym (ap₂ (λ xs ys. xs ++ (key, value) ∷ ys) (below_more e s greater) (above_same e s greater));
+              put = λ value. put_more e s greater value ∙ ap (λ xs. e ∷ xs) (rest.put value)
+                  ∙ sym (ap₂ (λ xs ys. xs ++ (key, value) ∷ ys) (below_more e s greater) (above_same e s greater));
               kept = without_more e s greater ∙ ap (λ xs. e ∷ xs) rest.kept;
             }
       ] refl
 
   -- the first pair is the key's
-  has_first : (value : List ℕ) (e : Pair) (s : List Pair) → e.0 ≡ key → e.1 ≡ value → key_cmp key e.0 ≡ Equal → AllByRecursion (λ p. key_cmp p.0 key ≡ Greater) s → Has key value (e ∷ s)
+  has_first : (value : List ℕ) (e : Pair) (s : List Pair) → e.0 ≡ key → e.1 ≡ value → key_cmp key e.0 ≡ Equal
+      → AllByRecursion (λ p. key_cmp p.0 key ≡ Greater) s → Has key value (e ∷ s)
   has_first value e s is_key is_value equal all =
       let a = are_above s all in
       let back = reversed key e.0 Equal equal in
       let pair : e ≡ (key, value) = ap₂ (λ (x y : List ℕ). (x, y)) is_key is_value in
       let low : below key (e ∷ s) ≡ [] = ap (λ o. cond (is_lt o) (e ∷ below key s) (below key s)) back ∙ a.none_below in
-      let high : above key (e ∷ s) ≡ s = ap (λ o. cond (not (is_le o)) (e ∷ above key s) (above key s)) back ∙ a.all_above in
+      let high : above key (e ∷ s) ≡ s =
+      ap (λ o. cond (not (is_le o)) (e ∷ above key s) (above key s)) back ∙ a.all_above in
       record {
         sides = ap (λ p. p ∷ s) pair ∙ sym (ap₂ (λ xs ys. xs ++ (key, value) ∷ ys) low high);
-        floor = ap (λ o. cond (is_le o) (e ∷ not_above key s) (not_above key s)) back ∙ ap₂ (λ p xs. p ∷ xs) pair a.none_at ∙ sym (ap (λ xs. xs ++ (key, value) ∷ []) low);
+        floor = ap (λ o. cond (is_le o) (e ∷ not_above key s) (not_above key s)) back
+            ∙ ap₂ (λ p xs. p ∷ xs) pair a.none_at ∙ sym (ap (λ xs. xs ++ (key, value) ∷ []) low);
         put = λ other.
-            ap (λ o. by_order o ((key, other) ∷ e ∷ s) ((e.0, other) ∷ s) (e ∷ put key_cmp key other s)) equal ∙ ap (λ (k : List ℕ). (k, other) ∷ s) is_key
+            ap (λ o. by_order o ((key, other) ∷ e ∷ s) ((e.0, other) ∷ s) (e ∷ put key_cmp key other s)) equal
+            ∙ ap (λ (k : List ℕ). (k, other) ∷ s) is_key
             ∙ sym (ap₂ (λ xs ys. xs ++ (key, other) ∷ ys) low high);
-        taken = ap (λ o. cond (not (is_eq o)) (e ∷ without key s) (without key s)) equal ∙ a.all_kept ∙ sym (ap₂ (λ xs ys. xs ++ ys) low high);
+        taken = ap (λ o. cond (not (is_eq o)) (e ∷ without key s) (without key s)) equal ∙ a.all_kept
+            ∙ sym (ap₂ (λ xs ys. xs ++ ys) low high);
       }
 
-  pub has_pair : (value : List ℕ) (s : List Pair) → IsStrictlySortedBy (λ a b. key_cmp a.0 b.0) s → find key_cmp key s ≡ Some value → Has key value s
+  pub has_pair : (value : List ℕ) (s : List Pair) → IsStrictlySortedBy (λ a b. key_cmp a.0 b.0) s
+      → find key_cmp key s ≡ Some value → Has key value s
   has_pair value [] rising found = absurd (cc)
   has_pair value (e ∷ s) rising found =
       elim (key_cmp key e.0) as (λ o. key_cmp key e.0 ≡ o → Has key value (e ∷ s)) [
         | Less ↦ λ less.
-            let all = all_weaker (λ (p : Pair). key_cmp e.0 p.0 ≡ Less) (λ p. key_cmp key p.0 ≡ Less) (λ p h. nat_list_cmp_total.trans key e.0 p.0 less h) s (rising_head (λ (a b : Pair). key_cmp a.0 b.0) e s rising) in
+            let all = all_weaker (λ (p : Pair). key_cmp e.0 p.0 ≡ Less) (λ p. key_cmp key p.0 ≡ Less)
+            (λ p h. nat_list_cmp_total.trans key e.0 p.0 less h) s
+            (rising_head (λ (a b : Pair). key_cmp a.0 b.0) e s rising) in
             let none = find_below_all key_cmp key (e ∷ s) (less, all) in
             absurd (cc)
         | Equal ↦ λ equal.
             let is_key = sym (same_key key e.0 equal) in
             let here = sym (ap (λ o. cond (is_eq o) (Some e.1) (find key_cmp key s)) equal) ∙ found in
-            has_first value e s is_key (same_value e.1 value here) equal (above_all e s rising (λ other h. subst (λ k. key_cmp k other ≡ Less) is_key h))
+            has_first value e s is_key (same_value e.1 value here) equal
+            (above_all e s rising (λ other h. subst (λ k. key_cmp k other ≡ Less) is_key h))
         | Greater ↦ λ greater.
-            let rest = has_pair value s (rising_tail (λ (a b : Pair). key_cmp a.0 b.0) e s rising) (sym (find_same e s greater) ∙ found) in
+            let rest = has_pair value s (rising_tail (λ (a b : Pair). key_cmp a.0 b.0) e s rising)
+            (sym (find_same e s greater) ∙ found) in
             let low = below_more e s greater in
             let high = above_same e s greater in
             record {
               sides = ap (λ xs. e ∷ xs) rest.sides ∙ sym (ap₂ (λ xs ys. xs ++ (key, value) ∷ ys) low high);
               floor = at_more e s greater ∙ ap (λ xs. e ∷ xs) rest.floor ∙ sym (ap (λ xs. xs ++ (key, value) ∷ []) low);
-              put = λ other. put_more e s greater other ∙ ap (λ xs. e ∷ xs) (rest.put other) ∙ sym (ap₂ (λ xs ys. xs ++ (key, other) ∷ ys) low high);
+              put = λ other. put_more e s greater other ∙ ap (λ xs. e ∷ xs) (rest.put other)
+                  ∙ sym (ap₂ (λ xs ys. xs ++ (key, other) ∷ ys) low high);
               taken = without_more e s greater ∙ ap (λ xs. e ∷ xs) rest.taken ∙ sym (ap₂ (λ xs ys. xs ++ ys) low high);
             }
       ] refl

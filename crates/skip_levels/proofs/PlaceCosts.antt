@@ -1,5 +1,7 @@
--- The two groups that are joined where a pair is taken out are those of the search paths, at or below the key and strictly below it.
-use Rattle.std.proofs.Common.{◌≡◌, ℕ, ◌<◌, List, [], ◌∷◌, ◌++◌, Bool, true, false, nat_lt, refl, sym, ap, ◌∙◌, append_assoc, arith, lt-ltb}
+-- The two groups that are joined where a pair is taken out are those of the search paths, at or below the key and
+-- strictly below it.
+use Rattle.std.proofs.Common.{◌≡◌, ℕ, ◌<◌, List, [], ◌∷◌, ◌++◌, Bool, true, false, nat_lt, refl, sym, ap, ◌∙◌}
+use Rattle.std.proofs.Common.{append_assoc, arith, lt-ltb}
 use Rattle.std.proofs.lemmas.List.{append-nil}
 use Rattle.store_model.specs.Draws.{Draw}
 use Rattle.store_model.specs.Pairs.{Pair, IsPairs}
@@ -19,14 +21,16 @@ unfolding level_list
 level_list_none d level = refl
 
 -- before a cut there is nothing
-no_part : {A : Type 0} (cuts : A → Bool) (x : A) (xs part behind : List A) → cuts x ≡ true → x ∷ xs ≡ part ++ behind → HasNoCut cuts part → part ≡ []
+no_part : {A : Type 0} (cuts : A → Bool) (x : A) (xs part behind : List A) → cuts x ≡ true → x ∷ xs ≡ part ++ behind
+    → HasNoCut cuts part → part ≡ []
 no_part cuts x xs [] behind cut whole none = refl
 no_part cuts x xs (z ∷ zs) behind cut whole none =
     let same = heads_same whole in
     let wrong : true ≡ false = sym cut ∙ ap cuts same ∙ none.0 in
     absurd (cc)
 
-module _ (d : Draw) (level : ℕ) (key value : List ℕ) (s : List Pair) (h : Has key value s) (valid : IsPairs s) (lower : level < d.level key) where
+module _ (d : Draw) (level : ℕ) (key value : List ℕ) (s : List Pair) (h : Has key value s) (valid : IsPairs s)
+    (lower : level < d.level key) where
   abbrev low : List Pair
   low = below key s
 
@@ -41,9 +45,12 @@ module _ (d : Draw) (level : ℕ) (key value : List ℕ) (s : List Pair) (h : Ha
   low_group =
       let cuts = leads_group d level in
       let cut = first_cut cuts (level_list d ((key, value) ∷ high) level) in
-      let none : cut.part ≡ [] = no_part cuts (cell_on level (key, value)) (level_list d high level) cut.part cut.behind own_cut (sym (level_list-there d (key, value) high level (omega arith)) ∙ cut.whole) cut.uncut in
+      let none : cut.part ≡ [] = no_part cuts (cell_on level (key, value))
+      (level_list d high level) cut.part cut.behind own_cut
+      (sym (level_list-there d (key, value) high level (omega arith)) ∙ cut.whole) cut.uncut in
       sym (led_by_place d level s low ((key, value) ∷ high) h.sides valid
-      ∙ ap (λ cells. part d level low high (key, value) ++ cells) none ∙ append-nil (part d level low high (key, value)))
+      ∙ ap (λ cells. part d level low high (key, value) ++ cells) none
+      ∙ append-nil (part d level low high (key, value)))
 
   pub high_group : cell_on level (key, value) ∷ mid d level low high (key, value) ≡ group_at_or_below d s level key
   unfolding group_of_place
@@ -51,9 +58,12 @@ module _ (d : Draw) (level : ℕ) (key value : List ℕ) (s : List Pair) (h : Ha
       let cuts = leads_group d level in
       let own = cell_on level (key, value) in
       let cells : level_list d (low ++ (key, value) ∷ []) level ≡ level_list d low level ++ own ∷ [] =
-      level_list-append d level low ((key, value) ∷ []) ∙ ap (λ xs. level_list d low level ++ xs) (level_list-there d (key, value) [] level (omega arith) ∙ ap (λ xs. own ∷ xs) (level_list_none d level)) in
+      level_list-append d level low ((key, value) ∷ [])
+      ∙ ap (λ xs. level_list d low level ++ xs)
+      (level_list-there d (key, value) [] level (omega arith) ∙ ap (λ xs. own ∷ xs) (level_list_none d level)) in
       let last : (last_part cuts (level_list d (low ++ (key, value) ∷ []) level)).part ≡ own ∷ [] =
       ap (λ xs. (last_part cuts xs).part) cells ∙ part_of_last cuts own own_cut (level_list d low level) in
       let sides : s ≡ (low ++ (key, value) ∷ []) ++ high = h.sides ∙ sym (append_assoc low ((key, value) ∷ []) high) in
-      sym (ap (λ xs. group_led_by d s level (leader_behind d level xs)) h.floor ∙ led_by_place d level s (low ++ (key, value) ∷ []) high sides valid
+      sym (ap (λ xs. group_led_by d s level (leader_behind d level xs)) h.floor
+      ∙ led_by_place d level s (low ++ (key, value) ∷ []) high sides valid
       ∙ ap (λ cells. cells ++ mid d level low high (key, value)) last)

@@ -1,5 +1,8 @@
--- A search for the place at which a pair is put: a key above level 0 is there exactly where it leads its group of level 0.
-use Rattle.std.proofs.Common.{◌≡◌, ◌⊎◌, inl, inr, ℕ, zero, suc, ◌+◌, ◌<◌, ◌≤◌, List, [], ◌∷◌, map, filter, true, false, nat_lt, Bool, Option, Some, None, Result, Ok, Err, Ordering, Less, Equal, Greater, refl, sym, ap, subst, ◌∙◌, arith, lt-ltb}
+-- A search for the place at which a pair is put: a key above level 0 is there exactly where it leads its group of
+-- level 0.
+use Rattle.std.proofs.Common.{◌≡◌, ◌⊎◌, inl, inr, ℕ, zero, suc, ◌+◌, ◌<◌, ◌≤◌, List, [], ◌∷◌, map, filter, true, false}
+use Rattle.std.proofs.Common.{nat_lt, Bool, Option, Some, None, Result, Ok, Err, Ordering, Less, Equal, Greater, refl}
+use Rattle.std.proofs.Common.{sym, ap, subst, ◌∙◌, arith, lt-ltb}
 use Rattle.std.specs.Ordering.{is_lt, is_eq}
 use Rattle.std.specs.List.{AllByRecursion}
 use Rattle.std.specs.FinMap.{find}
@@ -51,7 +54,9 @@ module _ (d : Draw) (s : List Pair) (key : List ℕ) (valid : IsPairs s) where
       ap (λ xs. is_leader key (leader_behind d 0 xs)) lacks.floor
       ∙ by_lead (leader_behind d 0 (below key s))
       (of_last lower (map (λ (pair : Pair). pair.0) (filter stands (below key s)))
-      (all_map (λ (pair : Pair). is_lt (key_cmp pair.0 key) ≡ true) lower (λ pair. pair.0) (λ pair h. h) (filter stands (below key s)) (all_filter _ stands (below key s) (all_kept (λ (pair : Pair). is_lt (key_cmp pair.0 key)) s))))
+      (all_map (λ (pair : Pair). is_lt (key_cmp pair.0 key) ≡ true) lower (λ pair. pair.0) (λ pair h. h)
+      (filter stands (below key s))
+      (all_filter _ stands (below key s) (all_kept (λ (pair : Pair). is_lt (key_cmp pair.0 key)) s))))
     where
       by_lead : (l : Lead) → IsOfLead (λ k. is_lt (key_cmp k key) ≡ true) l → is_leader key l ≡ false
       by_lead Start h = refl
@@ -62,9 +67,11 @@ module _ (d : Draw) (s : List Pair) (key : List ℕ) (valid : IsPairs s) where
       ] h
 
   -- one above level 0 that the list has leads its group
-  leads_own : (value : List ℕ) → find key_cmp key s ≡ Some value → 0 < d.level key → leader_behind d 0 (not_above key s) ≡ Leader key
+  leads_own : (value : List ℕ) → find key_cmp key s ≡ Some value → 0 < d.level key
+      → leader_behind d 0 (not_above key s) ≡ Leader key
   leads_own value some above =
-      ap (leader_behind d 0) (has_pair key value s (rising_from_is_sorted key_cmp s valid.sorted) some).floor ∙ pair_leads d (below key s) (key, value) (lt-ltb 0 (d.level key) above)
+      ap (leader_behind d 0) (has_pair key value s (rising_from_is_sorted key_cmp s valid.sorted) some).floor
+      ∙ pair_leads d (below key s) (key, value) (lt-ltb 0 (d.level key) above)
 
   pub there_where_lead : is_leader key (leader_behind d 0 (not_above key s)) ≡ true → IsThere s key 0
   there_where_lead leads = by_value (find key_cmp key s) refl
@@ -73,19 +80,27 @@ module _ (d : Draw) (s : List Pair) (key : List ℕ) (valid : IsPairs s) where
       by_value None none = let wrong = sym leads ∙ not_lead none in absurd (cc)
       by_value (Some value) some = record { value = value; has = some; lowest = refl }
 
-  pub new_or_lowest : is_leader key (leader_behind d 0 (not_above key s)) ≡ false → IsNew d s key (d.level key) ⊎ IsThere s key (d.level key)
+  pub new_or_lowest : is_leader key (leader_behind d 0 (not_above key s)) ≡ false
+      → IsNew d s key (d.level key) ⊎ IsThere s key (d.level key)
   new_or_lowest leads_not = by_value (find key_cmp key s) refl
     where
-      lowest_of : (value : List ℕ) → find key_cmp key s ≡ Some value → (level : ℕ) → d.level key ≡ level → d.level key ≡ 0
+      lowest_of : (value : List ℕ) → find key_cmp key s ≡ Some value → (level : ℕ)
+          → d.level key ≡ level → d.level key ≡ 0
       lowest_of value some zero is = is
       lowest_of value some (suc n) is =
-          let leads = ap (is_leader key) (leads_own value some (omega (arith, is))) ∙ ap is_eq (tied_itself nat_list_cmp_total key) in
+          let leads = ap (is_leader key) (leads_own value some (omega (arith, is)))
+          ∙ ap is_eq (tied_itself nat_list_cmp_total key) in
           let wrong : true ≡ false = sym leads ∙ leads_not in
           absurd (cc)
 
-      by_value : (o : Option (List ℕ)) → find key_cmp key s ≡ o → IsNew d s key (d.level key) ⊎ IsThere s key (d.level key)
+      by_value : (o : Option (List ℕ)) → find key_cmp key s ≡ o
+          → IsNew d s key (d.level key) ⊎ IsThere s key (d.level key)
       by_value None none = inl (record { lacks = none; own = refl })
-      by_value (Some value) some = inr (record { value = value; has = some; lowest = lowest_of value some (d.level key) refl })
+      by_value (Some value) some = inr (record {
+        value = value;
+        has = some;
+        lowest = lowest_of value some (d.level key) refl;
+      })
 
 -- a key that leads is the lead
 leader_is : (key : List ℕ) (l : Lead) → is_leader key l ≡ true → Leader key ≡ l
@@ -97,27 +112,44 @@ leader_is key (Leader k) e = ap Leader (sym (same_key k key (equal (key_cmp k ke
     equal Equal h = refl
     equal Greater h = absurd (cc)
 
-module _ (d : Draw) (old new : PagesState) (known : Option PathEnd) (key : List ℕ) (behind : Option PathEnd) (height : ℕ) (high : height ≡ d.height) (some : 1 ≤ height) where
+module _ (d : Draw) (old new : PagesState) (known : Option PathEnd) (key : List ℕ) (behind : Option PathEnd)
+    (height : ℕ) (high : height ≡ d.height) (some : 1 ≤ height) where
   held : (s : List Pair) → HoldsPairs d s old.pages → IsKnownGroup d s known → IsSearched d s old.pages height known
   held s holds right = record { holds = holds; high = high; right = right }
 
-  within_path : {top : ℕ} {result : Result declared.Lead Fault} → FindsLead old new height known top key behind result → (s : List Pair) → HoldsPairs d s old.pages → IsKnownGroup d s known → new.lookups ≤ old.lookups + path_cost d s key
-  within_path n s holds right = omega (arith, n.lookups d s (held s holds right), path_within d s key 1 height high some)
+  within_path : {top : ℕ} {result : Result declared.Lead Fault} → FindsLead old new height known top key behind result
+      → (s : List Pair) → HoldsPairs d s old.pages → IsKnownGroup d s known
+      → new.lookups ≤ old.lookups + path_cost d s key
+  within_path n s holds right =
+      omega (arith, n.lookups d s (held s holds right), path_within d s key 1 height high some)
 
-  pub no_put_place : (top : ℕ) (fault : Fault) → IsPlaceSearch old new height known top key behind (Err fault) → IsPutSearch d old new known key behind (Err fault)
+  pub no_put_place : (top : ℕ) (fault : Fault) → IsPlaceSearch old new height known top key behind (Err fault)
+      → IsPutSearch d old new known key behind (Err fault)
   no_put_place top fault search = record {
     faults = search.faults ∙ same_count declared.Lead PutPlace old.faults fault;
     lookups_kept = search.lookups_kept;
     hidden = search.hidden;
-    observed = λ o. let n = search.observed o in record { observable = n.observable; unchanged = n.unchanged; found = λ s holds right. tt; place = λ s holds right. tt; lookups = within_path n };
+    observed = λ o. let n = search.observed o in record {
+      observable = n.observable;
+      unchanged = n.unchanged;
+      found = λ s holds right. tt;
+      place = λ s holds right. tt;
+      lookups = within_path n;
+    };
   }
 
-  module _ (top : ℕ) (own : top ≡ d.level key) (lead : declared.Lead) (search : IsPlaceSearch old new height known top key behind (Ok lead)) where
+  module _ (top : ℕ) (own : top ≡ d.level key) (lead : declared.Lead)
+      (search : IsPlaceSearch old new height known top key behind (Ok lead)) where
     -- what is told of the key by whether it leads its group
-    leads_as : {b : Bool} (n : FindsLead old new height known top key behind (Ok lead)) (s : List Pair) (h : IsSearched d s old.pages height known) → is_leader key (lead_known behind) ≡ b → is_leader key (leader_behind d 0 (not_above key s)) ≡ b
+    leads_as : {b : Bool} (n : FindsLead old new height known top key behind (Ok lead)) (s : List Pair)
+        (h : IsSearched d s old.pages height known) → is_leader key (lead_known behind) ≡ b
+        → is_leader key (leader_behind d 0 (not_above key s)) ≡ b
     leads_as n s h tells = ap (is_leader key) (sym (leads_lowest d s key behind (n.place d s h))) ∙ tells
 
-    put_place : (place : PutPlace) → ((n : FindsLead old new height known top key behind (Ok lead)) (s : List Pair) (h : IsSearched d s old.pages height known) → IsPutPlace d s key place) → IsPutSearch d old new known key behind (Ok place)
+    put_place : (place : PutPlace)
+        → ((n : FindsLead old new height known top key behind (Ok lead)) (s : List Pair)
+        (h : IsSearched d s old.pages height known) → IsPutPlace d s key place)
+        → IsPutSearch d old new known key behind (Ok place)
     put_place place found = record {
       faults = search.faults;
       lookups_kept = search.lookups_kept;
@@ -132,19 +164,32 @@ module _ (d : Draw) (old new : PagesState) (known : Option PathEnd) (key : List 
     }
 
     -- on level 0 a key that is there and one that is new are put alike
-    pub place_of_lowest : (first : declared.Lead) → top ≡ 0 → model_lead first ≡ model_lead lead → IsPutSearch d old new known key behind (Ok (record { top = 0; lead = first }))
+    pub place_of_lowest : (first : declared.Lead) → top ≡ 0 → model_lead first ≡ model_lead lead
+        → IsPutSearch d old new known key behind (Ok (record { top = 0; lead = first }))
     place_of_lowest first lowest is = put_place (record { top = 0; lead = first }) (λ n s h.
-        record { lead = is ∙ subst (λ k. model_lead lead ≡ leader_behind d k (not_above key s)) lowest (n.lead d s h); own = by_value s (find key_cmp key s) refl })
+        record {
+          lead = is ∙ subst (λ k. model_lead lead ≡ leader_behind d k (not_above key s)) lowest (n.lead d s h);
+          own = by_value s (find key_cmp key s) refl;
+        })
       where
         by_value : (s : List Pair) (o : Option (List ℕ)) → find key_cmp key s ≡ o → IsNew d s key 0 ⊎ IsThere s key 0
         by_value s None none = inl (record { lacks = none; own = sym lowest ∙ own })
         by_value s (Some value) some = inr (record { value = value; has = some; lowest = refl })
 
-    pub place_of_lead : is_leader key (lead_known behind) ≡ true → IsPutSearch d old new known key behind (Ok (record { top = 0; lead = leads.Key key }))
+    pub place_of_lead : is_leader key (lead_known behind) ≡ true
+        → IsPutSearch d old new known key behind (Ok (record { top = 0; lead = leads.Key key }))
     place_of_lead tells = put_place (record { top = 0; lead = leads.Key key }) (λ n s h.
         let leads_it = leads_as n s h tells in
-        record { lead = leader_is key (leader_behind d 0 (not_above key s)) leads_it; own = inr (there_where_lead d s key h.holds.pairs leads_it) })
+        record {
+          lead = leader_is key (leader_behind d 0 (not_above key s)) leads_it;
+          own = inr (there_where_lead d s key h.holds.pairs leads_it);
+        })
 
-    pub place_of_own : is_leader key (lead_known behind) ≡ false → IsPutSearch d old new known key behind (Ok (record { top = top; lead = lead }))
+    pub place_of_own : is_leader key (lead_known behind) ≡ false
+        → IsPutSearch d old new known key behind (Ok (record { top = top; lead = lead }))
     place_of_own tells = put_place (record { top = top; lead = lead }) (λ n s h.
-        record { lead = n.lead d s h; own = subst (λ level. IsNew d s key level ⊎ IsThere s key level) (sym own) (new_or_lowest d s key h.holds.pairs (leads_as n s h tells)) })
+        record {
+          lead = n.lead d s h;
+          own = subst (λ level. IsNew d s key level ⊎ IsThere s key level) (sym own)
+              (new_or_lowest d s key h.holds.pairs (leads_as n s h tells));
+        })

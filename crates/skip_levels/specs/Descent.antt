@@ -1,5 +1,6 @@
 -- What a descent from level to level on the search path of a key does.
-use Rattle.std.specs.Prelude.{◌≡◌, ℕ, suc, ◌+◌, ◌-◌, ◌<◌, ◌≤◌, List, length, Bool, true, Option, Some, None, Result, Ok, Err, IfOk}
+use Rattle.std.specs.Prelude.{◌≡◌, ℕ, suc, ◌+◌, ◌-◌, ◌<◌, ◌≤◌, List, length, Bool, true, Option, Some, None, Result, Ok}
+use Rattle.std.specs.Prelude.{Err, IfOk}
 use Rattle.std.specs.FinMap.{find}
 use Rattle.store_base.specs.declared.store_fault.Fault.{Fault}
 use Rattle.store_base.specs.declared.label.Lead as declared
@@ -28,7 +29,8 @@ pub record HoldsPairs (d : Draw) (s : List Pair) (m : PageMap) : Type 0 where
   pub few : length s ≤ most_pairs
   pub map_is : m ≡ map_of_pages (pages_of_pairs d s)
 
--- what is known at a level on the search path of a key: what leads the group of the level, and the next one of that level
+-- what is known at a level on the search path of a key: what leads the group of the level, and the next one of that
+-- level
 pub record IsPlace (d : Draw) (s : List Pair) (level : ℕ) (key : List ℕ) (place : PathEnd) : Type 0 where
   pub lead : model_lead place.lead ≡ leader_behind d level (not_above key s)
   pub next : place.next ≡ leader_ahead d level (above key s)
@@ -86,7 +88,8 @@ pub record IsWayFrom (d : Draw) (s : List Pair) (m : PageMap) (top : ℕ) (key :
   pub within : top < d.height
   pub place : IsPlace d s top key from
 
--- of a place on the search path the cell that is not above the key becomes the lead, and the one above it what comes next
+-- of a place on the search path the cell that is not above the key becomes the lead, and the one above it what comes
+-- next
 abbrev pub led_by : Cell → PathEnd → PathEnd
 led_by cell end = record { lead = leads.Key cell.key; next = end.next }
 
@@ -94,14 +97,17 @@ abbrev pub followed_by : Cell → PathEnd → PathEnd
 followed_by cell end = record { lead = end.lead; next = Some cell.key }
 
 -- what going down from one level to another leaves of observable pages
-pub record GoesDown (old new : PagesState) (top : ℕ) (from : PathEnd) (bottom : ℕ) (key : List ℕ) (result : Result PathEnd Fault) : Type 0 where
+pub record GoesDown (old new : PagesState) (top : ℕ) (from : PathEnd) (bottom : ℕ) (key : List ℕ)
+    (result : Result PathEnd Fault) : Type 0 where
   pub observable : IsObservable new
   pub unchanged : new.pages ≡ old.pages
   pub found : (d : Draw) (s : List Pair) → IsWayFrom d s old.pages top key from → IfOk result (IsPlace d s bottom key)
-  pub lookups : (d : Draw) (s : List Pair) → IsWayFrom d s old.pages top key from → new.lookups ≤ old.lookups + levels_cost d s key (suc bottom) (top - bottom)
+  pub lookups : (d : Draw) (s : List Pair) → IsWayFrom d s old.pages top key from
+      → new.lookups ≤ old.lookups + levels_cost d s key (suc bottom) (top - bottom)
 
 -- going down from one level to another on the search path of the key
-abbrev pub IsWayDown : (old new : PagesState) (top : ℕ) (from : PathEnd) (bottom : ℕ) (key : List ℕ) (result : Result PathEnd Fault) → Type 0
+abbrev pub IsWayDown : (old new : PagesState) (top : ℕ) (from : PathEnd) (bottom : ℕ) (key : List ℕ)
+    (result : Result PathEnd Fault) → Type 0
 IsWayDown old new top from bottom key result = IsPagesRead old new (GoesDown old new top from bottom key result) result
 
 -- a way that did not fail ends at a place
@@ -109,7 +115,8 @@ abbrev pub ends_at : {T : Type 0} → Result T Fault → PathEnd → Result Path
 ends_at (Ok done) end = Ok end
 ends_at (Err fault) end = Err fault
 
--- a search that did not fail leaves what is known: it leads the group of level 0, and this is the place of a key there with its value
+-- a search that did not fail leaves what is known: it leads the group of level 0, and this is the place of a key
+-- there with its value
 abbrev pub leads_in : {T : Type 0} → Option PathEnd → Result T Fault → Result declared.Lead Fault
 leads_in behind (Ok done) = Ok (lead_in behind)
 leads_in behind (Err fault) = Err fault
@@ -118,18 +125,26 @@ abbrev pub placed : Option PathEnd → Result (Option (List ℕ)) Fault → Resu
 placed behind (Ok value) = Ok (record { lead = lead_in behind; value = value })
 placed behind (Err fault) = Err fault
 
--- what a search for the group of a level and for the place of the key on level 0 leaves of observable pages, and what is then known
-pub record FindsLead (old new : PagesState) (height : ℕ) (known : Option PathEnd) (top : ℕ) (key : List ℕ) (behind : Option PathEnd) (result : Result declared.Lead Fault) : Type 0 where
+-- what a search for the group of a level and for the place of the key on level 0 leaves of observable pages, and what
+-- is then known
+pub record FindsLead (old new : PagesState) (height : ℕ) (known : Option PathEnd) (top : ℕ) (key : List ℕ)
+    (behind : Option PathEnd) (result : Result declared.Lead Fault) : Type 0 where
   pub observable : IsObservable new
   pub unchanged : new.pages ≡ old.pages
-  pub lead : (d : Draw) (s : List Pair) → IsSearched d s old.pages height known → IfOk result (λ lead. model_lead lead ≡ leader_behind d top (not_above key s))
-  pub place : (d : Draw) (s : List Pair) → IsSearched d s old.pages height known → IfOk result (λ lead. IsAt d s key behind)
+  pub lead : (d : Draw) (s : List Pair) → IsSearched d s old.pages height known
+      → IfOk result (λ lead. model_lead lead ≡ leader_behind d top (not_above key s))
+  pub place : (d : Draw) (s : List Pair) → IsSearched d s old.pages height known
+      → IfOk result (λ lead. IsAt d s key behind)
   pub right : (d : Draw) (s : List Pair) → IsSearched d s old.pages height known → IsKnownGroup d s behind
-  pub lookups : (d : Draw) (s : List Pair) → IsSearched d s old.pages height known → new.lookups ≤ old.lookups + levels_cost d s key 1 (height - 1)
+  pub lookups : (d : Draw) (s : List Pair) → IsSearched d s old.pages height known
+      → new.lookups ≤ old.lookups + levels_cost d s key 1 (height - 1)
 
--- a search for what leads the group of a level, and for the place on level 0, on the search path of the key; at level 0 the answer leads the group that is then known
-abbrev pub IsPlaceSearch : (old new : PagesState) (height : ℕ) (known : Option PathEnd) (top : ℕ) (key : List ℕ) (behind : Option PathEnd) (result : Result declared.Lead Fault) → Type 0
-IsPlaceSearch old new height known top key behind result = IsPagesRead old new (FindsLead old new height known top key behind result) result
+-- a search for what leads the group of a level, and for the place on level 0, on the search path of the key; at level
+-- 0 the answer leads the group that is then known
+abbrev pub IsPlaceSearch : (old new : PagesState) (height : ℕ) (known : Option PathEnd) (top : ℕ) (key : List ℕ)
+    (behind : Option PathEnd) (result : Result declared.Lead Fault) → Type 0
+IsPlaceSearch old new height known top key behind result =
+    IsPagesRead old new (FindsLead old new height known top key behind result) result
 
 -- the group of a level on the search path of a key, and its value
 pub record IsKeyPlace (d : Draw) (s : List Pair) (top : ℕ) (key : List ℕ) (place : KeyPlace) : Type 0 where
@@ -137,14 +152,19 @@ pub record IsKeyPlace (d : Draw) (s : List Pair) (top : ℕ) (key : List ℕ) (p
   pub value : place.value ≡ find key_cmp key s
 
 -- what a search for the place of a key leaves of observable pages, and what is then known
-pub record FindsKeyPlace (old new : PagesState) (height : ℕ) (known : Option PathEnd) (top : ℕ) (key : List ℕ) (behind : Option PathEnd) (result : Result KeyPlace Fault) : Type 0 where
+pub record FindsKeyPlace (old new : PagesState) (height : ℕ) (known : Option PathEnd) (top : ℕ) (key : List ℕ)
+    (behind : Option PathEnd) (result : Result KeyPlace Fault) : Type 0 where
   pub observable : IsObservable new
   pub unchanged : new.pages ≡ old.pages
   pub found : (d : Draw) (s : List Pair) → IsSearched d s old.pages height known → IfOk result (IsKeyPlace d s top key)
-  pub place : (d : Draw) (s : List Pair) → IsSearched d s old.pages height known → IfOk result (λ found. IsAt d s key behind)
+  pub place : (d : Draw) (s : List Pair) → IsSearched d s old.pages height known
+      → IfOk result (λ found. IsAt d s key behind)
   pub right : (d : Draw) (s : List Pair) → IsSearched d s old.pages height known → IsKnownGroup d s behind
-  pub lookups : (d : Draw) (s : List Pair) → IsSearched d s old.pages height known → new.lookups ≤ old.lookups + path_cost d s key
+  pub lookups : (d : Draw) (s : List Pair) → IsSearched d s old.pages height known
+      → new.lookups ≤ old.lookups + path_cost d s key
 
 -- a search for the place of a key, in pages of lists of this height
-abbrev pub IsKeySearch : (old new : PagesState) (height : ℕ) (known : Option PathEnd) (top : ℕ) (key : List ℕ) (behind : Option PathEnd) (result : Result KeyPlace Fault) → Type 0
-IsKeySearch old new height known top key behind result = IsPagesRead old new (FindsKeyPlace old new height known top key behind result) result
+abbrev pub IsKeySearch : (old new : PagesState) (height : ℕ) (known : Option PathEnd) (top : ℕ) (key : List ℕ)
+    (behind : Option PathEnd) (result : Result KeyPlace Fault) → Type 0
+IsKeySearch old new height known top key behind result =
+    IsPagesRead old new (FindsKeyPlace old new height known top key behind result) result

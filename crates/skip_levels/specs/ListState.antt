@@ -9,4 +9,5 @@ pub record ListState (P W : Type 0) : Type 0 where
   pub is_whole : Bool
 
 abbrev pub list_code : {P W : Type 0} → Coded P → Coded W → Coded (ListState P W)
-list_code {P} {W} pages draw = code_by (P × (W × Bool)) (coded× pages (coded× draw coded_bool)) (λ l. (l.pages, (l.draw, l.is_whole))) (λ p. record { pages = p.0; draw = p.1.0; is_whole = p.1.1 }) (λ _. refl)
+list_code {P} {W} pages draw = code_by (P × (W × Bool)) (coded× pages (coded× draw coded_bool))
+    (λ l. (l.pages, (l.draw, l.is_whole))) (λ p. record { pages = p.0; draw = p.1.0; is_whole = p.1.1 }) (λ _. refl)

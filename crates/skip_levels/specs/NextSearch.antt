@@ -19,7 +19,8 @@ use Rattle.skip_groups.specs.Floors.{pair_in}
 pub record FindsFirstPair (old new : PagesState) (leader : List ℕ) (result : Result (Option Pair) Fault) : Type 0 where
   pub observable : IsObservable new
   pub unchanged : new.pages ≡ old.pages
-  pub found : (cells : List Cell) → HoldsGroup old.pages 0 (Leader leader) cells → IfOk result (λ pair. pair ≡ pair_in (slice_get cells 0))
+  pub found : (cells : List Cell) → HoldsGroup old.pages 0 (Leader leader) cells
+      → IfOk result (λ pair. pair ≡ pair_in (slice_get cells 0))
 
 -- asking for the first pair of the group of level 0 that a key leads: one page at most
 pub record IsFirstPair (old new : PagesState) (leader : List ℕ) (result : Result (Option Pair) Fault) : Type 0 where
@@ -30,13 +31,18 @@ pub record IsFirstPair (old new : PagesState) (leader : List ℕ) (result : Resu
   pub observed : IsObservable old → FindsFirstPair old new leader result
 
 -- what a search for the next pair leaves of observable pages, and what is then known
-pub record FindsNext (old new : PagesState) (height : ℕ) (known : Option PathEnd) (key : List ℕ) (behind : Option PathEnd) (result : Result (Option Pair) Fault) : Type 0 where
+pub record FindsNext (old new : PagesState) (height : ℕ) (known : Option PathEnd) (key : List ℕ)
+    (behind : Option PathEnd) (result : Result (Option Pair) Fault) : Type 0 where
   pub observable : IsObservable new
   pub unchanged : new.pages ≡ old.pages
-  pub found : (d : Draw) (s : List Pair) → IsSearched d s old.pages height known → IfOk result (λ pair. pair ≡ next_pair key s)
+  pub found : (d : Draw) (s : List Pair) → IsSearched d s old.pages height known
+      → IfOk result (λ pair. pair ≡ next_pair key s)
   pub right : (d : Draw) (s : List Pair) → IsSearched d s old.pages height known → IsKnownGroup d s behind
-  pub lookups : (d : Draw) (s : List Pair) → IsSearched d s old.pages height known → new.lookups ≤ old.lookups + path_cost d s key + 1
+  pub lookups : (d : Draw) (s : List Pair) → IsSearched d s old.pages height known
+      → new.lookups ≤ old.lookups + path_cost d s key + 1
 
 -- a search for the first pair whose key is not below the given one, in pages of lists of this height
-abbrev pub IsNextSearch : (old new : PagesState) (height : ℕ) (known : Option PathEnd) (key : List ℕ) (behind : Option PathEnd) (result : Result (Option Pair) Fault) → Type 0
-IsNextSearch old new height known key behind result = IsPagesRead old new (FindsNext old new height known key behind result) result
+abbrev pub IsNextSearch : (old new : PagesState) (height : ℕ) (known : Option PathEnd) (key : List ℕ)
+    (behind : Option PathEnd) (result : Result (Option Pair) Fault) → Type 0
+IsNextSearch old new height known key behind result =
+    IsPagesRead old new (FindsNext old new height known key behind result) result

@@ -33,9 +33,14 @@ IsHeld d is_whole pages = IsTrue is_whole × (IsObservable pages × HoldsPairs d
 
 -- a list over pages
 abbrev pub list_over : Draw → Bool → PagesState → PairsState
-list_over d is_whole pages = record { is_observable = IsHeld d is_whole pages; pairs = pairs_of_map pages.pages; faults = pages.faults }
+list_over d is_whole pages = record {
+  is_observable = IsHeld d is_whole pages;
+  pairs = pairs_of_map pages.pages;
+  faults = pages.faults;
+}
 
--- What a list over pages keeps: where it is whole and they mean something, they hold its pairs, and what is known is right of these.
+-- What a list over pages keeps: where it is whole and they mean something, they hold its pairs, and what is known is
+-- right of these.
 pub record KeepsList (d : Draw) (is_whole : Bool) (pages : PagesState) (known : Option PathEnd) : Type 0 where
   pub whole : IsTrue is_whole → IsObservable pages → HoldsPairs d (pairs_of_map pages.pages) pages.pages
   pub place : IsTrue is_whole → IsObservable pages → IsKnownGroup d (pairs_of_map pages.pages) known

@@ -1,5 +1,6 @@
 -- The place at which a pair is put into the pages of a list, and what a search for it does.
-use Rattle.std.specs.Prelude.{◌≡◌, ◌⊎◌, ℕ, ◌+◌, ◌≤◌, List, Bool, false, Option, Some, None, Result, IfOk, ◌==◌, if◌then◌else◌}
+use Rattle.std.specs.Prelude.{◌≡◌, ◌⊎◌, ℕ, ◌+◌, ◌≤◌, List, Bool, false, Option, Some, None, Result, IfOk, ◌==◌}
+use Rattle.std.specs.Prelude.{if◌then◌else◌}
 use Rattle.store_base.specs.declared.store_fault.Fault.{Fault}
 use Rattle.store_base.specs.declared.label.Lead.TheVariants as leads
 use Rattle.skip_levels.specs.declared.walk.PathEnd.{PathEnd}
@@ -17,7 +18,8 @@ use Rattle.skip_levels.specs.Descent.{HoldsPairs, IsKnownGroup, IsAt}
 use Rattle.skip_levels.specs.PairChanges.{IsNew, IsThere}
 use Rattle.skip_levels.specs.SearchPath.{leader_behind, not_above, path_cost}
 
--- a new key is put from its own level down, and one that is there on level 0 alone; the group of that level on its search path
+-- a new key is put from its own level down, and one that is there on level 0 alone; the group of that level on its
+-- search path
 pub record IsPutPlace (d : Draw) (s : List Pair) (key : List ℕ) (place : PutPlace) : Type 0 where
   pub lead : model_lead place.lead ≡ leader_behind d place.top (not_above key s)
   pub own : IsNew d s key place.top ⊎ IsThere s key place.top
@@ -36,15 +38,19 @@ abbrev pub behind : ℕ → List ℕ → Option PathEnd → Option PathEnd
 behind top key known = if top == 0 then known else leads_own key known
 
 -- what a search for the place of a put leaves of observable pages, and what is then known
-pub record FindsPutPlace (d : Draw) (old new : PagesState) (known : Option PathEnd) (key : List ℕ) (then_known : Option PathEnd) (result : Result PutPlace Fault) : Type 0 where
+pub record FindsPutPlace (d : Draw) (old new : PagesState) (known : Option PathEnd) (key : List ℕ)
+    (then_known : Option PathEnd) (result : Result PutPlace Fault) : Type 0 where
   pub observable : IsObservable new
   pub unchanged : new.pages ≡ old.pages
   pub found : (s : List Pair) → HoldsPairs d s old.pages → IsKnownGroup d s known → IfOk result (IsPutPlace d s key)
-  pub place : (s : List Pair) → HoldsPairs d s old.pages → IsKnownGroup d s known → IfOk result (λ place. IsAt d s key then_known)
-  pub lookups : (s : List Pair) → HoldsPairs d s old.pages → IsKnownGroup d s known → new.lookups ≤ old.lookups + path_cost d s key
+  pub place : (s : List Pair) → HoldsPairs d s old.pages → IsKnownGroup d s known
+      → IfOk result (λ place. IsAt d s key then_known)
+  pub lookups : (s : List Pair) → HoldsPairs d s old.pages → IsKnownGroup d s known
+      → new.lookups ≤ old.lookups + path_cost d s key
 
 -- a search for the place of a put, in pages of lists under this draw
-pub record IsPutSearch (d : Draw) (old new : PagesState) (known : Option PathEnd) (key : List ℕ) (then_known : Option PathEnd) (result : Result PutPlace Fault) : Type 0 where
+pub record IsPutSearch (d : Draw) (old new : PagesState) (known : Option PathEnd) (key : List ℕ)
+    (then_known : Option PathEnd) (result : Result PutPlace Fault) : Type 0 where
   pub faults : new.faults ≡ disk_faults_after old.faults result
   pub lookups_kept : old.lookups ≤ new.lookups
   pub hidden : IsObservable new → IsObservable old

@@ -1,4 +1,5 @@
--- The search path of a key: on each level the group in which it stands or would stand, and what reading these groups costs.
+-- The search path of a key: on each level the group in which it stands or would stand, and what reading these groups
+-- costs.
 use Rattle.std.specs.Prelude.{ℕ, suc, List, [], ◌∷◌, map, filter, nat_lt, not, unwrap_or, Option, slice_get}
 use Rattle.std.specs.List.{sum, find}
 use Rattle.std.specs.Ordering.{is_le, is_lt}
@@ -28,7 +29,8 @@ last_lead [] = Start
 last_lead (key ∷ []) = Leader key
 last_lead (key ∷ other ∷ keys) = last_lead (other ∷ keys)
 
--- what leads the group of a level behind these pairs: the greatest of their keys that stands on a higher level, or the start
+-- what leads the group of a level behind these pairs: the greatest of their keys that stands on a higher level, or
+-- the start
 abbrev pub leader_behind : Draw → ℕ → List Pair → Lead
 leader_behind d level s = last_lead (map (λ pair. pair.0) (filter (λ pair. nat_lt level (d.level pair.0)) s))
 
@@ -38,7 +40,8 @@ leader_ahead d level s = slice_get (map (λ pair. pair.0) (filter (λ pair. nat_
 
 -- the group of a level that a lead leads; no cell where there is none
 abbrev pub group_led_by : Draw → List Pair → ℕ → Lead → List Cell
-group_led_by d s level lead = unwrap_or (find (λ group. same_bytes (lead_bytes (lead_of d level group)) (lead_bytes lead)) (groups d s level)) []
+group_led_by d s level lead =
+    unwrap_or (find (λ group. same_bytes (lead_bytes (lead_of d level group)) (lead_bytes lead)) (groups d s level)) []
 
 -- the group of a level on the search path of a key, at or below it
 abbrev pub group_at_or_below : Draw → List Pair → ℕ → List ℕ → List Cell
@@ -50,7 +53,8 @@ group_below d s level key = group_led_by d s level (leader_behind d level (below
 
 -- what reading the groups of so many levels of the search path costs, from a level on, at or below the key
 abbrev pub levels_cost : Draw → List Pair → List ℕ → ℕ → ℕ → ℕ
-levels_cost d s key first count = sum (map (λ level. group_cost level (group_at_or_below d s level key)) (numbers_from first count))
+levels_cost d s key first count =
+    sum (map (λ level. group_cost level (group_at_or_below d s level key)) (numbers_from first count))
 
 -- what reading the groups of the whole search path costs, at or below the key
 abbrev pub path_cost : Draw → List Pair → List ℕ → ℕ

@@ -30,8 +30,10 @@ pub fn set_cells<P: Pages>(
     own: &[Cell],
 ) -> Result<Lead, Fault>
     requires own { length own.now ≤ 1 }
-    requires room { IsObservable (P.state pages.old) → PagesHaveRoom (P.state pages.old).pages level (model_lead lead.now) }
-    ensures call { SetsCells (P.state pages.old) (P.state pages.new) level (model_lead lead.now) key.now own.now result }
+    requires room { IsObservable (P.state pages.old)
+        → PagesHaveRoom (P.state pages.old).pages level (model_lead lead.now) }
+    ensures call { SetsCells (P.state pages.old) (P.state pages.new) level
+        (model_lead lead.now) key.now own.now result }
     ensures follows { P.follows pages.old pages.new }
 {
     let mut made = NewCells::new(alloc, level, lead);
@@ -51,8 +53,12 @@ fn change_moved<P: Pages>(
     moved: bool,
 ) -> Result<(), Fault>
     requires rising { IsStrictlySortedBy key_cmp (map (λ c. c.key) made.now.cells.cells) }
-    requires room { IsObservable (P.state pages.old) → maps.len (P.state pages.old).pages + (made.now.count + length made.now.cells.cells) < most_pages }
-    ensures call { IsRunChange (P.state pages.old) (P.state pages.new) (model_lead lead.now) made.now.kept made.now.count made.now.cells (cond moved (run_past made.now) 0) result }
+    requires room { IsObservable (P.state pages.old)
+        → maps.len (P.state pages.old).pages
+        + (made.now.count + length made.now.cells.cells) < most_pages }
+    ensures call { IsRunChange (P.state pages.old) (P.state pages.new)
+        (model_lead lead.now) made.now.kept made.now.count made.now.cells
+        (cond moved (run_past made.now) 0) result }
     ensures follows { P.follows pages.old pages.new }
 {
     if !moved {
@@ -72,8 +78,10 @@ pub fn split_group<P: Pages>(
     key: &Key,
     own: Cell,
 ) -> Result<Lead, Fault>
-    requires room { IsObservable (P.state pages.old) → PagesHaveRoom (P.state pages.old).pages level (model_lead lead.now) }
-    ensures call { SplitsGroup (P.state pages.old) (P.state pages.new) level (model_lead lead.now) key.now (own ∷ []) result }
+    requires room { IsObservable (P.state pages.old)
+        → PagesHaveRoom (P.state pages.old).pages level (model_lead lead.now) }
+    ensures call { SplitsGroup (P.state pages.old) (P.state pages.new) level
+        (model_lead lead.now) key.now (own ∷ []) result }
     ensures follows { P.follows pages.old pages.new }
 {
     let mut high = Cells::with_room(alloc, level, u32::from(room(level)) + 1)?;
@@ -95,9 +103,12 @@ pub fn join_groups<P: Pages>(
     lead: &Lead,
     key: &Key,
 ) -> Result<Lead, Fault>
-    requires room { IsObservable (P.state pages.old) → PagesHaveRoom (P.state pages.old).pages level (model_lead lead.now) }
-    requires own_room { IsObservable (P.state pages.old) → PagesHaveRoom (P.state pages.old).pages level (Leader key.now) }
-    ensures call { JoinsGroups (P.state pages.old) (P.state pages.new) level (model_lead lead.now) key.now result }
+    requires room { IsObservable (P.state pages.old)
+        → PagesHaveRoom (P.state pages.old).pages level (model_lead lead.now) }
+    requires own_room { IsObservable (P.state pages.old)
+        → PagesHaveRoom (P.state pages.old).pages level (Leader key.now) }
+    ensures call { JoinsGroups (P.state pages.old) (P.state pages.new) level
+        (model_lead lead.now) key.now result }
     ensures follows { P.follows pages.old pages.new }
 {
     let leader = Lead::Key(*key);

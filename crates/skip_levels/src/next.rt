@@ -44,7 +44,8 @@ impl Walk {
         key: &Key,
     ) -> Result<Option<(Key, Value)>, Fault>
         requires { 1 ≤ height }
-        ensures call { IsNextSearch (P.state pages.old) (P.state pages.new) height self.old.known key.now self.new.known result }
+        ensures call { IsNextSearch (P.state pages.old)
+            (P.state pages.new) height self.old.known key.now self.new.known result }
         ensures follows { P.follows pages.old pages.new }
     {
         self.go_to(pages, height, key)?;

@@ -9,7 +9,8 @@ ghost use Rattle.node_pages.specs.PagesState.{IsObservable};
 ghost use Rattle.ordered_pairs.specs.PairsState.{most_pairs};
 ghost use Rattle.skip_levels.specs.Descent.{HoldsPairs, IsKnownGroup};
 ghost use Rattle.skip_levels.specs.PagePairs.{pairs_of_map};
-ghost use Rattle.skip_levels.specs.PairChanges.{IsPutting, IsTaking, PutsPairFrom, TakesPairFrom, PutsPairIn, TakesPairIn};
+ghost use Rattle.skip_levels.specs.PairChanges.{IsPutting, IsTaking, PutsPairFrom, TakesPairFrom, PutsPairIn};
+ghost use Rattle.skip_levels.specs.PairChanges.{TakesPairIn};
 
 use crate::levels::{join_groups, set_cells, split_group};
 use crate::put_place::PutPlace;
@@ -39,8 +40,11 @@ fn put_lowest<P: Pages>(
     key: &Key,
     value: Value,
 ) -> Result<(), Fault>
-    requires { IsObservable (P.state pages.old) → (d : draws.Draw) × (s : List Pair) × IsPutting d s (P.state pages.old).pages 0 (model_lead lead.now) key.now }
-    ensures call { PutsPairFrom (P.state pages.old) (P.state pages.new) 0 (model_lead lead.now) key.now value result }
+    requires { IsObservable (P.state pages.old)
+        → (d : draws.Draw) × (s : List Pair)
+        × IsPutting d s (P.state pages.old).pages 0 (model_lead lead.now) key.now }
+    ensures call { PutsPairFrom (P.state pages.old) (P.state pages.new) 0
+        (model_lead lead.now) key.now value result }
     ensures follows { P.follows pages.old pages.new }
 {
     reveal_pair(key, &value);
@@ -61,8 +65,11 @@ pub fn put_from<P: Pages>(
     key: &Key,
     value: &Value,
 ) -> Result<(), Fault>
-    requires { IsObservable (P.state pages.old) → (d : draws.Draw) × (s : List Pair) × IsPutting d s (P.state pages.old).pages top (model_lead lead.now) key.now }
-    ensures call { PutsPairFrom (P.state pages.old) (P.state pages.new) top (model_lead lead.now) key.now value.now result }
+    requires { IsObservable (P.state pages.old)
+        → (d : draws.Draw) × (s : List Pair)
+        × IsPutting d s (P.state pages.old).pages top (model_lead lead.now) key.now }
+    ensures call { PutsPairFrom (P.state pages.old) (P.state pages.new) top
+        (model_lead lead.now) key.now value.now result }
     ensures follows { P.follows pages.old pages.new }
 {
     reveal_pair(key, value);
@@ -87,8 +94,11 @@ pub fn take_from<P: Pages>(
     lead: &Lead,
     key: &Key,
 ) -> Result<(), Fault>
-    requires { IsObservable (P.state pages.old) → (d : draws.Draw) × (s : List Pair) × IsTaking d s (P.state pages.old).pages top (model_lead lead.now) key.now }
-    ensures call { TakesPairFrom (P.state pages.old) (P.state pages.new) top (model_lead lead.now) key.now result }
+    requires { IsObservable (P.state pages.old)
+        → (d : draws.Draw) × (s : List Pair)
+        × IsTaking d s (P.state pages.old).pages top (model_lead lead.now) key.now }
+    ensures call { TakesPairFrom (P.state pages.old) (P.state pages.new) top
+        (model_lead lead.now) key.now result }
     ensures follows { P.follows pages.old pages.new }
 {
     let mut next = set_cells(alloc, pages, top, lead, key, &[])?;
@@ -110,10 +120,16 @@ impl Walk {
         key: &Key,
         value: Value,
     ) -> Result<(), Fault>
-        requires known { IsObservable (P.state pages.old) → IsKnownGroup (W.drawn draw.now) (pairs_of_map (P.state pages.old).pages) self.old.known }
-        requires whole { IsObservable (P.state pages.old) → HoldsPairs (W.drawn draw.now) (pairs_of_map (P.state pages.old).pages) (P.state pages.old).pages }
-        requires room { IsObservable (P.state pages.old) → length (pairs_of_map (P.state pages.old).pages) < most_pairs }
-        ensures call { PutsPairIn (W.drawn draw.now) (P.state pages.old) (P.state pages.new) key.now value self.new.known result }
+        requires known { IsObservable (P.state pages.old)
+            → IsKnownGroup (W.drawn draw.now)
+            (pairs_of_map (P.state pages.old).pages) self.old.known }
+        requires whole { IsObservable (P.state pages.old)
+            → HoldsPairs (W.drawn draw.now) (pairs_of_map (P.state pages.old).pages)
+            (P.state pages.old).pages }
+        requires room { IsObservable (P.state pages.old)
+            → length (pairs_of_map (P.state pages.old).pages) < most_pairs }
+        ensures call { PutsPairIn (W.drawn draw.now) (P.state pages.old)
+            (P.state pages.new) key.now value self.new.known result }
         ensures follows { P.follows pages.old pages.new }
     {
         reveal_pair(key, &value);
@@ -137,9 +153,14 @@ impl Walk {
         draw: &W,
         key: &Key,
     ) -> Result<Option<Value>, Fault>
-        requires known { IsObservable (P.state pages.old) → IsKnownGroup (W.drawn draw.now) (pairs_of_map (P.state pages.old).pages) self.old.known }
-        requires whole { IsObservable (P.state pages.old) → HoldsPairs (W.drawn draw.now) (pairs_of_map (P.state pages.old).pages) (P.state pages.old).pages }
-        ensures call { TakesPairIn (W.drawn draw.now) (P.state pages.old) (P.state pages.new) key.now self.new.known result }
+        requires known { IsObservable (P.state pages.old)
+            → IsKnownGroup (W.drawn draw.now)
+            (pairs_of_map (P.state pages.old).pages) self.old.known }
+        requires whole { IsObservable (P.state pages.old)
+            → HoldsPairs (W.drawn draw.now) (pairs_of_map (P.state pages.old).pages)
+            (P.state pages.old).pages }
+        ensures call { TakesPairIn (W.drawn draw.now) (P.state pages.old)
+            (P.state pages.new) key.now self.new.known result }
         ensures follows { P.follows pages.old pages.new }
     {
         let top = draw.level_from(&mut self.front, key);

@@ -47,7 +47,8 @@ impl Walk {
         key: &Key,
     ) -> Result<PutPlace, Fault>
         requires { own ≡ (W.drawn draw.now).level key.now }
-        ensures call { IsPutSearch (W.drawn draw.now) (P.state pages.old) (P.state pages.new) self.old.known key.now self.new.known result }
+        ensures call { IsPutSearch (W.drawn draw.now) (P.state pages.old)
+            (P.state pages.new) self.old.known key.now self.new.known result }
         ensures follows { P.follows pages.old pages.new }
     {
         let lead = self.find_lead(pages, draw.height(), own, key)?;

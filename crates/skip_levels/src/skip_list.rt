@@ -61,7 +61,8 @@ impl<P: Pages, W: Draw + Drop> SkipList<P, W> {
     /// The list whose pages these are, under this draw: the pages of a list of at most 8,388,608 pairs, as no
     /// page is that of the empty list.
     pub fn new(alloc: Global, pages: P, draw: W) -> Self
-        requires { pages_state.IsObservable (P.state pages) → (s : List model.Pair) × HoldsPairs (W.drawn draw) s (P.state pages).pages }
+        requires { pages_state.IsObservable (P.state pages)
+            → (s : List model.Pair) × HoldsPairs (W.drawn draw) s (P.state pages).pages }
         ensures pages { result.pages ≡ pages }
         ensures draw { result.draw ≡ draw }
         ensures whole { result.is_whole ≡ true }
@@ -86,7 +87,9 @@ impl<P: Pages, W: Draw + Drop> SkipList<P, W> {
 
     /// Takes its pages up as those of a list, as in `new`.
     pub fn take_up(&mut self)
-        requires { pages_state.IsObservable (P.state self.old.pages) → (s : List model.Pair) × HoldsPairs (W.drawn self.old.draw) s (P.state self.old.pages).pages }
+        requires { pages_state.IsObservable (P.state self.old.pages)
+            → (s : List model.Pair) × HoldsPairs (W.drawn self.old.draw) s
+            (P.state self.old.pages).pages }
         ensures pages { self.new.pages ≡ self.old.pages }
         ensures draw { self.new.draw ≡ self.old.draw }
         ensures whole { self.new.is_whole ≡ true }
@@ -107,7 +110,8 @@ impl<P: Pages, W: Draw + Drop> SkipList<P, W> {
 impl<P: Pages, W: Draw + Drop> OrderedPairs for SkipList<P, W> {
     ghost use Rattle.std.specs.Prelude.{refl, ◌+◌, ◌<◌, ◌≤◌, length};
     ghost use Rattle.std.proofs.Common.{◌∙◌};
-    ghost use Rattle.ordered_pairs.specs.PairsState.{IsObservable, IsPairGet, IsPairPut, IsPairTake, IsNextPair, most_pairs};
+    ghost use Rattle.ordered_pairs.specs.PairsState.{IsObservable, IsPairGet, IsPairPut, IsPairTake, IsNextPair};
+    ghost use Rattle.ordered_pairs.specs.PairsState.{most_pairs};
     ghost use Rattle.skip_levels.specs.SearchPath.{path_cost, path_cost_below, low_cost};
 
     ghost state = { λ list. list_over (W.drawn list.draw) list.is_whole (P.state list.pages) };
@@ -120,13 +124,18 @@ impl<P: Pages, W: Draw + Drop> OrderedPairs for SkipList<P, W> {
 
     ghost follows_refl = { λ list. (P.follows_refl list.pages, refl) };
 
-    ghost follows_trans = { λ a b c first second. (P.follows_trans a.pages b.pages c.pages first.0 second.0, second.1 ∙ first.1) };
+    ghost follows_trans = { λ a b c first second.
+        (P.follows_trans a.pages b.pages c.pages first.0 second.0, second.1 ∙ first.1) };
 
     /// The groups of one search path are read: at most a lookup for each of their full pages, and one for each group.
     fn get(&mut self, key: &Key) -> Result<Option<Value>, Fault>
-        ensures call { IsPairGet (⟦<SkipList<P, W> as OrderedPairs>⟧.state self.old) (⟦<SkipList<P, W> as OrderedPairs>⟧.state self.new) key.now result }
+        ensures call { IsPairGet (⟦<SkipList<P, W> as OrderedPairs>⟧.state self.old)
+            (⟦<SkipList<P, W> as OrderedPairs>⟧.state self.new) key.now result }
         ensures follows { ⟦<SkipList<P, W> as OrderedPairs>⟧.follows self.old self.new }
-        ensures lookups { IsObservable (⟦<SkipList<P, W> as OrderedPairs>⟧.state self.old) → (P.state self.new.pages).lookups ≤ (P.state self.old.pages).lookups + path_cost (W.drawn self.old.draw) (pairs_of_map (P.state self.old.pages).pages) key.now }
+        ensures lookups { IsObservable (⟦<SkipList<P, W> as OrderedPairs>⟧.state self.old)
+            → (P.state self.new.pages).lookups ≤ (P.state self.old.pages).lookups
+            + path_cost (W.drawn self.old.draw)
+            (pairs_of_map (P.state self.old.pages).pages) key.now }
     {
         let height = self.draw.height();
         self.walk.find_value(&mut self.pages, height, key)
@@ -135,10 +144,15 @@ impl<P: Pages, W: Draw + Drop> OrderedPairs for SkipList<P, W> {
     /// The groups of the search path are read to find the key, and those from its own level down once more to
     /// change them.
     fn put(&mut self, key: Key, value: Value) -> Result<(), Fault>
-        requires { IsObservable (⟦<SkipList<P, W> as OrderedPairs>⟧.state self.old) → length (⟦<SkipList<P, W> as OrderedPairs>⟧.state self.old).pairs < most_pairs }
-        ensures call { IsPairPut (⟦<SkipList<P, W> as OrderedPairs>⟧.state self.old) (⟦<SkipList<P, W> as OrderedPairs>⟧.state self.new) key value result }
+        requires { IsObservable (⟦<SkipList<P, W> as OrderedPairs>⟧.state self.old)
+            → length (⟦<SkipList<P, W> as OrderedPairs>⟧.state self.old).pairs < most_pairs }
+        ensures call { IsPairPut (⟦<SkipList<P, W> as OrderedPairs>⟧.state self.old)
+            (⟦<SkipList<P, W> as OrderedPairs>⟧.state self.new) key value result }
         ensures follows { ⟦<SkipList<P, W> as OrderedPairs>⟧.follows self.old self.new }
-        ensures lookups { IsObservable (⟦<SkipList<P, W> as OrderedPairs>⟧.state self.old) → (P.state self.new.pages).lookups ≤ (P.state self.old.pages).lookups + (path_cost (W.drawn self.old.draw) (pairs_of_map (P.state self.old.pages).pages) key + low_cost (W.drawn self.old.draw) (pairs_of_map (P.state self.old.pages).pages) key) }
+        ensures lookups { IsObservable (⟦<SkipList<P, W> as OrderedPairs>⟧.state self.old)
+            → (P.state self.new.pages).lookups ≤ (P.state self.old.pages).lookups
+            + (path_cost (W.drawn self.old.draw) (pairs_of_map (P.state self.old.pages).pages) key
+            + low_cost (W.drawn self.old.draw) (pairs_of_map (P.state self.old.pages).pages) key) }
     {
         reveal_pair(&key, &value);
         if !self.is_whole {
@@ -153,9 +167,17 @@ impl<P: Pages, W: Draw + Drop> OrderedPairs for SkipList<P, W> {
 
     /// The groups of the search path are read as in `put`, and those of the search path strictly below the key besides.
     fn take(&mut self, key: &Key) -> Result<Option<Value>, Fault>
-        ensures call { IsPairTake (⟦<SkipList<P, W> as OrderedPairs>⟧.state self.old) (⟦<SkipList<P, W> as OrderedPairs>⟧.state self.new) key.now result }
+        ensures call { IsPairTake (⟦<SkipList<P, W> as OrderedPairs>⟧.state self.old)
+            (⟦<SkipList<P, W> as OrderedPairs>⟧.state self.new) key.now result }
         ensures follows { ⟦<SkipList<P, W> as OrderedPairs>⟧.follows self.old self.new }
-        ensures lookups { IsObservable (⟦<SkipList<P, W> as OrderedPairs>⟧.state self.old) → (P.state self.new.pages).lookups ≤ (P.state self.old.pages).lookups + (path_cost (W.drawn self.old.draw) (pairs_of_map (P.state self.old.pages).pages) key.now + (low_cost (W.drawn self.old.draw) (pairs_of_map (P.state self.old.pages).pages) key.now + path_cost_below (W.drawn self.old.draw) (pairs_of_map (P.state self.old.pages).pages) key.now)) }
+        ensures lookups { IsObservable (⟦<SkipList<P, W> as OrderedPairs>⟧.state self.old)
+            → (P.state self.new.pages).lookups ≤ (P.state self.old.pages).lookups
+            + (path_cost (W.drawn self.old.draw)
+            (pairs_of_map (P.state self.old.pages).pages) key.now
+            + (low_cost (W.drawn self.old.draw)
+            (pairs_of_map (P.state self.old.pages).pages) key.now
+            + path_cost_below (W.drawn self.old.draw)
+            (pairs_of_map (P.state self.old.pages).pages) key.now)) }
     {
         if !self.is_whole {
             return Err(spent());
@@ -168,9 +190,13 @@ impl<P: Pages, W: Draw + Drop> OrderedPairs for SkipList<P, W> {
 
     /// The groups of one search path are read, and where the pair leads the next group one page more.
     fn next_from(&mut self, key: &Key) -> Result<Option<(Key, Value)>, Fault>
-        ensures call { IsNextPair (⟦<SkipList<P, W> as OrderedPairs>⟧.state self.old) (⟦<SkipList<P, W> as OrderedPairs>⟧.state self.new) key.now result }
+        ensures call { IsNextPair (⟦<SkipList<P, W> as OrderedPairs>⟧.state self.old)
+            (⟦<SkipList<P, W> as OrderedPairs>⟧.state self.new) key.now result }
         ensures follows { ⟦<SkipList<P, W> as OrderedPairs>⟧.follows self.old self.new }
-        ensures lookups { IsObservable (⟦<SkipList<P, W> as OrderedPairs>⟧.state self.old) → (P.state self.new.pages).lookups ≤ (P.state self.old.pages).lookups + path_cost (W.drawn self.old.draw) (pairs_of_map (P.state self.old.pages).pages) key.now + 1 }
+        ensures lookups { IsObservable (⟦<SkipList<P, W> as OrderedPairs>⟧.state self.old)
+            → (P.state self.new.pages).lookups ≤ (P.state self.old.pages).lookups
+            + path_cost (W.drawn self.old.draw)
+            (pairs_of_map (P.state self.old.pages).pages) key.now + 1 }
     {
         let height = self.draw.height();
         self.walk.find_next(&mut self.pages, height, key)

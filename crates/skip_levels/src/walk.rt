@@ -1,7 +1,8 @@
 //! How a list is walked: the search for a key in its pages, on its search path from level to level.
 
 ghost use Rattle.std.specs.Prelude.{◌≡◌, ◌<◌, ◌≤◌, refl, ◌↔◌, None, IsTrue};
-ghost use Rattle.skip_levels.specs.Descent.{LiesIn, LiesInKnown, IsWayDown, IsPlaceSearch, IsKeySearch, ends_at, followed_by, lead_in, leads_in, led_by, placed};
+ghost use Rattle.skip_levels.specs.Descent.{LiesIn, LiesInKnown, IsWayDown, IsPlaceSearch, IsKeySearch, ends_at};
+ghost use Rattle.skip_levels.specs.Descent.{followed_by, lead_in, leads_in, led_by, placed};
 
 use node_pages::{Page, Pages};
 use seeded_draw::Front;
@@ -45,7 +46,8 @@ fn descend<P: Pages>(
     end: &mut PathEnd,
 ) -> Result<(), Fault>
     requires { bottom ≤ top }
-    ensures call { IsWayDown (P.state pages.old) (P.state pages.new) top end.old bottom key.now (ends_at result end.new) }
+    ensures call { IsWayDown (P.state pages.old)
+        (P.state pages.new) top end.old bottom key.now (ends_at result end.new) }
     ensures follows { P.follows pages.old pages.new }
 {
     let mut level = top;
@@ -128,7 +130,9 @@ impl Walk {
     /// known then. Where it is known before, no page is asked for. After a fault what was known still is.
     pub fn go_to<P: Pages>(&mut self, pages: &mut P, height: u8, key: &Key) -> Result<(), Fault>
         requires { 1 ≤ height }
-        ensures call { IsPlaceSearch (P.state pages.old) (P.state pages.new) height self.old.known 0 key.now self.new.known (leads_in self.new.known result) }
+        ensures call { IsPlaceSearch (P.state pages.old)
+            (P.state pages.new) height self.old.known 0
+            key.now self.new.known (leads_in self.new.known result) }
         ensures follows { P.follows pages.old pages.new }
     {
         if self.knows(key) {
@@ -154,7 +158,8 @@ impl Walk {
         key: &Key,
     ) -> Result<Lead, Fault>
         requires { top < height }
-        ensures call { IsPlaceSearch (P.state pages.old) (P.state pages.new) height self.old.known top key.now self.new.known result }
+        ensures call { IsPlaceSearch (P.state pages.old)
+            (P.state pages.new) height self.old.known top key.now self.new.known result }
         ensures follows { P.follows pages.old pages.new }
     {
         if top == 0 {
@@ -182,7 +187,9 @@ impl Walk {
         key: &Key,
     ) -> Result<Option<Value>, Fault>
         requires { 1 ≤ height }
-        ensures call { IsKeySearch (P.state pages.old) (P.state pages.new) height self.old.known 0 key.now self.new.known (placed self.new.known result) }
+        ensures call { IsKeySearch (P.state pages.old)
+            (P.state pages.new) height self.old.known 0
+            key.now self.new.known (placed self.new.known result) }
         ensures follows { P.follows pages.old pages.new }
     {
         self.go_to(pages, height, key)?;
@@ -202,7 +209,8 @@ impl Walk {
         key: &Key,
     ) -> Result<KeyPlace, Fault>
         requires { top < height }
-        ensures call { IsKeySearch (P.state pages.old) (P.state pages.new) height self.old.known top key.now self.new.known result }
+        ensures call { IsKeySearch (P.state pages.old)
+            (P.state pages.new) height self.old.known top key.now self.new.known result }
         ensures follows { P.follows pages.old pages.new }
     {
         let lead = self.find_lead(pages, height, top, key)?;

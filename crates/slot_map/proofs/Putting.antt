@@ -1,25 +1,33 @@
 -- Texts that are put out one behind the other.
-use Rattle.std.proofs.Common.{◌≡◌, ℕ, ◌^◌, ◌<◌, IsTrue, List, [], ◌++◌, refl, sym, ap, ◌∙◌, subst, arith, Result, Ok, Err}
+use Rattle.std.proofs.Common.{◌≡◌, ℕ, ◌^◌, ◌<◌, IsTrue, List, [], ◌++◌, refl, sym, ap, ◌∙◌, subst, arith, Result, Ok}
+use Rattle.std.proofs.Common.{Err}
 use Rattle.std.proofs.lemmas.List.{append-nil, append_assoc}
 use Rattle.store_base.specs.Counts.{faults_after}
 use Rattle.script_lines.specs.SinkState.{SinkState, IsPut}
 use Rattle.slot_map.specs.MapCalls.{Puts}
 
 -- one put
-pub Puts-one : {T E : Type 0} (old new : SinkState) (text : List ℕ) (result : Result T E) → IsPut old new text result → Puts old new text result
+pub Puts-one : {T E : Type 0} (old new : SinkState) (text : List ℕ) (result : Result T E) → IsPut old new text result
+    → Puts old new text result
 Puts-one old new text result put = record { observable = put.observable; faults = put.faults; observed = put.observed }
 
 -- no put
 pub Puts-none : {T E : Type 0} (a : SinkState) (value : T) → Puts {E = E} a a [] (Ok value)
-Puts-none a value = record { observable = refl; faults = refl; observed = λ observable. record { appended = sym (append-nil a.written); cut_off = tt } }
+Puts-none a value = record {
+  observable = refl;
+  faults = refl;
+  observed = λ observable. record { appended = sym (append-nil a.written); cut_off = tt };
+}
 
 -- a text, and then another
-pub Puts-then : {T U E F : Type 0} (a b c : SinkState) (text more : List ℕ) (value : U) (result : Result T E) → Puts {E = F} a b text (Ok value) → Puts b c more result → Puts a c (text ++ more) result
+pub Puts-then : {T U E F : Type 0} (a b c : SinkState) (text more : List ℕ) (value : U) (result : Result T E)
+    → Puts {E = F} a b text (Ok value) → Puts b c more result → Puts a c (text ++ more) result
 Puts-then a b c text more value (Ok end) ab bc = record {
   observable = bc.observable ∙ ab.observable;
   faults = bc.faults ∙ ab.faults;
   observed = λ observable. record {
-    appended = (bc.observed (subst IsTrue (sym ab.observable) observable)).appended ∙ ap (λ (xs : List ℕ). xs ++ more) (ab.observed observable).appended ∙ append_assoc a.written text more;
+    appended = (bc.observed (subst IsTrue (sym ab.observable) observable)).appended
+        ∙ ap (λ (xs : List ℕ). xs ++ more) (ab.observed observable).appended ∙ append_assoc a.written text more;
     cut_off = tt;
   };
 }
@@ -34,13 +42,15 @@ Puts-then a b c text more value (Err fault) ab bc = record {
           part = text ++ cut.part;
           rest = cut.rest;
           is_prefix = ap (λ (xs : List ℕ). text ++ xs) cut.is_prefix ∙ sym (append_assoc text cut.part cut.rest);
-          appended = cut.appended ∙ ap (λ (xs : List ℕ). xs ++ cut.part) (ab.observed observable).appended ∙ append_assoc a.written text cut.part;
+          appended = cut.appended ∙ ap (λ (xs : List ℕ). xs ++ cut.part) (ab.observed observable).appended
+              ∙ append_assoc a.written text cut.part;
         };
   };
 }
 
 -- a fault, where more was to come
-pub Puts-cut : {T U E F : Type 0} (a b : SinkState) (text more : List ℕ) (fault : E) (told : F) → Puts {T = T} a b text (Err fault) → Puts {T = U} a b (text ++ more) (Err told)
+pub Puts-cut : {T U E F : Type 0} (a b : SinkState) (text more : List ℕ) (fault : E) (told : F)
+    → Puts {T = T} a b text (Err fault) → Puts {T = U} a b (text ++ more) (Err told)
 Puts-cut a b text more fault told ab = record {
   observable = ab.observable;
   faults = ab.faults;
@@ -58,24 +68,49 @@ Puts-cut a b text more fault told ab = record {
 }
 
 -- the same text
-pub Puts-as : {T E : Type 0} (a b : SinkState) (text other : List ℕ) (result : Result T E) → text ≡ other → Puts a b text result → Puts a b other result
+pub Puts-as : {T E : Type 0} (a b : SinkState) (text other : List ℕ) (result : Result T E) → text ≡ other
+    → Puts a b text result → Puts a b other result
 Puts-as a b text other result same puts = subst (λ (xs : List ℕ). Puts a b xs result) same puts
 
 -- a put, and then a text: behind a put the count of faults has its bound
-pub IsPut-from : {T U E F : Type 0} (a b c : SinkState) (text more : List ℕ) (value : U) (result : Result T E) → IsPut {E = F} a b text (Ok value) → Puts b c more result → IsPut a c (text ++ more) result
+pub IsPut-from : {T U E F : Type 0} (a b c : SinkState) (text more : List ℕ) (value : U) (result : Result T E)
+    → IsPut {E = F} a b text (Ok value) → Puts b c more result → IsPut a c (text ++ more) result
 IsPut-from {T = T} {E = E} {F = F} a b c text more value (Ok end) ab bc =
     let both = Puts-then {T = T} {E = E} {F = F} a b c text more value (Ok end) (Puts-one a b text (Ok value) ab) bc in
-    record { observable = both.observable; faults = both.faults; last_fault = omega (arith, ab.last_fault, bc.faults); observed = both.observed }
+    record {
+      observable = both.observable;
+      faults = both.faults;
+      last_fault = omega (arith, ab.last_fault, bc.faults);
+      observed = both.observed;
+    }
 IsPut-from {T = T} {E = E} {F = F} a b c text more value (Err fault) ab bc =
-    let both = Puts-then {T = T} {E = E} {F = F} a b c text more value (Err fault) (Puts-one a b text (Ok value) ab) bc in
-    record { observable = both.observable; faults = both.faults; last_fault = omega (arith, both.faults); observed = both.observed }
+    let both = Puts-then {T = T} {E = E} {F = F} a b c text more value (Err fault) (Puts-one a b text (Ok value) ab) bc
+    in
+    record {
+      observable = both.observable;
+      faults = both.faults;
+      last_fault = omega (arith, both.faults);
+      observed = both.observed;
+    }
 
 -- the same put, by another answer
-pub IsPut-answered : {T U E F : Type 0} (a b : SinkState) (text : List ℕ) (value : T) (other : U) → IsPut {E = E} a b text (Ok value) → IsPut {E = F} a b text (Ok other)
+pub IsPut-answered : {T U E F : Type 0} (a b : SinkState) (text : List ℕ) (value : T) (other : U)
+    → IsPut {E = E} a b text (Ok value) → IsPut {E = F} a b text (Ok other)
 IsPut-answered a b text value other put =
-    record { observable = put.observable; faults = put.faults; last_fault = put.last_fault; observed = λ observable. record { appended = (put.observed observable).appended; cut_off = tt } }
+    record {
+      observable = put.observable;
+      faults = put.faults;
+      last_fault = put.last_fault;
+      observed = λ observable. record { appended = (put.observed observable).appended; cut_off = tt };
+    }
 
 -- a fault that is told by another
-pub IsPut-failed : {T U E F : Type 0} (a b : SinkState) (text : List ℕ) (fault : E) (told : F) → IsPut {T = T} a b text (Err fault) → IsPut {T = U} a b text (Err told)
+pub IsPut-failed : {T U E F : Type 0} (a b : SinkState) (text : List ℕ) (fault : E) (told : F)
+    → IsPut {T = T} a b text (Err fault) → IsPut {T = U} a b text (Err told)
 IsPut-failed a b text fault told put =
-    record { observable = put.observable; faults = put.faults; last_fault = put.last_fault; observed = λ observable. record { appended = tt; cut_off = (put.observed observable).cut_off } }
+    record {
+      observable = put.observable;
+      faults = put.faults;
+      last_fault = put.last_fault;
+      observed = λ observable. record { appended = tt; cut_off = (put.observed observable).cut_off };
+    }

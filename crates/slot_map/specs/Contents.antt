@@ -40,7 +40,8 @@ pub record ShowsSlot (slot : List ℕ) (char : ℕ) : Type 0 where
 
 -- the first characters stand for the slots of the table of an image of so many slots, as they stand there
 abbrev pub AreShown : ℕ → List ℕ → ℕ → List ℕ → Type 0
-AreShown slots image first chars = (i : ℕ) → i < first → ShowsSlot (bytes_at image (table_at slots i) block_len) (slice_index chars i)
+AreShown slots image first chars = (i : ℕ) → i < first
+    → ShowsSlot (bytes_at image (table_at slots i) block_len) (slice_index chars i)
 
 -- a character for each slot
 pub record ShowsTable (slots : ℕ) (image chars : List ℕ) : Type 0 where

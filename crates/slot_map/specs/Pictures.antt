@@ -1,5 +1,6 @@
 -- The text of a picture.
-use Rattle.std.specs.Prelude.{◌≡◌, ℕ, ◌+◌, ◌-◌, ◌*◌, List, [], ◌∷◌, ◌++◌, map, length, take, drop, replicate, slice_index, not, ◌||◌, ◌==◌, Bool, if◌then◌else◌, codes}
+use Rattle.std.specs.Prelude.{◌≡◌, ℕ, ◌+◌, ◌-◌, ◌*◌, List, [], ◌∷◌, ◌++◌, map, length, take, drop, replicate}
+use Rattle.std.specs.Prelude.{slice_index, not, ◌||◌, ◌==◌, Bool, if◌then◌else◌, codes}
 use Rattle.std.specs.Fmt.{decimal}
 use Rattle.std.specs.List.{count_by, list_any, flat_map}
 use Rattle.hex.specs.Hex.{encode_lower}
@@ -43,7 +44,8 @@ used_count chars = count_by (λ char. not (char == 46)) chars
 -- the first line: the parameters, and how many slots are not free
 unfoldable pub title_text : Parameters → ℕ → List ℕ
 title_text p used =
-    line (codes "hstore image, version " ++ decimal (version_byte p.version) ++ codes ", " ++ decimal p.slots ++ codes " slots, " ++ decimal used ++ codes " used, height " ++ decimal p.height ++ codes ", "
+    line (codes "hstore image, version " ++ decimal (version_byte p.version) ++ codes ", " ++ decimal p.slots
+    ++ codes " slots, " ++ decimal used ++ codes " used, height " ++ decimal p.height ++ codes ", "
     ++ draw_word p.kind)
 
 -- what the commit flag says
@@ -64,7 +66,8 @@ is_under_way flag marks = not (flag == 0) || list_any (λ mark. not (mark == 0))
 
 -- the line before the marks
 abbrev pub marks_title : ℕ → List ℕ
-marks_title flag = if flag == 0 then line (codes "marks: they do not count, since the gate is 00") else line (codes "marks: they count, since the gate is set")
+marks_title flag = if flag == 0 then line (codes "marks: they do not count, since the gate is 00") else line
+    (codes "marks: they count, since the gate is set")
 
 -- the line of the version's mark
 unfoldable pub version_text : List ℕ → List ℕ
@@ -72,7 +75,8 @@ version_text character = line (codes "version " ++ character)
 
 -- the picture of the marks: those of the slots in rows, and behind them the version's
 unfoldable pub marks_text : ℕ → ℕ → List ℕ → List ℕ
-marks_text slots flag marks = marks_title flag ++ rows_text (map mark_character (take slots marks)) ++ version_text (map mark_character (drop slots marks))
+marks_text slots flag marks = marks_title flag ++ rows_text (map mark_character (take slots marks))
+    ++ version_text (map mark_character (drop slots marks))
 
 -- what is shown of the journal behind the slots
 abbrev pub journal_text : ℕ → ℕ → List ℕ → List ℕ
@@ -82,7 +86,8 @@ journal_text slots flag marks = if is_under_way flag marks then marks_text slots
 abbrev pub body_text : ℕ → ℕ → List ℕ → List ℕ → List ℕ
 body_text slots flag chars marks = gate_text flag ++ rows_text chars ++ journal_text slots flag marks
 
--- a picture by the parameters, the commit flag, the characters of the slots, and the marks with the version's behind them
+-- a picture by the parameters, the commit flag, the characters of the slots, and the marks with the version's behind
+-- them
 unfoldable pub picture_text : Parameters → ℕ → List ℕ → List ℕ → List ℕ
 picture_text p flag chars marks = title_text p (used_count chars) ++ body_text p.slots flag chars marks
 

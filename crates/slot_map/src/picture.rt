@@ -5,7 +5,8 @@ ghost use Rattle.store_model.specs.Parameters.{Parameters, slots_limit};
 ghost use Rattle.script_lines.specs.SinkState.{IsPut};
 ghost use Rattle.slot_map.specs.MapCalls.{Puts};
 ghost use Rattle.slot_map.specs.Pictures as model;
-ghost use Rattle.slot_map.specs.Pictures.{used_count, title_text, gate_text, mark_character, is_under_way, marks_title, version_text, marks_text, journal_text, body_text, picture_text};
+ghost use Rattle.slot_map.specs.Pictures.{used_count, title_text, gate_text, mark_character, is_under_way, marks_title};
+ghost use Rattle.slot_map.specs.Pictures.{version_text, marks_text, journal_text, body_text, picture_text};
 
 use crate::rows::write_rows;
 use script_lines::{Sink, SinkFault, Text};
@@ -157,7 +158,8 @@ fn write_journal<W: Sink>(
 ) -> Result<(), SinkFault>
     requires in_range { slots ≤ slots_limit }
     requires count { length marks.old ≡ slots + 1 }
-    ensures { Puts (W.state sink.old) (W.state sink.new) (journal_text slots flag marks.old) result }
+    ensures { Puts (W.state sink.old) (W.state sink.new)
+        (journal_text slots flag marks.old) result }
 {
     if is_under_way(flag, marks) {
         write_marks(sink, flag, slots, marks)
@@ -177,7 +179,8 @@ fn write_body<W: Sink>(
     requires in_range { slots ≤ slots_limit }
     requires chars { length chars.now ≡ slots }
     requires marks { length marks.old ≡ slots + 1 }
-    ensures { Puts (W.state sink.old) (W.state sink.new) (body_text slots flag chars.now marks.old) result }
+    ensures { Puts (W.state sink.old) (W.state sink.new)
+        (body_text slots flag chars.now marks.old) result }
 {
     write_gate(sink, flag)?;
     write_rows(sink, chars)?;
@@ -195,7 +198,8 @@ pub(crate) fn write_picture<W: Sink>(
 ) -> Result<(), SinkFault>
     requires slots { length chars.now ≡ params.now.slots }
     requires marks { length marks.old ≡ params.now.slots + 1 }
-    ensures { IsPut (W.state sink.old) (W.state sink.new) (picture_text params.now flag chars.now marks.old) result }
+    ensures { IsPut (W.state sink.old) (W.state sink.new)
+        (picture_text params.now flag chars.now marks.old) result }
 {
     let slots = params.slots();
     write_title(sink, params, used_count(chars))?;

@@ -19,7 +19,8 @@ pub(crate) fn read_flag<D: Disk>(disk: &mut D, slots: u32) -> Result<u8, DiskFau
     requires in_range { slots ≤ slots_limit }
     requires size { (D.state disk.old).size ≡ image_len slots }
     ensures reads { ReadsDisk (D.state disk.old) (D.state disk.new) result }
-    ensures flag { IsObservable (D.state disk.old) → IfOk result (λ flag. flag ≡ slice_index (D.state disk.old).bytes model.gate_at) }
+    ensures flag { IsObservable (D.state disk.old)
+        → IfOk result (λ flag. flag ≡ slice_index (D.state disk.old).bytes model.gate_at) }
 {
     let mut flag = [0; 1];
     disk.read_at(gate_at(), &mut flag)?;
@@ -36,7 +37,8 @@ pub(crate) fn read_marks<D: Disk>(
     requires size { (D.state disk.old).size ≡ image_len slots }
     requires count { length marks.old ≡ slots + 1 }
     ensures reads { ReadsDisk (D.state disk.old) (D.state disk.new) result }
-    ensures marks { IsObservable (D.state disk.old) → OnOk result (marks.new ≡ bytes_at (D.state disk.old).bytes model.marks_at (slots + 1)) }
+    ensures marks { IsObservable (D.state disk.old)
+        → OnOk result (marks.new ≡ bytes_at (D.state disk.old).bytes model.marks_at (slots + 1)) }
 {
     disk.read_at(mark_at(0), marks)
 }
@@ -47,7 +49,9 @@ fn read_slot<D: Disk>(disk: &mut D, slots: u32, slot: u32) -> Result<u8, DiskFau
     requires below { slot < slots }
     requires size { (D.state disk.old).size ≡ image_len slots }
     ensures reads { ReadsDisk (D.state disk.old) (D.state disk.new) result }
-    ensures shown { IsObservable (D.state disk.old) → IfOk result (ShowsSlot (bytes_at (D.state disk.old).bytes (model.table_at slots slot) block_len)) }
+    ensures shown { IsObservable (D.state disk.old)
+        → IfOk result
+        (ShowsSlot (bytes_at (D.state disk.old).bytes (model.table_at slots slot) block_len)) }
 {
     let mut bytes = [0; BLOCK];
     disk.read_at(table_at(slots, slot), &mut bytes)?;
@@ -64,7 +68,8 @@ pub(crate) fn read_slots<D: Disk>(
     requires size { (D.state disk.old).size ≡ image_len slots }
     requires count { length chars.old ≡ slots }
     ensures reads { ReadsDisk (D.state disk.old) (D.state disk.new) result }
-    ensures shown { IsObservable (D.state disk.old) → OnOk result (ShowsTable slots (D.state disk.old).bytes chars.new) }
+    ensures shown { IsObservable (D.state disk.old)
+        → OnOk result (ShowsTable slots (D.state disk.old).bytes chars.new) }
 {
     for slot in 0..slots {
         chars[slot as usize] = read_slot(disk, slots, slot)?;

@@ -1,5 +1,6 @@
 -- The header's bytes: that they say all that the parameters are.
-use Rattle.std.proofs.Common.{◌≡◌, ℕ, ◌-◌, List, ◌∷◌, ◌++◌, length, take, drop, slice_index, refl, subst, ap, sym, ◌∙◌, arith}
+use Rattle.std.proofs.Common.{◌≡◌, ℕ, ◌-◌, List, ◌∷◌, ◌++◌, length, take, drop, slice_index, refl, subst, ap, sym, ◌∙◌}
+use Rattle.std.proofs.Common.{arith}
 use Rattle.std.specs.Prelude.{codes, Result, Ok, Err, Some, IfOk}
 use Rattle.std.specs.Result.{result_ok}
 use Rattle.std.specs.Int.{w32, to_be_bytes, from_be_bytes}
@@ -14,7 +15,8 @@ use Rattle.store_model.specs.Images.{kind_byte, version_byte, header}
 
 -- the 48 bytes in front of the zeros
 abbrev pub header_front : Parameters → List ℕ
-header_front p = codes "HSTORE01" ++ to_be_bytes w32 p.slots ++ p.height ∷ kind_byte p.kind ∷ version_byte p.version ∷ 0 ∷ p.seed
+header_front p = codes "HSTORE01" ++ to_be_bytes w32 p.slots ++ p.height ∷ kind_byte p.kind
+    ∷ version_byte p.version ∷ 0 ∷ p.seed
 
 pub header-front : (p : Parameters) → IsParameters p → header p ≡ header_front p ++ zeros 4048
 unfolding header zero_filled
@@ -50,14 +52,24 @@ kind_byte-same Sha256 Ruler same = absurd (omega (arith, same))
 kind_byte-same Sha256 Sha256 same = refl
 
 -- what is read from a header, under version 1, is what it was written for, whatever its version
-pub header-read : (p : Parameters) (block slots_bytes seed : List ℕ) (slots : ℕ) (kind : DrawKind) → IsParameters p → header p ≡ block
-    → slots_bytes ≡ take 4 (drop 8 block) → slots ≡ from_be_bytes w32 slots_bytes → Some kind ≡ Some p.kind → seed ≡ take 32 (drop 16 block)
-    → record { slots = slots; height = slice_index block 12; kind = kind; seed = seed; version = One } ≡ with_version p One
+pub header-read : (p : Parameters) (block slots_bytes seed : List ℕ) (slots : ℕ) (kind : DrawKind)
+    → IsParameters p → header p ≡ block
+    → slots_bytes ≡ take 4 (drop 8 block) → slots ≡ from_be_bytes w32 slots_bytes → Some kind ≡ Some p.kind
+    → seed ≡ take 32 (drop 16 block)
+    → record {
+      slots = slots;
+      height = slice_index block 12;
+      kind = kind;
+      seed = seed;
+      version = One;
+    } ≡ with_version p One
 header-read p block slots_bytes seed slots kind valid is_header slots_bytes_are slots_is some_kind seed_is =
     let kind_is : kind ≡ p.kind = cc in
     let slots_same : slots ≡ p.slots =
-    slots_is ∙ ap (from_be_bytes w32) slots_bytes_are ∙ ap (λ (b : List ℕ). from_be_bytes w32 (take 4 (drop 8 b))) (sym is_header)
-    ∙ ap (from_be_bytes w32) (header-slots p) ∙ from_be_bytes-to_be_bytes_4 p.slots (omega (arith, valid.slots_in_range)) in
+    slots_is ∙ ap (from_be_bytes w32) slots_bytes_are
+    ∙ ap (λ (b : List ℕ). from_be_bytes w32 (take 4 (drop 8 b))) (sym is_header)
+    ∙ ap (from_be_bytes w32) (header-slots p)
+    ∙ from_be_bytes-to_be_bytes_4 p.slots (omega (arith, valid.slots_in_range)) in
     let height_same = ap (λ (b : List ℕ). slice_index b 12) (sym is_header) ∙ header-height p in
     let seed_same = seed_is ∙ ap (λ (b : List ℕ). take 32 (drop 16 b)) (sym is_header) ∙ header-seed p valid in
     λ i. record { slots = slots_same i; height = height_same i; kind = kind_is i; seed = seed_same i; version = One }

@@ -1,6 +1,7 @@
 -- How the areas of an image lie.
 use Rattle.std.specs.Prelude.{◌≡◌, ℕ, ◌+◌, ◌*◌, ◌<◌, ◌≤◌}
-use Rattle.store_model.specs.Parameters.{block_len, mark_blocks, gate_at, marks_at, mark_at, shadow_at, table_at, image_len}
+use Rattle.store_model.specs.Parameters.{block_len, mark_blocks, gate_at, marks_at, mark_at, shadow_at, table_at}
+use Rattle.store_model.specs.Parameters.{image_len}
 
 -- The header begins at 0. Each area ends where the next one begins, and the table ends where the image does.
 pub record AreasFill (slots : ℕ) : Type 0 where

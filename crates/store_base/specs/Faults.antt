@@ -4,7 +4,8 @@ use Rattle.store_base.specs.declared.store_fault.Fault.{Fault}
 use Rattle.store_base.specs.declared.store_fault.Fault.TheVariants.{Disk, NoMemory}
 use Rattle.store_base.specs.Counts.{raised}
 
--- the count of failed calls after a call: a fault of the disk raises it by one, Ok and want of memory leave it as it was
+-- the count of failed calls after a call: a fault of the disk raises it by one, Ok and want of memory leave it as it
+-- was
 abbrev pub disk_faults_after : {T : Type 0} → ℕ → Result T Fault → ℕ
 disk_faults_after count (Ok value) = count
 disk_faults_after count (Err Disk) = raised count

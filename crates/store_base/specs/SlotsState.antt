@@ -1,5 +1,6 @@
 -- What slots mean at one moment, and what a call on them does.
-use Rattle.std.specs.Prelude.{◌≡◌, ⊤, ℕ, Bool, IsTrue, List, length, Some, Result, OnOk, OnErr, IfErr, slice_get, slice_set}
+use Rattle.std.specs.Prelude.{◌≡◌, ⊤, ℕ, Bool, IsTrue, List, length, Some, Result, OnOk, OnErr, IfErr, slice_get}
+use Rattle.std.specs.Prelude.{slice_set}
 use Rattle.store_model.specs.Parameters.{block_len}
 use Rattle.store_base.specs.declared.store_fault.Fault.{Fault}
 use Rattle.store_base.specs.declared.store_fault.Fault.TheVariants.{Disk, NoMemory}
@@ -34,13 +35,15 @@ IsCounted state = length state.slots ≡ state.count
 abbrev pub AreWhole : List (List ℕ) → Type 0
 AreWhole slots = (i : ℕ) (slot : List ℕ) → slice_get slots i ≡ Some slot → length slot ≡ block_len
 
--- What comes with a fault: want of memory, that calls may take memory. That of the disk has its cause in the count of faults.
+-- What comes with a fault: want of memory, that calls may take memory. That of the disk has its cause in the count of
+-- faults.
 abbrev pub HasCause : SlotsState → Fault → Type 0
 HasCause old Disk = ⊤
 HasCause old NoMemory = ¬ TakesNone old
 
--- What a call on slots, or several of which the first fault is the last, ensures of all slots, whether or not they tell
--- their bytes. The count of faults is the same after Ok and after want of memory, and one more after a fault of the disk.
+-- What a call on slots, or several of which the first fault is the last, ensures of all slots, whether or not they
+-- tell their bytes. The count of faults is the same after Ok and after want of memory, and one more after a fault of
+-- the disk.
 pub record AreSlotCalls {T : Type 0} (old new : SlotsState) (result : Result T Fault) : Type 0 where
   pub count : new.count ≡ old.count
   pub observable : new.is_observable ≡ old.is_observable
@@ -49,12 +52,14 @@ pub record AreSlotCalls {T : Type 0} (old new : SlotsState) (result : Result T F
   pub cause : IfErr result (HasCause old)
 
 -- what a read of a slot into a buffer does to slots that tell their bytes
-pub record GetsSlot {T : Type 0} (old new : SlotsState) (at : ℕ) (buffer : List ℕ) (result : Result T Fault) : Type 0 where
+pub record GetsSlot {T : Type 0} (old new : SlotsState) (at : ℕ) (buffer : List ℕ)
+    (result : Result T Fault) : Type 0 where
   pub got : OnOk result (slice_get old.slots at ≡ Some buffer)
   pub slots : new.slots ≡ old.slots
 
 -- what a write of a slot does to slots that tell their bytes; one that fails changes nothing
-pub record SetsSlot {T : Type 0} (old new : SlotsState) (at : ℕ) (slot : List ℕ) (result : Result T Fault) : Type 0 where
+pub record SetsSlot {T : Type 0} (old new : SlotsState) (at : ℕ) (slot : List ℕ)
+    (result : Result T Fault) : Type 0 where
   pub written : OnOk result (new.slots ≡ slice_set old.slots at slot)
   pub unchanged : OnErr result (new.slots ≡ old.slots)
 

@@ -3,7 +3,8 @@
 ghost use Rattle.std.specs.Prelude.{◌≡◌, ◌↔◌, Some, IsTrue, IsNone, IsSome, IfSome, length, nat_eq};
 ghost use Rattle.std.proofs.Common.{refl};
 ghost use Rattle.std.specs.Cmp.{partial_equiv_from_equiv, on_equiv, on_per, on_po, on_total};
-ghost use Rattle.std.specs.Cmp.Lexicographic.{pointwise, nat_list_eq_equiv, nat_list_cmp_total, texts_po, texts_ties, slice_cmp};
+ghost use Rattle.std.specs.Cmp.Lexicographic.{pointwise, nat_list_eq_equiv, nat_list_cmp_total, texts_po, texts_ties};
+ghost use Rattle.std.specs.Cmp.Lexicographic.{slice_cmp};
 ghost use Rattle.std.specs.Ordering.{nat_cmp};
 ghost use Rattle.store_model.specs.Labels as model;
 ghost use Rattle.store_model.specs.Labels.{IsLead, IsLabel, lead_bytes, label_bytes, label_cmp};
@@ -46,9 +47,17 @@ impl Model for Label {
 
     ghost view = { λ l. record { level = l.level; lead = model_lead l.lead; index = l.index } };
 
-    ghost invariant = { λ l. IsLabel (record { level = l.level; lead = model_lead l.lead; index = l.index }) };
+    ghost invariant = { λ l. IsLabel (record {
+      level = l.level;
+      lead = model_lead l.lead;
+      index = l.index;
+    }) };
 
-    ghost inverse = { λ l. record { level = l.level; lead = declared_lead l.lead; index = l.index } };
+    ghost inverse = { λ l. record {
+      level = l.level;
+      lead = declared_lead l.lead;
+      index = l.index;
+    } };
 }
 
 impl Lead {
@@ -67,8 +76,10 @@ impl Lead {
     /// The lead with these 125 bytes of a label; `None` exactly where they are no lead's.
     fn from_bytes(bytes: &[u8]) -> Option<Lead>
         requires { length bytes.now ≡ 125 }
-        ensures found { IfSome result (λ lead. IsLead (model_lead lead) × (lead_bytes (model_lead lead) ≡ bytes.now)) }
-        ensures only { (lead : model.Lead) → IsLead lead → lead_bytes lead ≡ bytes.now → IsSome result }
+        ensures found { IfSome result (λ lead. IsLead (model_lead lead)
+            × (lead_bytes (model_lead lead) ≡ bytes.now)) }
+        ensures only { (lead : model.Lead) → IsLead lead
+            → lead_bytes lead ≡ bytes.now → IsSome result }
     {
         match bytes[0] {
             0 if bytes[1..] == [0; 124] => Some(Lead::Start),
@@ -120,10 +131,12 @@ impl Label {
 impl PartialEq for Lead {
     ghost eq = { λ a b. pointwise nat_eq (lead_bytes (model_lead a)) (lead_bytes (model_lead b)) };
 
-    ghost laws = { on_per (λ a. lead_bytes (model_lead a)) (partial_equiv_from_equiv nat_list_eq_equiv) };
+    ghost laws = { on_per (λ a. lead_bytes (model_lead a))
+        (partial_equiv_from_equiv nat_list_eq_equiv) };
 
     fn eq(&self, other: &Self) -> bool
-        ensures value { result ≡ pointwise nat_eq (lead_bytes (model_lead self.now)) (lead_bytes (model_lead other.now)) }
+        ensures value { result ≡ pointwise nat_eq (lead_bytes (model_lead self.now))
+            (lead_bytes (model_lead other.now)) }
         ensures same { IsTrue result ↔ (model_lead self.now ≡ model_lead other.now) }
     {
         match (self, other) {
@@ -139,7 +152,8 @@ impl Eq for Lead {
 }
 
 impl PartialOrd for Lead {
-    ghost partial_cmp = { λ a b. Some (slice_cmp nat_cmp (lead_bytes (model_lead a)) (lead_bytes (model_lead b))) };
+    ghost partial_cmp = { λ a b.
+        Some (slice_cmp nat_cmp (lead_bytes (model_lead a)) (lead_bytes (model_lead b))) };
 
     ghost laws = { on_po (λ a. lead_bytes (model_lead a)) texts_po };
 
@@ -149,16 +163,19 @@ impl PartialOrd for Lead {
 }
 
 impl Ord for Lead {
-    ghost cmp = { λ a b. slice_cmp nat_cmp (lead_bytes (model_lead a)) (lead_bytes (model_lead b)) };
+    ghost cmp = { λ a b. slice_cmp nat_cmp (lead_bytes (model_lead a))
+        (lead_bytes (model_lead b)) };
 
     ghost total = { on_total (λ a. lead_bytes (model_lead a)) nat_list_cmp_total };
 
     ghost matches_partial_cmp = { λ a b. refl };
 
-    ghost matches_eq = { λ a b. texts_ties (lead_bytes (model_lead a)) (lead_bytes (model_lead b)) };
+    ghost matches_eq = { λ a b. texts_ties (lead_bytes (model_lead a))
+        (lead_bytes (model_lead b)) };
 
     fn cmp(&self, other: &Self) -> Ordering
-        ensures value { result ≡ slice_cmp nat_cmp (lead_bytes (model_lead self.now)) (lead_bytes (model_lead other.now)) }
+        ensures value { result ≡ slice_cmp nat_cmp (lead_bytes (model_lead self.now))
+            (lead_bytes (model_lead other.now)) }
     {
         match (self, other) {
             (Lead::Start, Lead::Start) => Ordering::Equal,

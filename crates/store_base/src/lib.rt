@@ -1,8 +1,8 @@
 //! The types that all layers share. They know no disk, no table and no tree.
 //!
-//! Faults, byte strings and the entries of a directory; keys and the labels that name pages; the parameters of an image,
-//! its header and where its areas lie; and the traits of the slots that a table is made of. Only `Entries` and `AttrEntries`
-//! take memory.
+//! Faults, byte strings and the entries of a directory; keys and the labels that name pages; the parameters of an
+//! image, its header and where its areas lie; and the traits of the slots that a table is made of. Only `Entries` and
+//! `AttrEntries` take memory.
 #![tactic(auto)]
 
 mod areas;

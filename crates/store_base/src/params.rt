@@ -26,11 +26,29 @@ impl Model for Params {
 
     ghost Value = { Parameters };
 
-    ghost view = { λ p. record { slots = p.slots; height = p.height; kind = p.kind; seed = p.seed; version = p.version } };
+    ghost view = { λ p. record {
+      slots = p.slots;
+      height = p.height;
+      kind = p.kind;
+      seed = p.seed;
+      version = p.version;
+    } };
 
-    ghost invariant = { λ p. IsParameters (record { slots = p.slots; height = p.height; kind = p.kind; seed = p.seed; version = p.version }) };
+    ghost invariant = { λ p. IsParameters (record {
+      slots = p.slots;
+      height = p.height;
+      kind = p.kind;
+      seed = p.seed;
+      version = p.version;
+    }) };
 
-    ghost inverse = { λ p. record { slots = p.slots; height = p.height; kind = p.kind; seed = p.seed; version = p.version } };
+    ghost inverse = { λ p. record {
+      slots = p.slots;
+      height = p.height;
+      kind = p.kind;
+      seed = p.seed;
+      version = p.version;
+    } };
 }
 
 impl Params {
@@ -42,9 +60,21 @@ impl Params {
     /// The parameters under version 1 of the format, or `BadParams` exactly where they are out of range.
     pub fn new(slots: u32, height: u8, kind: DrawKind, seed: [u8; 32]) -> Result<Self, BadParams>
         ensures exact { IsOk result
-            ↔ IsParameters (record { slots = slots; height = height; kind = kind; seed = seed; version = One }) }
+            ↔ IsParameters (record {
+              slots = slots;
+              height = height;
+              kind = kind;
+              seed = seed;
+              version = One;
+            }) }
         ensures value { IfOk result
-            (λ p. p ≡ record { slots = slots; height = height; kind = kind; seed = seed; version = One }) }
+            (λ p. p ≡ record {
+              slots = slots;
+              height = height;
+              kind = kind;
+              seed = seed;
+              version = One;
+            }) }
         ensures valid { IfOk result IsParameters }
     {
         if slots < 1 || slots > MAX_SLOTS || height < 1 || height > MAX_HEIGHT {

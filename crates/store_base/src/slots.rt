@@ -35,7 +35,8 @@ pub trait ReadSlots {
     ghost follows_refl: { (slots : Self) → follows slots slots };
 
     /// What follows slots that follow others follows those too.
-    ghost follows_trans: { (old mid new : Self) → follows old mid → follows mid new → follows old new };
+    ghost follows_trans: { (old mid new : Self) → follows old mid
+        → follows mid new → follows old new };
 }
 
 /// Slots that can be read and written.

@@ -13,5 +13,12 @@ keeps_then old mid new before then = record {
   syncs = omega (arith, before.syncs, then.syncs);
 }
 
-pub keeps_calls : {T E : Type 0} (old new : DiskState) (result : Result T E) → AreCalls old new result → KeepsDisk old new
-keeps_calls old new result calls = record { size = calls.size; observable = calls.observable; faults = calls.rise; writes = calls.writes; syncs = calls.syncs }
+pub keeps_calls : {T E : Type 0} (old new : DiskState) (result : Result T E)
+    → AreCalls old new result → KeepsDisk old new
+keeps_calls old new result calls = record {
+  size = calls.size;
+  observable = calls.observable;
+  faults = calls.rise;
+  writes = calls.writes;
+  syncs = calls.syncs;
+}

@@ -14,7 +14,8 @@ use Rattle.store_core.specs.Groups.{step_under, first_refused, refused_in, tree_
 abbrev pub behind : ℕ → Option (ℕ × Refusal) → Option (ℕ × Refusal)
 behind count refused = option_map (λ (found : ℕ × Refusal). (count + found.0, found.1)) refused
 
-behind_one_more : (count : ℕ) (refused : Option (ℕ × Refusal)) → behind count (option_map (λ (found : ℕ × Refusal). (suc found.0, found.1)) refused) ≡ behind (count + 1) refused
+behind_one_more : (count : ℕ) (refused : Option (ℕ × Refusal))
+    → behind count (option_map (λ (found : ℕ × Refusal). (suc found.0, found.1)) refused) ≡ behind (count + 1) refused
 behind_one_more count None = refl
 behind_one_more count (Some found) =
     let sum : count + suc found.0 ≡ count + 1 + found.0 = omega arith in
@@ -29,18 +30,21 @@ behind_none (Some found) =
 
 module _ (p : Parameters) (t : Tree) (c : Command) (rest : List Command) where
   -- where the first change is carried out, another is the first that is refused
-  pub refused_later : (count : ℕ) → (step t c p).reply ≡ Acknowledged → behind count (refused_in p t (c ∷ rest)) ≡ behind (count + 1) (refused_in p (step t c p).tree rest)
+  pub refused_later : (count : ℕ) → (step t c p).reply ≡ Acknowledged
+      → behind count (refused_in p t (c ∷ rest)) ≡ behind (count + 1) (refused_in p (step t c p).tree rest)
   unfolding first_refused replies_by answers_by
   refused_later count is =
       ap (λ (r : Reply). behind count (first_refused (r ∷ replies_by (step_under p) (step t c p).tree rest))) is
       ∙ behind_one_more count (refused_in p (step t c p).tree rest)
 
   -- where it is refused, it is the first
-  pub refused_first : (count : ℕ) (refusal : Refusal) → (step t c p).reply ≡ Refused refusal → behind count (refused_in p t (c ∷ rest)) ≡ Some (count, refusal)
+  pub refused_first : (count : ℕ) (refusal : Refusal) → (step t c p).reply ≡ Refused refusal
+      → behind count (refused_in p t (c ∷ rest)) ≡ Some (count, refusal)
   unfolding first_refused replies_by answers_by
   refused_first count refusal is =
       let sum : count + 0 ≡ count = omega arith in
-      ap (λ (r : Reply). behind count (first_refused (r ∷ replies_by (step_under p) (step t c p).tree rest))) is ∙ ap (λ (n : ℕ). Some (n, refusal)) sum
+      ap (λ (r : Reply). behind count (first_refused (r ∷ replies_by (step_under p) (step t c p).tree rest))) is
+      ∙ ap (λ (n : ℕ). Some (n, refusal)) sum
 
   -- the tree after the rest is the one after all
   pub tree_later : tree_by (step_under p) t (c ∷ rest) ≡ tree_by (step_under p) (step t c p).tree rest
@@ -62,4 +66,5 @@ module _ (p : Parameters) (t : Tree) (group : List Command) where
   group_done is = ap (λ (refused : Option (ℕ × Refusal)). tree_unless refused (tree_by (step_under p) t group) t) is
 
   pub group_refused : (found : ℕ × Refusal) → refused_in p t group ≡ Some found → group_tree p t group ≡ t
-  group_refused found is = ap (λ (refused : Option (ℕ × Refusal)). tree_unless refused (tree_by (step_under p) t group) t) is
+  group_refused found is =
+      ap (λ (refused : Option (ℕ × Refusal)). tree_unless refused (tree_by (step_under p) t group) t) is

@@ -1,6 +1,7 @@
 -- How a store is opened: a sync, the check of the image, and its recovery.
 use Rattle.std.proofs.lemmas.Bool.{cases_Bool, false≢true}
-use Rattle.std.proofs.Common.{◌≡◌, ◌⊎◌, ◌+◌, ℕ, List, Result, Ok, Err, OnOk, false, refl, sym, ap, subst, ◌∙◌, inl, inr, ⊎_elim, arith}
+use Rattle.std.proofs.Common.{◌≡◌, ◌⊎◌, ◌+◌, ℕ, List, Result, Ok, Err, OnOk, false, refl, sym, ap, subst, ◌∙◌, inl, inr}
+use Rattle.std.proofs.Common.{⊎_elim, arith}
 use Rattle.store_base.specs.declared.fault.DiskFault.{DiskFault}
 use Rattle.store_base.specs.declared.store_fault.Fault.{Fault}
 use Rattle.store_base.specs.declared.store_fault.Fault.TheVariants as causes
@@ -47,7 +48,8 @@ use Rattle.store_core.proofs.TreePages.{table_pages}
 
 -- ---- a sync, and reads
 
-synced_alone : {T E : Type 0} (old new : DiskState) (result : Result T E) → IsObservable old → IsSync old new result → IsSynced old new
+synced_alone : {T E : Type 0} (old new : DiskState) (result : Result T E) → IsObservable old
+    → IsSync old new result → IsSynced old new
 synced_alone old new result observable sync =
     let effect = sync.observed observable in
     record {
@@ -61,7 +63,8 @@ synced_reads : (old mid new : DiskState) → IsSound mid → IsSynced old mid �
 synced_reads old mid new sound synced reads = record {
   leaves =
       LeavesOnly-trans old mid new old.crash_images synced.leaves
-      (LeavesOnly-weaken mid new mid.crash_images old.crash_images (MayLeaveOnly-end old mid old.crash_images sound synced.leaves) reads.leaves);
+      (LeavesOnly-weaken mid new mid.crash_images old.crash_images
+      (MayLeaveOnly-end old mid old.crash_images sound synced.leaves) reads.leaves);
   bytes = reads.bytes ∙ synced.bytes;
   writes = reads.write_count ∙ synced.writes;
   syncs = reads.sync_count ∙ synced.syncs;
@@ -69,7 +72,8 @@ synced_reads old mid new sound synced reads = record {
 
 -- ---- what is found of a disk holds of one that reads the same
 
-module _ (old new : DiskState) (size : new.size ≡ old.size) (observable : new.is_observable ≡ old.is_observable) (bytes : IsObservable old → new.bytes ≡ old.bytes) where
+module _ (old new : DiskState) (size : new.size ≡ old.size) (observable : new.is_observable ≡ old.is_observable)
+    (bytes : IsObservable old → new.bytes ≡ old.bytes) where
   parameters_before : (p : Parameters) → HasParameters new p → HasParameters old p
   parameters_before p has = record {
     in_range = has.in_range;
@@ -84,18 +88,21 @@ module _ (old new : DiskState) (size : new.size ≡ old.size) (observable : new.
   }
 
   no_image_before : IsNoImage new → IsNoImage old
-  no_image_before none here p is = none (observable ∙ here) p (subst (λ (image : List ℕ). IsImageWith image p) (sym (bytes here)) is)
+  no_image_before none here p is = none (observable ∙ here) p
+      (subst (λ (image : List ℕ). IsImageWith image p) (sym (bytes here)) is)
 
   damaged_before : IsDamaged new → IsDamaged old
   damaged_before damaged = record {
     params = damaged.params;
     has_parameters = parameters_before damaged.params damaged.has_parameters;
-    no_tree = λ here t p is. damaged.no_tree (observable ∙ here) t p (subst (λ (image : List ℕ). Represents image t p) (sym (bytes here)) is);
+    no_tree = λ here t p is. damaged.no_tree (observable ∙ here) t p
+        (subst (λ (image : List ℕ). Represents image t p) (sym (bytes here)) is);
   }
 
 -- ---- the check
 
-module _ {T E : Type 0} (old mid new : DiskState) (value : T) (sound : IsObservable mid → IsSound mid) (sync : IsSync {E = E} old mid (Ok value)) where
+module _ {T E : Type 0} (old mid new : DiskState) (value : T) (sound : IsObservable mid → IsSound mid)
+    (sync : IsSync {E = E} old mid (Ok value)) where
   module _ (verdict : Result Verdict Fault) (reads : ReadsDisk mid new verdict) where
     keeps : KeepsDisk old new
     keeps = record {
@@ -109,10 +116,12 @@ module _ {T E : Type 0} (old mid new : DiskState) (value : T) (sound : IsObserva
     synced : IsObservable old → IsSynced old new
     synced observable =
         let observable_mid : IsObservable mid = sync.call.observable ∙ observable in
-        synced_reads old mid new (sound observable_mid) (synced_alone old mid (Ok value) observable sync) (reads.reads observable_mid)
+        synced_reads old mid new (sound observable_mid) (synced_alone old mid (Ok value) observable sync)
+        (reads.reads observable_mid)
 
     durable : IsObservable old → IsDurable new
-    durable observable = IsDurable-reads mid new ((sync.observed observable).durable) (reads.reads (sync.call.observable ∙ observable))
+    durable observable = IsDurable-reads mid new ((sync.observed observable).durable)
+        (reads.reads (sync.call.observable ∙ observable))
 
   same : IsObservable old → mid.bytes ≡ old.bytes
   same observable = (sync.observed observable).bytes
@@ -159,14 +168,19 @@ module _ {T E : Type 0} (old mid new : DiskState) (value : T) (sound : IsObserva
 
 -- ---- the tree that a store is opened with
 
-pub opening_tree : (disk : DiskState) (contents : Contents) → HasImage disk contents → (t : Tree) × OpensWith disk contents t
+pub opening_tree : (disk : DiskState) (contents : Contents) → HasImage disk contents
+    → (t : Tree) × OpensWith disk contents t
 opening_tree disk contents has =
     ⊎_elim
     (λ seen.
     let is = has.tree seen in (
       is.tree,
       record {
-        fitting = record { in_range = is.contents_are.in_range; tree = is.contents_are.tree; fits = is.contents_are.fits };
+        fitting = record {
+          in_range = is.contents_are.in_range;
+          tree = is.contents_are.tree;
+          fits = is.contents_are.fits;
+        };
         represents = λ observable. is.represents;
         used_is = λ observable. is.contents_are.used_is;
         unseen = λ hidden. absurd (hidden seen);
@@ -176,7 +190,11 @@ opening_tree disk contents has =
     let unseen : IsObservable disk → ⊥ = λ seen. false≢true (sym hidden ∙ seen) in (
       empty_tree,
       record {
-        fitting = record { in_range = has.has_parameters.in_range; tree = IsTree-empty; fits = Fits-empty contents.params };
+        fitting = record {
+          in_range = has.has_parameters.in_range;
+          tree = IsTree-empty;
+          fits = Fits-empty contents.params;
+        };
         represents = λ observable. absurd (unseen observable);
         used_is = λ observable. absurd (unseen observable);
         unseen = λ other. refl;
@@ -186,11 +204,14 @@ opening_tree disk contents has =
 
 -- ---- recovery
 
-module _ (old mid new : DiskState) (contents : Contents) (checks : ChecksSynced old mid (Ok contents)) (result : Result (Unit {0}) DiskFault) (calls : AreCalls mid new result)
+module _ (old mid new : DiskState) (contents : Contents) (checks : ChecksSynced old mid (Ok contents))
+    (result : Result (Unit {0}) DiskFault) (calls : AreCalls mid new result)
     (recovers : IsObservable mid → Recovers contents.params.slots mid new result)
     (quiet : IsObservable mid → HasEmptyJournal contents.params.slots mid.bytes → new.writes ≡ mid.writes)
     (quiet_syncs : IsObservable mid → HasEmptyJournal contents.params.slots mid.bytes → new.syncs ≡ raised mid.syncs)
-    (makes : IsObservable mid → (HasEmptyJournal contents.params.slots mid.bytes → ⊥) → Makes (redo_writes contents.params.slots mid.bytes + erase_writes contents.params.slots mid.bytes) (redo_syncs mid.bytes + 2) mid new result) where
+    (makes : IsObservable mid → (HasEmptyJournal contents.params.slots mid.bytes → ⊥)
+    → Makes (redo_writes contents.params.slots mid.bytes + erase_writes contents.params.slots mid.bytes)
+    (redo_syncs mid.bytes + 2) mid new result) where
   abbrev its_tree : Tree
   its_tree = (opening_tree old contents checks.image).0
 
@@ -203,13 +224,16 @@ module _ (old mid new : DiskState) (contents : Contents) (checks : ChecksSynced 
   -- what the disk reads before recovery represents the tree, and so does what it reads behind it
   before : IsObservable old → Represents mid.bytes its_tree contents.params
   before observable =
-      subst (λ (image : List ℕ). Represents image its_tree contents.params) (sym (checks.synced observable).bytes) (opening.represents observable)
+      subst (λ (image : List ℕ). Represents image its_tree contents.params) (sym (checks.synced observable).bytes)
+      (opening.represents observable)
 
   after : IsObservable old → Represents new.bytes its_tree contents.params
   after observable =
-      recovers-represents mid.bytes new.bytes its_tree contents.params (before observable) (recovers (checks.kept.observable ∙ observable)).reads
+      recovers-represents mid.bytes new.bytes its_tree contents.params (before observable)
+      (recovers (checks.kept.observable ∙ observable)).reads
 
-  leaves : IsObservable old → LeavesOnly old new (λ image. old.crash_images image ⊎ Represents image its_tree contents.params)
+  leaves : IsObservable old → LeavesOnly old new
+      (λ image. old.crash_images image ⊎ Represents image its_tree contents.params)
   leaves observable =
       let observable_mid : IsObservable mid = checks.kept.observable ∙ observable in
       let durable : IsDurable mid = checks.durable observable in
@@ -218,7 +242,8 @@ module _ (old mid new : DiskState) (contents : Contents) (checks : ChecksSynced 
       (LeavesOnly-weaken old mid old.crash_images P (λ image left. inl left) (checks.synced observable).leaves)
       (LeavesOnly-weaken mid new (λ image. mid.crash_images image ⊎ RecoversAs contents.params.slots mid.bytes image) P
       (λ image either. ⊎_elim
-      (λ left. inr (subst (λ (x : List ℕ). Represents x its_tree contents.params) (sym (durable image left)) (before observable)))
+      (λ left. inr (subst (λ (x : List ℕ). Represents x its_tree contents.params)
+      (sym (durable image left)) (before observable)))
       (λ alike. inr (recovers-represents mid.bytes image its_tree contents.params (before observable) alike)) either)
       (recovers observable_mid).crash)
 
@@ -226,21 +251,27 @@ module _ (old mid new : DiskState) (contents : Contents) (checks : ChecksSynced 
   counts observable =
       let observable_mid : IsObservable mid = checks.kept.observable ∙ observable in
       let synced = checks.synced observable in
-      let first : Made 0 1 old mid = record { write_count = omega (arith, synced.writes); sync_count = omega (arith, synced.syncs) } in
-      counts_opening contents.params.slots old mid new result first synced.bytes (quiet observable_mid) (quiet_syncs observable_mid) (makes observable_mid)
+      let first : Made 0 1 old mid = record {
+        write_count = omega (arith, synced.writes);
+        sync_count = omega (arith, synced.syncs);
+      } in
+      counts_opening contents.params.slots old mid new result first synced.bytes (quiet observable_mid)
+      (quiet_syncs observable_mid) (makes observable_mid)
 
   -- it failed: no other tree is represented, under no other parameters
   pub refused_recovery : (fault : DiskFault) → result ≡ Err fault → IsRefused old attach.Disk new
   refused_recovery fault is = record {
     kept = kept_by_both;
-    faults = subst (λ (r : Result (Unit {0}) DiskFault). new.faults ≡ faults_after mid.faults r) is calls.faults ∙ ap raised checks.faults;
+    faults = subst (λ (r : Result (Unit {0}) DiskFault). new.faults ≡ faults_after mid.faults r) is calls.faults
+        ∙ ap raised checks.faults;
     not_image = λ e. absurd (cc);
     damaged = λ e. absurd (cc);
     unwritten = λ observable other. absurd (other refl);
     looked = λ observable either. ⊎_elim (λ e. absurd (cc)) (λ e. absurd (cc)) either;
     represented = λ observable t p represents.
         let same = images_tell old.bytes its_tree t contents.params p (opening.represents observable) represents in
-        subst (λ (q : Parameters). KeepsImage t q old attach.Disk new) same.1 (subst (λ (u : Tree). KeepsImage u contents.params old attach.Disk new) same.0 (record {
+        subst (λ (q : Parameters). KeepsImage t q old attach.Disk new)
+        same.1 (subst (λ (u : Tree). KeepsImage u contents.params old attach.Disk new) same.0 (record {
           not_image = λ e. absurd (cc);
           damaged = λ e. absurd (cc);
           represents = after observable;
@@ -254,13 +285,15 @@ module _ (old mid new : DiskState) (contents : Contents) (checks : ChecksSynced 
   module _ (value : Unit {0}) (is : result ≡ Ok value) where
     recovered_is : IsObservable old → new.bytes ≡ recovered contents.params.slots old.bytes
     recovered_is observable =
-        subst (λ (r : Result (Unit {0}) DiskFault). OnOk r (new.bytes ≡ recovered contents.params.slots mid.bytes)) is (recovers (checks.kept.observable ∙ observable)).done
+        subst (λ (r : Result (Unit {0}) DiskFault). OnOk r (new.bytes ≡ recovered contents.params.slots mid.bytes)) is
+        (recovers (checks.kept.observable ∙ observable)).done
         ∙ ap (recovered contents.params.slots) (checks.synced observable).bytes
 
     pub stands : IsObservable old → Stands new its_tree contents.params
     stands observable = record {
       layout_is = recovered_is observable ∙ (opening.represents observable).layout_is;
-      durable = subst (λ (r : Result (Unit {0}) DiskFault). OnOk r (IsDurable new)) is (recovers (checks.kept.observable ∙ observable)).durable;
+      durable = subst (λ (r : Result (Unit {0}) DiskFault). OnOk r (IsDurable new)) is
+          (recovers (checks.kept.observable ∙ observable)).durable;
     }
 
     pub opened : IsObservable old → IsOpened its_tree contents.params old new
@@ -268,23 +301,33 @@ module _ (old mid new : DiskState) (contents : Contents) (checks : ChecksSynced 
       represents = opening.represents observable;
       stands = stands observable;
       crash = leaves observable;
-      counts = subst (λ (r : Result (Unit {0}) DiskFault). OnOk r (Made (opening_writes contents.params.slots old.bytes) (opening_syncs contents.params.slots old.bytes) old new)) is (counts observable).made;
+      counts = subst (λ (r : Result (Unit {0}) DiskFault).
+          OnOk r (Made (opening_writes contents.params.slots old.bytes)
+          (opening_syncs contents.params.slots old.bytes) old new)) is (counts observable).made;
       unwritten = λ empty. record {
-        bytes = recovered_is observable ∙ recovered_empty contents.params.slots old.bytes (opening.represents observable).length_is empty;
+        bytes = recovered_is observable
+            ∙ recovered_empty contents.params.slots old.bytes (opening.represents observable).length_is empty;
         writes =
-            quiet (checks.kept.observable ∙ observable) (subst (λ (image : List ℕ). HasEmptyJournal contents.params.slots image) (sym (checks.synced observable).bytes) empty)
+            quiet (checks.kept.observable ∙ observable)
+            (subst (λ (image : List ℕ). HasEmptyJournal contents.params.slots image)
+            (sym (checks.synced observable).bytes) empty)
             ∙ (checks.synced observable).writes;
       };
     }
 
     pub not_failed : new.faults ≡ old.faults
-    not_failed = subst (λ (r : Result (Unit {0}) DiskFault). new.faults ≡ faults_after mid.faults r) is calls.faults ∙ checks.faults
+    not_failed = subst (λ (r : Result (Unit {0}) DiskFault). new.faults ≡ faults_after mid.faults r) is calls.faults
+        ∙ checks.faults
 
 -- ---- the store that is made of a disk
 
 -- and its pages are staged
-pub open_pages : {D : Type 0} (state : D → DiskState) (disk : D) (contents : Contents) (t : Tree) (staged : StagedState D AnyDraw) (draw : AnyDraw) → IsOpenAt (state disk) contents t → any_draw draw ≡ draw_of contents.params → staged.params ≡ contents.params → staged.draw ≡ draw → staged.disk ≡ disk
-    → staged.table ≡ pages_in_table contents.params.slots (state disk).bytes → staged.map ≡ staged.table → AreAt state t contents.params staged
+pub open_pages : {D : Type 0} (state : D → DiskState) (disk : D) (contents : Contents) (t : Tree)
+    (staged : StagedState D AnyDraw) (draw : AnyDraw) → IsOpenAt (state disk) contents t
+    → any_draw draw ≡ draw_of contents.params → staged.params ≡ contents.params
+    → staged.draw ≡ draw → staged.disk ≡ disk
+    → staged.table ≡ pages_in_table contents.params.slots (state disk).bytes → staged.map ≡ staged.table
+    → AreAt state t contents.params staged
 open_pages {D} state disk contents t staged draw at drawn params_is draw_is disk_is table_is map_is = record {
   params = params_is;
   draw = ap any_draw draw_is ∙ drawn;
@@ -292,11 +335,17 @@ open_pages {D} state disk contents t staged draw at drawn params_is draw_is disk
   held = λ observable runs.
       let stands = at.stands (sym (ap (λ (d : D). (state d).is_observable) disk_is) ∙ observable) in
       let table = table_is ∙ table_pages t contents.params (state disk).bytes at.fitting stands.layout_is in
-      record { stands = subst (λ (d : D). Stands (state d) t contents.params) (sym disk_is) stands; table_is = table; map_is = map_is ∙ table };
+      record {
+        stands = subst (λ (d : D). Stands (state d) t contents.params) (sym disk_is) stands;
+        table_is = table;
+        map_is = map_is ∙ table;
+      };
 }
 
-pub attached : {D : Type 0} (state : D → DiskState) (old : DiskState) (disk : D) (store : StoreState D) (t : Tree) (p : Parameters) → store ≡ record { params = p; tree = t; disk = disk; is_stopped = false }
-    → KeepsDisk old (state disk) → (state disk).faults ≡ old.faults → HasParameters old p → IsFitting t p → (IsObservable old → IsOpened t p old (state disk)) → IsAttached state old store
+pub attached : {D : Type 0} (state : D → DiskState) (old : DiskState) (disk : D) (store : StoreState D) (t : Tree)
+    (p : Parameters) → store ≡ record { params = p; tree = t; disk = disk; is_stopped = false }
+    → KeepsDisk old (state disk) → (state disk).faults ≡ old.faults → HasParameters old p → IsFitting t p
+    → (IsObservable old → IsOpened t p old (state disk)) → IsAttached state old store
 attached state old disk store t p same keeps faults has fitting opened =
     subst (IsAttached state old) (sym same) (record {
       kept = keeps;

@@ -1,5 +1,6 @@
 -- What a store comes to by the steps of its staged pages.
-use Rattle.std.proofs.Common.{◌≡◌, ℕ, Option, Bool, true, false, List, Result, Ok, Err, OnOk, OnErr, is_ok, refl, sym, ap, subst, ◌∙◌, ⊎_elim}
+use Rattle.std.proofs.Common.{◌≡◌, ℕ, Option, Bool, true, false, List, Result, Ok, Err, OnOk, OnErr, is_ok, refl, sym}
+use Rattle.std.proofs.Common.{ap, subst, ◌∙◌, ⊎_elim}
 use Rattle.std.proofs.lemmas.Bool.{cases_Bool, false≢true}
 use Rattle.store_model.specs.Parameters.{Parameters}
 use Rattle.store_model.specs.Trees.{Tree}
@@ -31,11 +32,21 @@ use Rattle.store_core.proofs.Unchanged.{stands_reading, keeps_itself}
 
 -- a store with these fields, as it is seen
 abbrev pub store_of : {D : Type 0} → KnownState D → TreeList D → StoreState D
-store_of known list = record { params = known.params; tree = known.tree; disk = list.pages.disk; is_stopped = list.pages.is_spent }
+store_of known list = record {
+  params = known.params;
+  tree = known.tree;
+  disk = list.pages.disk;
+  is_stopped = list.pages.is_spent;
+}
 
 -- the step of a command leads from a tree that fits to one that does
-pub fitting_step : (t : Tree) (c : Command) (p : Parameters) → IsFitting t p → IsCommand c → IsFitting (step t c p).tree p
-fitting_step t c p fitting is = record { in_range = fitting.in_range; tree = IsTree-step t c p fitting.tree is; fits = Fits-step t c p fitting.tree fitting.fits }
+pub fitting_step : (t : Tree) (c : Command) (p : Parameters) → IsFitting t p → IsCommand c
+    → IsFitting (step t c p).tree p
+fitting_step t c p fitting is = record {
+  in_range = fitting.in_range;
+  tree = IsTree-step t c p fitting.tree is;
+  fits = Fits-step t c p fitting.tree fitting.fits;
+}
 
 -- what steps answer, and the trees that they lead to, by the parameters and the tree
 abbrev pub Nexts : Type 0
@@ -73,11 +84,14 @@ abbrev pub LoadReply : Tree → Answers LoadAnswer
 LoadReply t p empty = IsLoadAnswer p t
 
 -- a store takes the step from its tree
-abbrev pub Goes : {D A : Type 0} → (D → DiskState) → Nexts → Answers A → StoreState D → StoreState D → Result A ApplyFault → Type 0
-Goes state next IsAnswer old new result = StepsStore state (next old.params old.tree) (IsAnswer old.params old.tree) old new result
+abbrev pub Goes : {D A : Type 0} → (D → DiskState) → Nexts → Answers A → StoreState D → StoreState D
+    → Result A ApplyFault → Type 0
+Goes state next IsAnswer old new result =
+    StepsStore state (next old.params old.tree) (IsAnswer old.params old.tree) old new result
 
 -- a store that is stopped does nothing
-pub stopped : {D A : Type 0} (state : D → DiskState) (next : Tree) (IsAnswer : A → Type 0) (store : StoreState D) → store.is_stopped ≡ true → StepsStore state next IsAnswer store store (Err apply.Stopped)
+pub stopped : {D A : Type 0} (state : D → DiskState) (next : Tree) (IsAnswer : A → Type 0) (store : StoreState D)
+    → store.is_stopped ≡ true → StepsStore state next IsAnswer store store (Err apply.Stopped)
 stopped state next IsAnswer store is = record {
   params = refl;
   kept = keeps_itself (state store.disk);
@@ -93,20 +107,31 @@ stopped state next IsAnswer store is = record {
 }
 
 -- the list of a known tree that is served went on to that of a next one
-module _ {D A : Type 0} (state : D → DiskState) (known : KnownState D) (old new : TreeList D) (next : Tree) (IsAnswer : A → Type 0) (served : HoldsKnown state known old) (runs : old.pages.is_spent ≡ false) (goes : GoesOn state old new) where
-  module _ (result : Result A ApplyFault) (ends : EndsStep state known.tree next IsAnswer known.params old.pages new.pages result) where
+module _ {D A : Type 0} (state : D → DiskState) (known : KnownState D) (old new : TreeList D) (next : Tree)
+    (IsAnswer : A → Type 0) (served : HoldsKnown state known old) (runs : old.pages.is_spent ≡ false)
+    (goes : GoesOn state old new) where
+  module _ (result : Result A ApplyFault)
+      (ends : EndsStep state known.tree next IsAnswer known.params old.pages new.pages result) where
     before : IsObservable (state new.pages.disk) → IsObservable (state old.pages.disk)
     before observable = sym ends.step.kept.observable ∙ observable
 
-    steps : IsObservable (state new.pages.disk) → StepsPages state known.tree next IsAnswer known.params old.pages new.pages result
+    steps : IsObservable (state new.pages.disk)
+        → StepsPages state known.tree next IsAnswer known.params old.pages new.pages result
     steps observable = ends.step.observed (before observable)
 
-    in_image : (t : Tree) → IsFitting t known.params → (IsObservable (state new.pages.disk) → new.pages.is_spent ≡ false → StagesTreePages state t known.params new.pages) → IsListAt state t known.params new
+    in_image : (t : Tree) → IsFitting t known.params
+        → (IsObservable (state new.pages.disk) → new.pages.is_spent ≡ false
+        → StagesTreePages state t known.params new.pages) → IsListAt state t known.params new
     in_image t fit held =
         let pages = served.at.pages in
         record {
           fitting = fit;
-          pages = record { params = ends.step.params ∙ pages.params; draw = ap any_draw ends.step.draw ∙ pages.draw; size_is = ends.step.kept.size ∙ pages.size_is; held = held };
+          pages = record {
+            params = ends.step.params ∙ pages.params;
+            draw = ap any_draw ends.step.draw ∙ pages.draw;
+            size_is = ends.step.kept.size ∙ pages.size_is;
+            held = held;
+          };
           draw = ap any_draw goes.draw ∙ served.at.draw;
           whole = goes.whole;
         }
@@ -114,7 +139,10 @@ module _ {D A : Type 0} (state : D → DiskState) (known : KnownState D) (old ne
     pub same_observable : (state new.pages.disk).is_observable ≡ (state known.settled).is_observable
     same_observable = ends.step.kept.observable ∙ served.observable
 
-    applies : (after : KnownState D) → after.params ≡ known.params → (IsObservable (state old.pages.disk) → OnOk result (after.tree ≡ next)) → OnErr result (after.tree ≡ known.tree) → ((IsObservable (state old.pages.disk) → ⊥) → after.tree ≡ known.tree) → StepsStore state next IsAnswer (store_of known old) (store_of after new) result
+    applies : (after : KnownState D) → after.params ≡ known.params
+        → (IsObservable (state old.pages.disk) → OnOk result (after.tree ≡ next))
+        → OnErr result (after.tree ≡ known.tree) → ((IsObservable (state old.pages.disk) → ⊥) → after.tree ≡ known.tree)
+        → StepsStore state next IsAnswer (store_of known old) (store_of after new) result
     applies after params tree fault hidden = record {
       params = params;
       kept = ends.step.kept;
@@ -130,41 +158,54 @@ module _ {D A : Type 0} (state : D → DiskState) (known : KnownState D) (old ne
     }
 
   -- it was answered, and an observable disk has room for the next tree
-  module _ (answer : A) (fits : IsObservable (state old.pages.disk) → IsFitting next known.params) (ends : EndsStep state known.tree next IsAnswer known.params old.pages new.pages (Ok answer)) where
+  module _ (answer : A) (fits : IsObservable (state old.pages.disk) → IsFitting next known.params)
+      (ends : EndsStep state known.tree next IsAnswer known.params old.pages new.pages (Ok answer)) where
     fitting_to : IsObservable (state new.pages.disk) → IsFitting next known.params
     fitting_to observable = fits (before (Ok answer) ends observable)
 
-    pub stands_at : IsObservable (state new.pages.disk) → (t : Tree) × (IsFitting t known.params × ((state new.pages.disk).bytes ≡ layout t known.params))
+    pub stands_at : IsObservable (state new.pages.disk)
+        → (t : Tree) × (IsFitting t known.params × ((state new.pages.disk).bytes ≡ layout t known.params))
     stands_at observable = (next, (fitting_to observable, (steps (Ok answer) ends observable).image.stands.layout_is))
 
     module _ (after : KnownState D) (settles : MovesOn state new.pages.disk known after) where
       tree_seen : IsObservable (state new.pages.disk) → after.tree ≡ next
-      tree_seen observable = settles.seen observable next (fitting_to observable) (steps (Ok answer) ends observable).image.stands.layout_is
+      tree_seen observable = settles.seen observable next (fitting_to observable)
+          (steps (Ok answer) ends observable).image.stands.layout_is
 
       pub answered_applies : StepsStore state next IsAnswer (store_of known old) (store_of after new) (Ok answer)
-      answered_applies = applies (Ok answer) ends after settles.params (λ observable. tree_seen (ends.step.kept.observable ∙ observable)) tt (λ unseen. settles.unseen (λ seen. unseen (before (Ok answer) ends seen)))
+      answered_applies = applies (Ok answer) ends after
+          settles.params (λ observable. tree_seen (ends.step.kept.observable ∙ observable)) tt
+          (λ unseen. settles.unseen (λ seen. unseen (before (Ok answer) ends seen)))
 
       pub answered_served : HoldsKnown state after new
       answered_served = ⊎_elim
           (λ observable.
           let tree = tree_seen observable in
-          let held : IsObservable (state new.pages.disk) → new.pages.is_spent ≡ false → StagesTreePages state next known.params new.pages = λ seen still.
+          let held : IsObservable (state new.pages.disk) → new.pages.is_spent ≡ false
+          → StagesTreePages state next known.params new.pages = λ seen still.
           let table_is = (steps (Ok answer) ends seen).goes in
-          record { stands = (steps (Ok answer) ends seen).image.stands; table_is = table_is; map_is = ends.none_staged seen still ∙ table_is } in
+          record {
+            stands = (steps (Ok answer) ends seen).image.stands;
+            table_is = table_is;
+            map_is = ends.none_staged seen still ∙ table_is;
+          } in
           at_tree next tree (in_image (Ok answer) ends next (fitting_to observable) held))
           (λ hidden.
           let unseen = λ (seen : IsObservable (state new.pages.disk)). false≢true (sym hidden ∙ seen) in
-          at_tree known.tree (settles.unseen unseen) (in_image (Ok answer) ends known.tree served.at.fitting (λ seen. absurd (unseen seen))))
+          at_tree known.tree (settles.unseen unseen)
+          (in_image (Ok answer) ends known.tree served.at.fitting (λ seen. absurd (unseen seen))))
           (cases_Bool (state new.pages.disk).is_observable)
         where
           at_tree : (t : Tree) → after.tree ≡ t → IsListAt state t known.params new → HoldsKnown state after new
           at_tree t is at = record {
-            at = subst (λ (p : Parameters). IsListAt state after.tree p new) (sym settles.params) (subst (λ (u : Tree). IsListAt state u known.params new) (sym is) at);
+            at = subst (λ (p : Parameters). IsListAt state after.tree p new) (sym settles.params)
+                (subst (λ (u : Tree). IsListAt state u known.params new) (sym is) at);
             observable = ap (λ (disk : D). (state disk).is_observable) (sym settles.settled);
           }
 
   -- it failed
-  module _ (fault : ApplyFault) (ends : EndsStep state known.tree next IsAnswer known.params old.pages new.pages (Err fault)) where
+  module _ (fault : ApplyFault)
+      (ends : EndsStep state known.tree next IsAnswer known.params old.pages new.pages (Err fault)) where
     pub failed_applies : StepsStore state next IsAnswer (store_of known old) (store_of known new) (Err fault)
     failed_applies = applies (Err fault) ends known refl (λ observable. tt) refl (λ unseen. refl)
 
@@ -173,37 +214,59 @@ module _ {D A : Type 0} (state : D → DiskState) (known : KnownState D) (old ne
       at = in_image (Err fault) ends known.tree served.at.fitting (λ observable still.
           let held = served.at.pages.held (before (Err fault) ends observable) runs in
           let table_is = (steps (Err fault) ends observable).stays still ∙ held.table_is in
-          record { stands = stood fault ends observable still held.stands; table_is = table_is; map_is = ends.none_staged observable still ∙ table_is });
+          record {
+            stands = stood fault ends observable still held.stands;
+            table_is = table_is;
+            map_is = ends.none_staged observable still ∙ table_is;
+          });
       observable = same_observable (Err fault) ends;
     }
       where
-        stood : (f : ApplyFault) → EndsStep state known.tree next IsAnswer known.params old.pages new.pages (Err f) → IsObservable (state new.pages.disk) → new.pages.is_spent ≡ false → Stands (state old.pages.disk) known.tree known.params → Stands (state new.pages.disk) known.tree known.params
-        stood apply.Disk e observable still stands = stands_reading (state old.pages.disk) (state new.pages.disk) known.tree known.params ((steps (Err apply.Disk) e observable).image.goes_on still refl) stands
-        stood apply.NoMemory e observable still stands = stands_reading (state old.pages.disk) (state new.pages.disk) known.tree known.params ((steps (Err apply.NoMemory) e observable).image.no_memory refl) stands
+        stood : (f : ApplyFault) → EndsStep state known.tree next IsAnswer known.params old.pages new.pages (Err f)
+            → IsObservable (state new.pages.disk) → new.pages.is_spent ≡ false
+            → Stands (state old.pages.disk) known.tree known.params
+            → Stands (state new.pages.disk) known.tree known.params
+        stood apply.Disk e observable still stands =
+            stands_reading (state old.pages.disk) (state new.pages.disk)
+            known.tree known.params ((steps (Err apply.Disk) e observable).image.goes_on still refl) stands
+        stood apply.NoMemory e observable still stands =
+            stands_reading (state old.pages.disk) (state new.pages.disk)
+            known.tree known.params ((steps (Err apply.NoMemory) e observable).image.no_memory refl) stands
         stood apply.Stopped e observable still stands = absurd (e.step.never refl)
 
 -- ---- a call
 
 -- a step was taken by the list of a store that is seen so
-pub record IsCarried {D A : Type 0} (state : D → DiskState) (next : Nexts) (IsAnswer : Answers A) (known : KnownState D) (old new : TreeList D) (now : StoreState D) (result : Result A ApplyFault) : Type 0 where
+pub record IsCarried {D A : Type 0} (state : D → DiskState) (next : Nexts) (IsAnswer : Answers A) (known : KnownState D)
+    (old new : TreeList D) (now : StoreState D) (result : Result A ApplyFault) : Type 0 where
   pub served : HoldsKnown state known old
   pub seen : store_of known old ≡ now
-  pub fits : IsObservable (state old.pages.disk) → (answer : A) → result ≡ Ok answer → IsFitting (next known.params known.tree) known.params
+  pub fits : IsObservable (state old.pages.disk) → (answer : A) → result ≡ Ok answer
+      → IsFitting (next known.params known.tree) known.params
   pub runs : old.pages.is_spent ≡ false
   pub goes : GoesOn state old new
-  pub ends : EndsStep state known.tree (next known.params known.tree) (IsAnswer known.params known.tree) known.params old.pages new.pages result
+  pub ends : EndsStep state known.tree (next known.params known.tree)
+      (IsAnswer known.params known.tree) known.params old.pages new.pages result
 
-pub carried : {D A : Type 0} (state : D → DiskState) (next : Nexts) (IsAnswer : Answers A) (known : KnownState D) (old new : TreeList D) (now : StoreState D) (result : Result A ApplyFault) (p : Parameters) (is_stopped : Bool) → HoldsKnown state known old → store_of known old ≡ now → is_stopped ≡ now.is_stopped → is_stopped ≡ false
-    → p ≡ known.params → GoesOn state old new → ((t : Tree) → IsListAt state t p old → EndsStep state t (next p t) (IsAnswer p t) p old.pages new.pages result)
-    → ((t : Tree) → IsListAt state t p old → IsObservable (state old.pages.disk) → (answer : A) → result ≡ Ok answer → IsFitting (next p t) p) → IsCarried state next IsAnswer known old new now result
-carried {D} {A} state next IsAnswer known old new now result p is_stopped served seen stopped_is runs params goes call fits = record {
-  served = served;
-  seen = seen;
-  fits = subst (λ (q : Parameters). (t : Tree) → IsListAt state t q old → IsObservable (state old.pages.disk) → (answer : A) → result ≡ Ok answer → IsFitting (next q t) q) params fits known.tree served.at;
-  runs = ap (λ (x : StoreState D). x.is_stopped) seen ∙ sym stopped_is ∙ runs;
-  goes = goes;
-  ends = subst (λ (q : Parameters). (t : Tree) → IsListAt state t q old → EndsStep state t (next q t) (IsAnswer q t) q old.pages new.pages result) params call known.tree served.at;
-}
+pub carried : {D A : Type 0} (state : D → DiskState) (next : Nexts) (IsAnswer : Answers A) (known : KnownState D)
+    (old new : TreeList D) (now : StoreState D) (result : Result A ApplyFault) (p : Parameters) (is_stopped : Bool)
+    → HoldsKnown state known old → store_of known old ≡ now → is_stopped ≡ now.is_stopped → is_stopped ≡ false
+    → p ≡ known.params → GoesOn state old new
+    → ((t : Tree) → IsListAt state t p old
+    → EndsStep state t (next p t) (IsAnswer p t) p old.pages new.pages result)
+    → ((t : Tree) → IsListAt state t p old → IsObservable (state old.pages.disk) → (answer : A) → result ≡ Ok answer
+    → IsFitting (next p t) p) → IsCarried state next IsAnswer known old new now result
+carried {D} {A} state next IsAnswer known old new now result p is_stopped served seen stopped_is runs params
+    goes call fits = record {
+      served = served;
+      seen = seen;
+      fits = subst (λ (q : Parameters). (t : Tree) → IsListAt state t q old → IsObservable (state old.pages.disk)
+          → (answer : A) → result ≡ Ok answer → IsFitting (next q t) q) params fits known.tree served.at;
+      runs = ap (λ (x : StoreState D). x.is_stopped) seen ∙ sym stopped_is ∙ runs;
+      goes = goes;
+      ends = subst (λ (q : Parameters). (t : Tree) → IsListAt state t q old
+          → EndsStep state t (next q t) (IsAnswer q t) q old.pages new.pages result) params call known.tree served.at;
+    }
 
 -- a value was put in its place where the call says so
 pub is_ok-in_place : {A E : Type 0} (value : A) (r : Result (Unit {0}) E) → is_ok r ≡ is_ok (in_place value r)
@@ -223,7 +286,9 @@ pub err_fault : {T E : Type 0} (r : Result T E) (b : Bool) → b ≡ is_ok r →
 err_fault (Ok value) b is fails = absurd (false≢true (sym fails ∙ is))
 err_fault (Err fault) b is fails = (fault, refl)
 
-module _ {D A : Type 0} (state : D → DiskState) (next : Nexts) (IsAnswer : Answers A) (known : KnownState D) (old new : TreeList D) (now : StoreState D) (result : Result A ApplyFault) (is : IsCarried state next IsAnswer known old new now result) (b : Bool) (tells : b ≡ is_ok result) where
+module _ {D A : Type 0} (state : D → DiskState) (next : Nexts) (IsAnswer : Answers A) (known : KnownState D)
+    (old new : TreeList D) (now : StoreState D) (result : Result A ApplyFault)
+    (is : IsCarried state next IsAnswer known old new now result) (b : Bool) (tells : b ≡ is_ok result) where
   -- it was answered, and the known tree goes on
   module _ (met : b ≡ true) (disk : D) (disk_is : disk ≡ new.pages.disk) where
     some : (answer : A) × (result ≡ Ok answer)
@@ -232,39 +297,55 @@ module _ {D A : Type 0} (state : D → DiskState) (next : Nexts) (IsAnswer : Ans
     fits : IsObservable (state old.pages.disk) → IsFitting (next known.params known.tree) known.params
     fits observable = is.fits observable some.0 some.1
 
-    ends_ok : EndsStep state known.tree (next known.params known.tree) (IsAnswer known.params known.tree) known.params old.pages new.pages (Ok some.0)
-    ends_ok = subst (λ (r : Result A ApplyFault). EndsStep state known.tree (next known.params known.tree) (IsAnswer known.params known.tree) known.params old.pages new.pages r) some.1 is.ends
+    ends_ok : EndsStep state known.tree (next known.params known.tree)
+        (IsAnswer known.params known.tree) known.params old.pages new.pages (Ok some.0)
+    ends_ok = subst (λ (r : Result A ApplyFault). EndsStep state known.tree (next known.params known.tree)
+        (IsAnswer known.params known.tree) known.params old.pages new.pages r) some.1 is.ends
 
     pub same_disk : (state disk).is_observable ≡ (state known.settled).is_observable
-    same_disk = ap (λ (x : D). (state x).is_observable) disk_is ∙ same_observable state known old new (next known.params known.tree) (IsAnswer known.params known.tree) is.served is.runs is.goes result is.ends
+    same_disk = ap (λ (x : D). (state x).is_observable) disk_is
+        ∙ same_observable state known old new (next known.params known.tree)
+        (IsAnswer known.params known.tree) is.served is.runs is.goes result is.ends
 
-    pub tree_there : IsObservable (state disk) → (t : Tree) × (IsFitting t known.params × ((state disk).bytes ≡ layout t known.params))
-    tree_there = subst (λ (x : D). IsObservable (state x) → (t : Tree) × (IsFitting t known.params × ((state x).bytes ≡ layout t known.params))) (sym disk_is) (stands_at state known old new (next known.params known.tree) (IsAnswer known.params known.tree) is.served is.runs is.goes some.0 fits ends_ok)
+    pub tree_there : IsObservable (state disk)
+        → (t : Tree) × (IsFitting t known.params × ((state disk).bytes ≡ layout t known.params))
+    tree_there = subst (λ (x : D). IsObservable (state x)
+        → (t : Tree) × (IsFitting t known.params × ((state x).bytes ≡ layout t known.params))) (sym disk_is)
+        (stands_at state known old new (next known.params known.tree)
+        (IsAnswer known.params known.tree) is.served is.runs is.goes some.0 fits ends_ok)
 
     module _ (after : KnownState D) (settles : MovesOn state disk known after) where
       here : MovesOn state new.pages.disk known after
       here = subst (λ (x : D). MovesOn state x known after) disk_is settles
 
       pub served_ok : HoldsKnown state after new
-      served_ok = answered_served state known old new (next known.params known.tree) (IsAnswer known.params known.tree) is.served is.runs is.goes some.0 fits ends_ok after here
+      served_ok = answered_served state known old new (next known.params known.tree)
+          (IsAnswer known.params known.tree) is.served is.runs is.goes some.0 fits ends_ok after here
 
       pub applies_ok : Goes state next IsAnswer now (store_of after new) result
       applies_ok =
           subst (λ (x : StoreState D). Goes state next IsAnswer x (store_of after new) result) is.seen
-          (subst (λ (r : Result A ApplyFault). Goes state next IsAnswer (store_of known old) (store_of after new) r) (sym some.1) (answered_applies state known old new (next known.params known.tree) (IsAnswer known.params known.tree) is.served is.runs is.goes some.0 fits ends_ok after here))
+          (subst (λ (r : Result A ApplyFault). Goes state next IsAnswer (store_of known old) (store_of after new) r)
+          (sym some.1) (answered_applies state known old new (next known.params known.tree)
+          (IsAnswer known.params known.tree) is.served is.runs is.goes some.0 fits ends_ok after here))
 
   -- it failed, and the known tree stays
   module _ (fails : b ≡ false) where
     why : (fault : ApplyFault) × (result ≡ Err fault)
     why = err_fault result b tells fails
 
-    ends_err : EndsStep state known.tree (next known.params known.tree) (IsAnswer known.params known.tree) known.params old.pages new.pages (Err why.0)
-    ends_err = subst (λ (r : Result A ApplyFault). EndsStep state known.tree (next known.params known.tree) (IsAnswer known.params known.tree) known.params old.pages new.pages r) why.1 is.ends
+    ends_err : EndsStep state known.tree (next known.params known.tree)
+        (IsAnswer known.params known.tree) known.params old.pages new.pages (Err why.0)
+    ends_err = subst (λ (r : Result A ApplyFault). EndsStep state known.tree (next known.params known.tree)
+        (IsAnswer known.params known.tree) known.params old.pages new.pages r) why.1 is.ends
 
     pub served_err : HoldsKnown state known new
-    served_err = failed_served state known old new (next known.params known.tree) (IsAnswer known.params known.tree) is.served is.runs is.goes why.0 ends_err
+    served_err = failed_served state known old new (next known.params known.tree)
+        (IsAnswer known.params known.tree) is.served is.runs is.goes why.0 ends_err
 
     pub applies_err : Goes state next IsAnswer now (store_of known new) result
     applies_err =
         subst (λ (x : StoreState D). Goes state next IsAnswer x (store_of known new) result) is.seen
-        (subst (λ (r : Result A ApplyFault). Goes state next IsAnswer (store_of known old) (store_of known new) r) (sym why.1) (failed_applies state known old new (next known.params known.tree) (IsAnswer known.params known.tree) is.served is.runs is.goes why.0 ends_err))
+        (subst (λ (r : Result A ApplyFault). Goes state next IsAnswer (store_of known old) (store_of known new) r)
+        (sym why.1) (failed_applies state known old new (next known.params known.tree)
+        (IsAnswer known.params known.tree) is.served is.runs is.goes why.0 ends_err))

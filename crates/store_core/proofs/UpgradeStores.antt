@@ -23,7 +23,8 @@ use Rattle.store_core.proofs.TreePages.{fitting_upgraded}
 use Rattle.store_core.proofs.Unchanged.{stands_reading, keeps_itself}
 
 -- a store that is stopped does nothing
-pub upgrade_stopped : {D : Type 0} (state : D → DiskState) (store : StoreState D) → store.is_stopped ≡ true → Upgrades state store store (Err apply.Stopped)
+pub upgrade_stopped : {D : Type 0} (state : D → DiskState) (store : StoreState D) → store.is_stopped ≡ true
+    → Upgrades state store store (Err apply.Stopped)
 upgrade_stopped state store is = record {
   params = tt;
   params_stay = refl;
@@ -41,7 +42,8 @@ one_or_two : {A : Type 0} (version : Version) → version ≡ One → version �
 one_or_two version one two = let e : One ≡ Two = sym one ∙ two in absurd (cc)
 
 -- nor one whose image is of version 2
-pub upgrade_idle : {D : Type 0} (state : D → DiskState) (store : StoreState D) → store.is_stopped ≡ false → store.params.version ≡ Two → Upgrades state store store (Ok tt)
+pub upgrade_idle : {D : Type 0} (state : D → DiskState) (store : StoreState D) → store.is_stopped ≡ false
+    → store.params.version ≡ Two → Upgrades state store store (Ok tt)
 upgrade_idle state store runs two = record {
   params = ap (λ (v : Version). with_version store.params v) two;
   params_stay = tt;
@@ -56,8 +58,11 @@ upgrade_idle state store runs two = record {
 }
 
 -- the list of a known tree under version 1 was upgraded
-module _ {D : Type 0} (state : D → DiskState) (known : KnownState D) (old new : TreeList D) (served : HoldsKnown state known old) (runs : old.pages.is_spent ≡ false) (one : known.params.version ≡ One) (goes : GoesOn state old new) where
-  module _ (result : Result (Unit {0}) ApplyFault) (ends : EndsUpgrade state known.tree known.params old.pages new.pages result) where
+module _ {D : Type 0} (state : D → DiskState) (known : KnownState D) (old new : TreeList D)
+    (served : HoldsKnown state known old) (runs : old.pages.is_spent ≡ false) (one : known.params.version ≡ One)
+    (goes : GoesOn state old new) where
+  module _ (result : Result (Unit {0}) ApplyFault)
+      (ends : EndsUpgrade state known.tree known.params old.pages new.pages result) where
     before : IsObservable (state new.pages.disk) → IsObservable (state old.pages.disk)
     before observable = sym ends.kept.observable ∙ observable
 
@@ -67,7 +72,9 @@ module _ {D : Type 0} (state : D → DiskState) (known : KnownState D) (old new 
     same_observable : (state new.pages.disk).is_observable ≡ (state known.settled).is_observable
     same_observable = ends.kept.observable ∙ served.observable
 
-    upgrades : (after : KnownState D) → OnOk result (after.params ≡ with_version known.params Two) → OnErr result (after.params ≡ known.params) → after.tree ≡ known.tree → Upgrades state (store_of known old) (store_of after new) result
+    upgrades : (after : KnownState D) → OnOk result (after.params ≡ with_version known.params Two)
+        → OnErr result (after.params ≡ known.params) → after.tree ≡ known.tree
+        → Upgrades state (store_of known old) (store_of after new) result
     upgrades after params params_stay tree = record {
       params = params;
       params_stay = params_stay;
@@ -83,7 +90,8 @@ module _ {D : Type 0} (state : D → DiskState) (known : KnownState D) (old new 
 
   -- it ended well
   module _ (ends : EndsUpgrade state known.tree known.params old.pages new.pages (Ok tt)) where
-    stands_upgraded : IsObservable (state new.pages.disk) → (state new.pages.disk).bytes ≡ layout known.tree (with_version known.params Two)
+    stands_upgraded : IsObservable (state new.pages.disk)
+        → (state new.pages.disk).bytes ≡ layout known.tree (with_version known.params Two)
     stands_upgraded observable = (steps (Ok tt) ends observable).image.stands.layout_is
 
     -- the known tree under version 2, over the disk as it is now
@@ -106,7 +114,11 @@ module _ {D : Type 0} (state : D → DiskState) (known : KnownState D) (old new 
               size_is = ends.kept.size ∙ pages.size_is;
               held = λ seen still.
                   let table_is = (steps (Ok tt) ends seen).goes in
-                  record { stands = (steps (Ok tt) ends seen).image.stands; table_is = table_is; map_is = ends.none_staged seen still ∙ table_is };
+                  record {
+                    stands = (steps (Ok tt) ends seen).image.stands;
+                    table_is = table_is;
+                    map_is = ends.none_staged seen still ∙ table_is;
+                  };
             };
             draw = ap any_draw goes.draw ∙ served.at.draw ∙ drawn;
             whole = goes.whole;
@@ -132,7 +144,11 @@ module _ {D : Type 0} (state : D → DiskState) (known : KnownState D) (old new 
               held = λ seen still.
                   let held = pages.held (before (Err fault) ends seen) runs in
                   let table_is = (steps (Err fault) ends seen).stays still ∙ held.table_is in
-                  record { stands = stood fault ends seen still held.stands; table_is = table_is; map_is = ends.none_staged seen still ∙ table_is };
+                  record {
+                    stands = stood fault ends seen still held.stands;
+                    table_is = table_is;
+                    map_is = ends.none_staged seen still ∙ table_is;
+                  };
             };
             draw = ap any_draw goes.draw ∙ served.at.draw;
             whole = goes.whole;
@@ -140,15 +156,23 @@ module _ {D : Type 0} (state : D → DiskState) (known : KnownState D) (old new 
           observable = same_observable (Err fault) ends;
         }
       where
-        stood : (f : ApplyFault) → EndsUpgrade state known.tree known.params old.pages new.pages (Err f) → IsObservable (state new.pages.disk) → new.pages.is_spent ≡ false → Stands (state old.pages.disk) known.tree known.params → Stands (state new.pages.disk) known.tree known.params
-        stood apply.Disk e seen still stands = stands_reading (state old.pages.disk) (state new.pages.disk) known.tree known.params ((steps (Err apply.Disk) e seen).image.goes_on still refl) stands
-        stood apply.NoMemory e seen still stands = stands_reading (state old.pages.disk) (state new.pages.disk) known.tree known.params ((steps (Err apply.NoMemory) e seen).image.no_memory refl) stands
+        stood : (f : ApplyFault) → EndsUpgrade state known.tree known.params old.pages new.pages (Err f)
+            → IsObservable (state new.pages.disk) → new.pages.is_spent ≡ false
+            → Stands (state old.pages.disk) known.tree known.params
+            → Stands (state new.pages.disk) known.tree known.params
+        stood apply.Disk e seen still stands =
+            stands_reading (state old.pages.disk) (state new.pages.disk)
+            known.tree known.params ((steps (Err apply.Disk) e seen).image.goes_on still refl) stands
+        stood apply.NoMemory e seen still stands =
+            stands_reading (state old.pages.disk) (state new.pages.disk)
+            known.tree known.params ((steps (Err apply.NoMemory) e seen).image.no_memory refl) stands
         stood apply.Stopped e seen still stands = absurd (e.never refl)
 
 -- ---- a call
 
 -- the list of a store that is seen so was upgraded
-pub record IsUpgraded {D : Type 0} (state : D → DiskState) (known : KnownState D) (old new : TreeList D) (now : StoreState D) (result : Result (Unit {0}) ApplyFault) : Type 0 where
+pub record IsUpgraded {D : Type 0} (state : D → DiskState) (known : KnownState D) (old new : TreeList D)
+    (now : StoreState D) (result : Result (Unit {0}) ApplyFault) : Type 0 where
   pub served : HoldsKnown state known old
   pub seen : store_of known old ≡ now
   pub runs : old.pages.is_spent ≡ false
@@ -156,8 +180,11 @@ pub record IsUpgraded {D : Type 0} (state : D → DiskState) (known : KnownState
   pub goes : GoesOn state old new
   pub ends : EndsUpgrade state known.tree known.params old.pages new.pages result
 
-pub upgraded_store : {D : Type 0} (state : D → DiskState) (known : KnownState D) (old new : TreeList D) (now : StoreState D) (result : Result (Unit {0}) ApplyFault) → HoldsKnown state known old → store_of known old ≡ now → now.is_stopped ≡ false → now.params.version ≡ One → GoesOn state old new
-    → ((t : Tree) (p : Parameters) → IsListAt state t p old → EndsUpgrade state t p old.pages new.pages result) → IsUpgraded state known old new now result
+pub upgraded_store : {D : Type 0} (state : D → DiskState) (known : KnownState D) (old new : TreeList D)
+    (now : StoreState D) (result : Result (Unit {0}) ApplyFault) → HoldsKnown state known old → store_of known old ≡ now
+    → now.is_stopped ≡ false → now.params.version ≡ One → GoesOn state old new
+    → ((t : Tree) (p : Parameters) → IsListAt state t p old → EndsUpgrade state t p old.pages new.pages result)
+    → IsUpgraded state known old new now result
 upgraded_store {D} state known old new now result served seen runs one goes call = record {
   served = served;
   seen = seen;
@@ -167,33 +194,55 @@ upgraded_store {D} state known old new now result served seen runs one goes call
   ends = call known.tree known.params served.at;
 }
 
-module _ {D : Type 0} (state : D → DiskState) (known : KnownState D) (old new : TreeList D) (now : StoreState D) (result : Result (Unit {0}) ApplyFault) (is : IsUpgraded state known old new now result) (b : Bool) (tells : b ≡ is_ok result) where
+module _ {D : Type 0} (state : D → DiskState) (known : KnownState D) (old new : TreeList D) (now : StoreState D)
+    (result : Result (Unit {0}) ApplyFault) (is : IsUpgraded state known old new now result) (b : Bool)
+    (tells : b ≡ is_ok result) where
   -- it ended well, and the known tree is one of version 2
   module _ (met : b ≡ true) (disk : D) (disk_is : disk ≡ new.pages.disk) where
     some : (value : Unit {0}) × (result ≡ Ok value)
     some = ok_value result b tells met
 
     ends_ok : EndsUpgrade state known.tree known.params old.pages new.pages (Ok tt)
-    ends_ok = subst (λ (r : Result (Unit {0}) ApplyFault). EndsUpgrade state known.tree known.params old.pages new.pages r) some.1 is.ends
+    ends_ok = subst (λ (r : Result (Unit {0}) ApplyFault).
+        EndsUpgrade state known.tree known.params old.pages new.pages r) some.1 is.ends
 
     pub upgraded_observable : (state disk).is_observable ≡ (state known.settled).is_observable
-    upgraded_observable = ap (λ (x : D). (state x).is_observable) disk_is ∙ same_observable state known old new is.served is.runs is.one is.goes result is.ends
+    upgraded_observable = ap (λ (x : D). (state x).is_observable) disk_is
+        ∙ same_observable state known old new is.served is.runs is.one is.goes result is.ends
 
-    pub upgraded_bytes : IsObservable (state disk) → (state disk).bytes ≡ layout known.tree (with_version known.params Two)
-    upgraded_bytes = subst (λ (x : D). IsObservable (state x) → (state x).bytes ≡ layout known.tree (with_version known.params Two)) (sym disk_is) (stands_upgraded state known old new is.served is.runs is.one is.goes ends_ok)
+    pub upgraded_bytes : IsObservable (state disk)
+        → (state disk).bytes ≡ layout known.tree (with_version known.params Two)
+    upgraded_bytes = subst (λ (x : D). IsObservable (state x)
+        → (state x).bytes ≡ layout known.tree (with_version known.params Two)) (sym disk_is)
+        (stands_upgraded state known old new is.served is.runs is.one is.goes ends_ok)
 
-    module _ (next : KnownState D) (next_is : next ≡ record { params = with_version known.params Two; tree = known.tree; settled = disk }) where
-      here : ◌≡◌ {A = KnownState D} (record { params = with_version known.params Two; tree = known.tree; settled = new.pages.disk }) next
-      here = sym (next_is ∙ ap (λ (x : D). record { params = with_version known.params Two; tree = known.tree; settled = x }) disk_is)
+    module _ (next : KnownState D) (next_is : next ≡ record {
+      params = with_version known.params Two;
+      tree = known.tree;
+      settled = disk;
+    }) where
+      here : ◌≡◌ {A = KnownState D} (record {
+        params = with_version known.params Two;
+        tree = known.tree;
+        settled = new.pages.disk;
+      }) next
+      here = sym (next_is ∙ ap (λ (x : D). record {
+        params = with_version known.params Two;
+        tree = known.tree;
+        settled = x;
+      }) disk_is)
 
       pub known_upgraded : HoldsKnown state next new
-      known_upgraded = subst (λ (k : KnownState D). HoldsKnown state k new) here (answered_known state known old new is.served is.runs is.one is.goes ends_ok)
+      known_upgraded = subst (λ (k : KnownState D). HoldsKnown state k new) here
+          (answered_known state known old new is.served is.runs is.one is.goes ends_ok)
 
       pub upgrades_ok : Upgrades state now (store_of next new) result
       upgrades_ok =
           subst (λ (x : StoreState D). Upgrades state x (store_of next new) result) is.seen
-          (subst (λ (r : Result (Unit {0}) ApplyFault). Upgrades state (store_of known old) (store_of next new) r) (sym some.1)
-          (subst (λ (k : KnownState D). Upgrades state (store_of known old) (store_of k new) (Ok tt)) here (answered_upgrades state known old new is.served is.runs is.one is.goes ends_ok)))
+          (subst (λ (r : Result (Unit {0}) ApplyFault). Upgrades state (store_of known old) (store_of next new) r)
+          (sym some.1)
+          (subst (λ (k : KnownState D). Upgrades state (store_of known old) (store_of k new) (Ok tt)) here
+          (answered_upgrades state known old new is.served is.runs is.one is.goes ends_ok)))
 
   -- it failed, and the known tree stays
   module _ (fails : b ≡ false) where
@@ -201,7 +250,8 @@ module _ {D : Type 0} (state : D → DiskState) (known : KnownState D) (old new 
     why = err_fault result b tells fails
 
     ends_err : EndsUpgrade state known.tree known.params old.pages new.pages (Err why.0)
-    ends_err = subst (λ (r : Result (Unit {0}) ApplyFault). EndsUpgrade state known.tree known.params old.pages new.pages r) why.1 is.ends
+    ends_err = subst (λ (r : Result (Unit {0}) ApplyFault).
+        EndsUpgrade state known.tree known.params old.pages new.pages r) why.1 is.ends
 
     pub known_stays : HoldsKnown state known new
     known_stays = failed_known state known old new is.served is.runs is.one is.goes why.0 ends_err
@@ -209,4 +259,5 @@ module _ {D : Type 0} (state : D → DiskState) (known : KnownState D) (old new 
     pub upgrades_err : Upgrades state now (store_of known new) result
     upgrades_err =
         subst (λ (x : StoreState D). Upgrades state x (store_of known new) result) is.seen
-        (subst (λ (r : Result (Unit {0}) ApplyFault). Upgrades state (store_of known old) (store_of known new) r) (sym why.1) (failed_upgrades state known old new is.served is.runs is.one is.goes why.0 ends_err))
+        (subst (λ (r : Result (Unit {0}) ApplyFault). Upgrades state (store_of known old) (store_of known new) r)
+        (sym why.1) (failed_upgrades state known old new is.served is.runs is.one is.goes why.0 ends_err))

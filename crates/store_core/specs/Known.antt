@@ -33,7 +33,8 @@ TellsTree disk p = (t : Tree) × IsKnownTree disk p t
 pub record MovesOn {D : Type 0} (state : D → DiskState) (disk : D) (old new : KnownState D) : Type 0 where
   pub params : new.params ≡ old.params
   pub settled : new.settled ≡ disk
-  pub seen : IsObservable (state disk) → (t : Tree) → IsFitting t old.params → (state disk).bytes ≡ layout t old.params → new.tree ≡ t
+  pub seen : IsObservable (state disk) → (t : Tree) → IsFitting t old.params
+      → (state disk).bytes ≡ layout t old.params → new.tree ≡ t
   pub unseen : (IsObservable (state disk) → ⊥) → new.tree ≡ old.tree
 
 -- ---- there is one such tree at most; it stands here since a ghost field is proved by it
@@ -51,7 +52,8 @@ IsKnownTree-prop disk p t = hlevel (props, IsTree-prop)
 pub one_known : (disk : DiskState) (p : Parameters) (t u : Tree) → IsKnownTree disk p t → IsKnownTree disk p u → t ≡ u
 one_known disk p t u a b =
     ⊎_elim
-    (λ seen. (layouts_tell t u p p a.fitting.in_range b.fitting.in_range a.fitting.tree b.fitting.tree a.fitting.fits b.fitting.fits (sym (a.seen seen) ∙ b.seen seen)).0)
+    (λ seen. (layouts_tell t u p p a.fitting.in_range b.fitting.in_range a.fitting.tree b.fitting.tree a.fitting.fits
+    b.fitting.fits (sym (a.seen seen) ∙ b.seen seen)).0)
     (λ hidden.
     let unseen : IsObservable disk → ⊥ = λ seen. false≢true (sym hidden ∙ seen) in
     a.unseen unseen ∙ sym (b.unseen unseen))
@@ -60,4 +62,5 @@ one_known disk p t u a b =
 pub TellsTree-prop : (disk : DiskState) (p : Parameters) → IsProp (TellsTree disk p)
 TellsTree-prop disk p x y =
     let same : x.0 ≡ y.0 = one_known disk p x.0 y.0 x.1 y.1 in
-    subst (λ (t : Tree). (h : IsKnownTree disk p t) → x ≡ (t, h)) same (λ h. ap (λ (g : IsKnownTree disk p x.0). (x.0, g)) (IsKnownTree-prop disk p x.0 x.1 h)) y.1
+    subst (λ (t : Tree). (h : IsKnownTree disk p t) → x ≡ (t, h)) same
+    (λ h. ap (λ (g : IsKnownTree disk p x.0). (x.0, g)) (IsKnownTree-prop disk p x.0 x.1 h)) y.1

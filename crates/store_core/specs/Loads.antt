@@ -13,7 +13,8 @@ use Rattle.store_core.specs.StoreState.{StoreState}
 use Rattle.store_core.specs.StoreCalls.{StepsStore}
 
 -- A store is asked for the first of its pairs whose key is not below this one. It stays as it is.
-abbrev pub TellsNextPair : {D : Type 0} → (D → DiskState) → List ℕ → StoreState D → StoreState D → Result (Option Pair) ApplyFault → Type 0
+abbrev pub TellsNextPair : {D : Type 0} → (D → DiskState) → List ℕ → StoreState D → StoreState D
+    → Result (Option Pair) ApplyFault → Type 0
 TellsNextPair state key old new result =
     StepsStore state old.tree (λ pair. pair ≡ next_pair key (pairs old.tree old.params)) old new result
 
@@ -27,6 +28,7 @@ IsLoadAnswer p t answers.Done = page_count t p ≤ p.slots
 IsLoadAnswer p t (answers.Full need slots) = (need ≡ page_count t p) × (slots ≡ p.slots) × (p.slots < page_count t p)
 
 -- An empty store is loaded with a tree.
-abbrev pub Loads : {D : Type 0} → (D → DiskState) → Tree → StoreState D → StoreState D → Result LoadAnswer ApplyFault → Type 0
+abbrev pub Loads : {D : Type 0} → (D → DiskState) → Tree → StoreState D → StoreState D
+    → Result LoadAnswer ApplyFault → Type 0
 Loads state t old new result =
     StepsStore state (loaded_tree old.params old.tree t) (IsLoadAnswer old.params t) old new result

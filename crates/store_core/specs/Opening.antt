@@ -40,15 +40,16 @@ pub record ChecksSynced (old new : DiskState) (result : Result Contents AttachFa
   pub not_image : IsErrOf result attach.NotImage → IsNoImage old
   pub damaged : IsErrOf result attach.Damaged → IsDamaged old
 
--- The tree that a store is opened with fits. An observable disk represents it, and the contents count its pages; of another disk
--- nothing is known, and it is the empty one.
+-- The tree that a store is opened with fits. An observable disk represents it, and the contents count its pages; of
+-- another disk nothing is known, and it is the empty one.
 pub record OpensWith (disk : DiskState) (contents : Contents) (t : Tree) : Type 0 where
   pub fitting : IsFitting t contents.params
   pub represents : IsObservable disk → Represents disk.bytes t contents.params
   pub used_is : IsObservable disk → contents.used ≡ page_count t contents.params
   pub unseen : (IsObservable disk → ⊥) → t ≡ empty_tree
 
--- The disk is as long as the image of the tree, which fits. An observable one stands at it, and the contents count its pages.
+-- The disk is as long as the image of the tree, which fits. An observable one stands at it, and the contents count
+-- its pages.
 pub record IsOpenAt (disk : DiskState) (contents : Contents) (t : Tree) : Type 0 where
   pub fitting : IsFitting t contents.params
   pub size_is : disk.size ≡ image_len contents.params.slots

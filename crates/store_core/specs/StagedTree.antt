@@ -16,14 +16,16 @@ use Rattle.page_store.specs.StagedState.{StagedState, IsTold, Follows, without_c
 use Rattle.image_check.specs.Standing.{IsFitting, Stands}
 
 -- The disk stands at the tree, the pages in its table are the tree's, and nothing else is staged.
-pub record StagesTreePages {D : Type 0} (state : D → DiskState) (t : Tree) (p : Parameters) (s : StagedState D AnyDraw) : Type 0 where
+pub record StagesTreePages {D : Type 0} (state : D → DiskState) (t : Tree) (p : Parameters)
+    (s : StagedState D AnyDraw) : Type 0 where
   pub stands : Stands (state s.disk) t p
   pub table_is : s.table ≡ map_of_pages (pages t p)
   pub map_is : s.map ≡ map_of_pages (pages t p)
 
 -- Staged pages in an image of these parameters; over an observable disk, and while they are not spent, they are the
 -- tree's.
-pub record AreAt {D : Type 0} (state : D → DiskState) (t : Tree) (p : Parameters) (s : StagedState D AnyDraw) : Type 0 where
+pub record AreAt {D : Type 0} (state : D → DiskState) (t : Tree) (p : Parameters)
+    (s : StagedState D AnyDraw) : Type 0 where
   pub params : s.params ≡ p
   pub draw : any_draw s.draw ≡ draw_of p
   pub size_is : (state s.disk).size ≡ image_len p.slots
@@ -31,7 +33,8 @@ pub record AreAt {D : Type 0} (state : D → DiskState) (t : Tree) (p : Paramete
 
 -- Over an observable disk that stands at the tree, with the tree's pages in its table, the pages of the next one are
 -- staged, which fits where the slots have room for them.
-pub record IsStagedFor {D : Type 0} (state : D → DiskState) (t next : Tree) (p : Parameters) (s : StagedState D AnyDraw) : Type 0 where
+pub record IsStagedFor {D : Type 0} (state : D → DiskState) (t next : Tree) (p : Parameters)
+    (s : StagedState D AnyDraw) : Type 0 where
   pub fitting : IsFitting t p
   pub tree : IsTree next
   pub params : s.params ≡ p
@@ -42,9 +45,10 @@ pub record IsStagedFor {D : Type 0} (state : D → DiskState) (t next : Tree) (p
   pub fits : IsObservable (state s.disk) → page_count next p ≤ p.slots → Fits next p
   pub holds : IsObservable (state s.disk) → HoldsPairs (draw_of p) (pairs next p) s.map
 
--- Over an observable disk that stands at the tree, with the tree's pages in its table, those that it has under version 2
--- are staged.
-pub record IsUpgradeStaged {D : Type 0} (state : D → DiskState) (t : Tree) (p : Parameters) (s : StagedState D AnyDraw) : Type 0 where
+-- Over an observable disk that stands at the tree, with the tree's pages in its table, those that it has under
+-- version 2 are staged.
+pub record IsUpgradeStaged {D : Type 0} (state : D → DiskState) (t : Tree) (p : Parameters)
+    (s : StagedState D AnyDraw) : Type 0 where
   pub fitting : IsFitting t p
   pub params : s.params ≡ p
   pub draw : any_draw s.draw ≡ draw_of p
@@ -67,7 +71,8 @@ pub record IsListAt {D : Type 0} (state : D → DiskState) (t : Tree) (p : Param
 
 -- A list of a tree, which fits, and whose pages are staged over those of another one in the table; where its disk tells
 -- its bytes, it is whole.
-pub record IsListFor {D : Type 0} (state : D → DiskState) (t next : Tree) (p : Parameters) (list : TreeList D) : Type 0 where
+pub record IsListFor {D : Type 0} (state : D → DiskState) (t next : Tree) (p : Parameters)
+    (list : TreeList D) : Type 0 where
   pub fitting : IsFitting next p
   pub staged : IsStagedFor state t next p list.pages
   pub draw : any_draw list.draw ≡ draw_of p
@@ -84,4 +89,5 @@ pub record GoesOn {D : Type 0} (state : D → DiskState) (old new : TreeList D) 
 
 -- with what is staged taken back, the pages hold a list under the draw
 abbrev pub HoldsTable : {D : Type 0} → (D → DiskState) → TreeList D → Type 0
-HoldsTable state list = IsTold state (without_changes list.pages) → (s : List Pair) × HoldsPairs (any_draw list.draw) s list.pages.table
+HoldsTable state list = IsTold state (without_changes list.pages)
+    → (s : List Pair) × HoldsPairs (any_draw list.draw) s list.pages.table

@@ -23,14 +23,17 @@ counted_answer need slots = if nat_lt slots need then Err (refusals.Full need sl
 
 -- A change of the tree that the list holds is staged. It is answered as its step; where it is carried out, the list is
 -- that of the step's tree.
-pub record StagesChange {D : Type 0} (state : D → DiskState) (t now : Tree) (p : Parameters) (change : Command) (old new : TreeList D) (result : Result (Result (Unit {0}) Refusal) Fault) : Type 0 where
+pub record StagesChange {D : Type 0} (state : D → DiskState) (t now : Tree) (p : Parameters) (change : Command)
+    (old new : TreeList D) (result : Result (Result (Unit {0}) Refusal) Fault) : Type 0 where
   pub faults : (state new.pages.disk).faults ≡ disk_faults_after (state old.pages.disk).faults result
-  pub answer : IsObservable (state old.pages.disk) → IfOk result (λ answer. reply_seen (λ _. Acknowledged) answer ≡ (step now change p).reply)
+  pub answer : IsObservable (state old.pages.disk)
+      → IfOk result (λ answer. reply_seen (λ _. Acknowledged) answer ≡ (step now change p).reply)
   pub goes : IfOk result (λ answer. OnOk answer (IsListFor state t (step now change p).tree p new))
 
 -- Changes of a tree are staged one after another. They are answered as a group is; where all are carried out, the list
 -- is that of the tree after them.
-pub record StagesAll {D : Type 0} (state : D → DiskState) (t : Tree) (p : Parameters) (changes : List Command) (old new : TreeList D) (result : Result GroupAnswer Fault) : Type 0 where
+pub record StagesAll {D : Type 0} (state : D → DiskState) (t : Tree) (p : Parameters) (changes : List Command)
+    (old new : TreeList D) (result : Result GroupAnswer Fault) : Type 0 where
   pub faults : (state new.pages.disk).faults ≡ disk_faults_after (state old.pages.disk).faults result
   pub answer : IsObservable (state old.pages.disk) → IfOk result (IsGroupAnswer p t changes)
   pub goes : result ≡ Ok answers.Done → IsListFor state t (tree_by (step_under p) t changes) p new

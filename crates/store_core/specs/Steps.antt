@@ -37,7 +37,8 @@ settle_cause causes.Disk = apply.Disk
 settle_cause causes.NoMemory = apply.NoMemory
 
 -- what a step does over an observable disk that stands at the tree
-pub record StepsPages {D A : Type 0} (state : D → DiskState) (t next : Tree) (IsAnswer : A → Type 0) (p : Parameters) (old new : StagedState D AnyDraw) (result : Result A ApplyFault) : Type 0 where
+pub record StepsPages {D A : Type 0} (state : D → DiskState) (t next : Tree) (IsAnswer : A → Type 0) (p : Parameters)
+    (old new : StagedState D AnyDraw) (result : Result A ApplyFault) : Type 0 where
   pub answer : IfOk result IsAnswer
   pub image : ChangesImage t next p (state old.disk) (state new.disk) new.is_spent result
   -- the pages in the table are then those of the next tree, and after a fault those that they were
@@ -46,7 +47,8 @@ pub record StepsPages {D A : Type 0} (state : D → DiskState) (t next : Tree) (
 
 -- Staged pages of a tree go on to those of the next one, and are spent only by a fault of the disk. A command is such a
 -- step, and so is a group of changes.
-pub record TakesStep {D A : Type 0} (state : D → DiskState) (t next : Tree) (IsAnswer : A → Type 0) (p : Parameters) (old new : StagedState D AnyDraw) (result : Result A ApplyFault) : Type 0 where
+pub record TakesStep {D A : Type 0} (state : D → DiskState) (t next : Tree) (IsAnswer : A → Type 0) (p : Parameters)
+    (old new : StagedState D AnyDraw) (result : Result A ApplyFault) : Type 0 where
   pub params : new.params ≡ old.params
   pub draw : new.draw ≡ old.draw
   pub kept : KeepsDisk (state old.disk) (state new.disk)
@@ -56,7 +58,8 @@ pub record TakesStep {D A : Type 0} (state : D → DiskState) (t next : Tree) (I
   pub observed : IsObservable (state old.disk) → StepsPages state t next IsAnswer p old new result
 
 -- a step behind which nothing is staged
-pub record EndsStep {D A : Type 0} (state : D → DiskState) (t next : Tree) (IsAnswer : A → Type 0) (p : Parameters) (old new : StagedState D AnyDraw) (result : Result A ApplyFault) : Type 0 where
+pub record EndsStep {D A : Type 0} (state : D → DiskState) (t next : Tree) (IsAnswer : A → Type 0) (p : Parameters)
+    (old new : StagedState D AnyDraw) (result : Result A ApplyFault) : Type 0 where
   pub step : TakesStep state t next IsAnswer p old new result
   pub none_staged : IsObservable (state new.disk) → new.is_spent ≡ false → new.map ≡ new.table
 
@@ -65,13 +68,15 @@ abbrev pub IsReplyTo : Step → Reply → Type 0
 IsReplyTo to reply = reply_of reply ≡ to.reply
 
 -- a command takes its step, and nothing is staged behind it
-abbrev pub EndsCommand : {D : Type 0} → (D → DiskState) → Tree → Step → Parameters → StagedState D AnyDraw → StagedState D AnyDraw → Result Reply ApplyFault → Type 0
+abbrev pub EndsCommand : {D : Type 0} → (D → DiskState) → Tree → Step → Parameters → StagedState D AnyDraw
+    → StagedState D AnyDraw → Result Reply ApplyFault → Type 0
 EndsCommand state t to p old new result = EndsStep state t to.tree (IsReplyTo to) p old new result
 
 -- ---- an upgrade
 
 -- what an upgrade does over an observable disk that stands at the tree
-pub record UpgradesPages {D : Type 0} (state : D → DiskState) (t : Tree) (p : Parameters) (old new : StagedState D AnyDraw) (result : Result (Unit {0}) ApplyFault) : Type 0 where
+pub record UpgradesPages {D : Type 0} (state : D → DiskState) (t : Tree) (p : Parameters)
+    (old new : StagedState D AnyDraw) (result : Result (Unit {0}) ApplyFault) : Type 0 where
   pub image : UpgradesImage t p (state old.disk) (state new.disk) new.is_spent result
   -- the pages in the table are then those of the tree under version 2, and after a fault those that they were
   pub goes : OnOk result (new.table ≡ map_of_pages (pages t (with_version p Two)))
@@ -79,7 +84,8 @@ pub record UpgradesPages {D : Type 0} (state : D → DiskState) (t : Tree) (p : 
 
 -- Staged pages of a tree become those that it has under version 2, and are spent only by a fault of the disk. Behind it
 -- nothing is staged.
-pub record EndsUpgrade {D : Type 0} (state : D → DiskState) (t : Tree) (p : Parameters) (old new : StagedState D AnyDraw) (result : Result (Unit {0}) ApplyFault) : Type 0 where
+pub record EndsUpgrade {D : Type 0} (state : D → DiskState) (t : Tree) (p : Parameters)
+    (old new : StagedState D AnyDraw) (result : Result (Unit {0}) ApplyFault) : Type 0 where
   pub params : new.params ≡ params_after Upgrade old.params result
   pub draw : new.draw ≡ old.draw
   pub kept : KeepsDisk (state old.disk) (state new.disk)

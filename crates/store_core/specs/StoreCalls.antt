@@ -1,5 +1,6 @@
 -- What the calls of a store do.
-use Rattle.std.specs.Prelude.{◌≡◌, ◌↔◌, ◌⊎◌, Bool, true, false, List, Result, Ok, Err, IfOk, IfErr, OnOk, OnErr, IsErrOf}
+use Rattle.std.specs.Prelude.{◌≡◌, ◌↔◌, ◌⊎◌, Bool, true, false, List, Result, Ok, Err, IfOk, IfErr, OnOk, OnErr}
+use Rattle.std.specs.Prelude.{IsErrOf}
 use Rattle.store_model.specs.declared.version.Version.TheVariants.{One, Two}
 use Rattle.store_model.specs.Parameters.{Parameters, with_version}
 use Rattle.store_model.specs.Trees.{Tree}
@@ -52,7 +53,8 @@ pub record IsAttached {D : Type 0} (state : D → DiskState) (old : DiskState) (
 
 -- No store was had of an image that represents a tree: it does so still, and so does each image that a crash leaves
 -- which one before the call might not have left. No more writes and syncs were made than opening it takes.
-pub record KeepsImage (t : Tree) (p : Parameters) (old : DiskState) (fault : AttachFault) (new : DiskState) : Type 0 where
+pub record KeepsImage (t : Tree) (p : Parameters) (old : DiskState) (fault : AttachFault)
+    (new : DiskState) : Type 0 where
   pub not_image : fault ≡ attach.NotImage → ⊥
   pub damaged : fault ≡ attach.Damaged → ⊥
   pub represents : Represents new.bytes t p
@@ -75,18 +77,22 @@ pub record IsRefused (old : DiskState) (fault : AttachFault) (new : DiskState) :
   -- and the image was looked at behind just one sync, where that told the reason
   pub looked : IsObservable old → (fault ≡ attach.NotImage) ⊎ (fault ≡ attach.Damaged) → Made 0 1 old new
   -- an image that represents a tree keeps it, and one that represents none is left as it was, whatever the fault
-  pub represented : IsObservable old → (t : Tree) (p : Parameters) → Represents old.bytes t p → KeepsImage t p old fault new
-  pub unrepresented : IsObservable old → ((t : Tree) (p : Parameters) → Represents old.bytes t p → ⊥) → LeavesImage old new
+  pub represented : IsObservable old → (t : Tree) (p : Parameters) → Represents old.bytes t p
+      → KeepsImage t p old fault new
+  pub unrepresented : IsObservable old → ((t : Tree) (p : Parameters) → Represents old.bytes t p → ⊥)
+      → LeavesImage old new
 
 -- A disk is taken as a store, or handed back with the reason why not.
-pub record Attaches {D : Type 0} (state : D → DiskState) (old : DiskState) (result : Result (StoreState D) (AttachFault × D)) : Type 0 where
+pub record Attaches {D : Type 0} (state : D → DiskState) (old : DiskState)
+    (result : Result (StoreState D) (AttachFault × D)) : Type 0 where
   pub attached : IfOk result (IsAttached state old)
   pub refused : IfErr result (λ refused. IsRefused old refused.0 (state refused.1))
 
 -- ---- a step
 
 -- What carrying out a step does to an observable disk that stands at a tree, where the step leads to the next one.
-pub record ChangesImage {T : Type 0} (t next : Tree) (p : Parameters) (old new : DiskState) (is_stopped : Bool) (result : Result T ApplyFault) : Type 0 where
+pub record ChangesImage {T : Type 0} (t next : Tree) (p : Parameters) (old new : DiskState) (is_stopped : Bool)
+    (result : Result T ApplyFault) : Type 0 where
   pub stands : OnOk result (Stands new next p)
   -- a crash at any moment of the call leaves an image of the one tree or of the other, and the disk reads one
   pub crash : LeavesOnly old new (λ image. Represents image t p ⊎ Represents image next p)
@@ -101,9 +107,10 @@ pub record ChangesImage {T : Type 0} (t next : Tree) (p : Parameters) (old new :
   pub stops : is_stopped ≡ true → IsErrOf result apply.Disk × (Rose old.writes new.writes ⊎ Rose old.syncs new.syncs)
   pub goes_on : is_stopped ≡ false → IsErrOf result apply.Disk → ReadsOnly old new
 
--- A store takes a step: from its tree it goes on to the next one and answers as is meant, or it fails. A command is such a
--- step, and so is a group of changes.
-pub record StepsStore {D A : Type 0} (state : D → DiskState) (next : Tree) (IsAnswer : A → Type 0) (old new : StoreState D) (result : Result A ApplyFault) : Type 0 where
+-- A store takes a step: from its tree it goes on to the next one and answers as is meant, or it fails. A command is
+-- such a step, and so is a group of changes.
+pub record StepsStore {D A : Type 0} (state : D → DiskState) (next : Tree) (IsAnswer : A → Type 0)
+    (old new : StoreState D) (result : Result A ApplyFault) : Type 0 where
   pub params : new.params ≡ old.params
   pub kept : KeepsDisk (state old.disk) (state new.disk)
   pub faults : (state new.disk).faults ≡ apply_faults_after (state old.disk).faults result
@@ -122,21 +129,26 @@ pub record StepsStore {D A : Type 0} (state : D → DiskState) (next : Tree) (Is
       → ChangesImage old.tree next old.params (state old.disk) (state new.disk) new.is_stopped result
 
 -- A store carries out a command, as the definitions' step does.
-abbrev pub Applies : {D : Type 0} → (D → DiskState) → Command → StoreState D → StoreState D → Result Reply ApplyFault → Type 0
+abbrev pub Applies : {D : Type 0} → (D → DiskState) → Command → StoreState D → StoreState D
+    → Result Reply ApplyFault → Type 0
 Applies state command old new result =
-    StepsStore state (step old.tree command old.params).tree (λ reply. reply_of reply ≡ (step old.tree command old.params).reply) old new result
+    StepsStore state (step old.tree command old.params).tree (λ reply. reply_of reply
+    ≡ (step old.tree command old.params).reply) old new result
 
 -- A store carries out a group of changes, one after another and together, or none of them.
-abbrev pub AppliesAll : {D : Type 0} → (D → DiskState) → List Command → StoreState D → StoreState D → Result GroupAnswer ApplyFault → Type 0
+abbrev pub AppliesAll : {D : Type 0} → (D → DiskState) → List Command → StoreState D → StoreState D
+    → Result GroupAnswer ApplyFault → Type 0
 AppliesAll state changes old new result =
     StepsStore state (group_tree old.params old.tree changes) (IsGroupAnswer old.params old.tree changes) old new result
 
 -- ---- upgrade
 
 -- What an upgrade does to an observable disk that stands at a tree under these parameters, which are of version 1.
-pub record UpgradesImage {T : Type 0} (t : Tree) (p : Parameters) (old new : DiskState) (is_stopped : Bool) (result : Result T ApplyFault) : Type 0 where
+pub record UpgradesImage {T : Type 0} (t : Tree) (p : Parameters) (old new : DiskState) (is_stopped : Bool)
+    (result : Result T ApplyFault) : Type 0 where
   pub stands : OnOk result (Stands new t (with_version p Two))
-  -- a crash at any moment of the call leaves an image of the tree under the one version or the other, and the disk reads one
+  -- a crash at any moment of the call leaves an image of the tree under the one version or the other, and the disk
+  -- reads one
   pub crash : LeavesOnly old new (λ image. Represents image t p ⊎ Represents image t (with_version p Two))
   pub reads : Represents new.bytes t p ⊎ Represents new.bytes t (with_version p Two)
   -- where memory ran out, the disk was read at most
@@ -149,7 +161,8 @@ pub record UpgradesImage {T : Type 0} (t : Tree) (p : Parameters) (old new : Dis
   pub goes_on : is_stopped ≡ false → IsErrOf result apply.Disk → ReadsOnly old new
 
 -- A store makes its image one of version 2 that holds the same tree.
-pub record Upgrades {D : Type 0} (state : D → DiskState) (old new : StoreState D) (result : Result (Unit {0}) ApplyFault) : Type 0 where
+pub record Upgrades {D : Type 0} (state : D → DiskState) (old new : StoreState D)
+    (result : Result (Unit {0}) ApplyFault) : Type 0 where
   -- after Ok the parameters have version 2, and after a fault they are those of before
   pub params : OnOk result (new.params ≡ with_version old.params Two)
   pub params_stay : OnErr result (new.params ≡ old.params)

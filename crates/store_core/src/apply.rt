@@ -32,7 +32,8 @@ impl<D: Disk> Store<D> {
     /// Carries out a command, as `apply`, and puts its reply in the place of another: a reply is large, and whoever
     /// carries out one command after another has one place for them all. After a fault some reply stands there.
     pub fn apply_into(&mut self, command: &Command, reply: &mut Reply) -> Result<(), ApplyFault>
-        ensures call { Applies D.state (command_of command.now) self.old self.new (in_place reply.new result) }
+        ensures call { Applies D.state (command_of command.now)
+            self.old self.new (in_place reply.new result) }
     {
         if self.is_stopped() {
             return Err(ApplyFault::Stopped);

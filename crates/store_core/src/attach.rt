@@ -57,7 +57,12 @@ impl<D: Disk> Store<D> {
     fn open(alloc: Global, disk: D, contents: Contents, cache: SlotCache) -> Self
         requires stands { IsOpenTo (D.state disk) contents }
         requires empty { cache ≡ [] }
-        ensures { (t : Tree) → IsOpenAt (D.state disk) contents t → result ≡ record { params = contents.params; tree = t; disk = disk; is_stopped = false } }
+        ensures { (t : Tree) → IsOpenAt (D.state disk) contents t → result ≡ record {
+          params = contents.params;
+          tree = t;
+          disk = disk;
+          is_stopped = false;
+        } }
     {
         let params = contents.params;
         let known = KnownTree::new(params, &disk);

@@ -53,7 +53,9 @@ pub fn carry_out<D: Disk>(
     requires command { IsCommand (command_of command.now) }
     requires runs { pairs.old.pages.is_spent ≡ false }
     requires list { (t : Tree) × IsListAt D.state t params.now pairs.old }
-    ensures call { (t : Tree) → IsListAt D.state t params.now pairs.old → EndsCommand D.state t (step t (command_of command.now) params.now) params.now pairs.old.pages pairs.new.pages (in_place reply.new result) }
+    ensures call { (t : Tree) → IsListAt D.state t params.now pairs.old
+        → EndsCommand D.state t (step t (command_of command.now) params.now)
+        params.now pairs.old.pages pairs.new.pages (in_place reply.new result) }
     ensures list { GoesOn D.state pairs.old pairs.new }
 {
     if lacks_version(command, params) {
@@ -84,7 +86,9 @@ pub fn lacks_version(command: &Command, params: &Params) -> bool
 #[inline(never)]
 fn tell_space<D: Disk>(staged: &TreePages<D>, params: &Params, reply: &mut Reply)
     requires runs { staged.now.is_spent ≡ false }
-    ensures { IsObservable (D.state staged.now.disk) → (t : Tree) → IsFitting t params.now → AreAt D.state t params.now staged.now → reply_of reply.new ≡ (step t Space params.now).reply }
+    ensures { IsObservable (D.state staged.now.disk) → (t : Tree) → IsFitting t params.now
+        → AreAt D.state t params.now staged.now
+        → reply_of reply.new ≡ (step t Space params.now).reply }
 {
     *reply = Reply::Space {
         used: staged.used(),
@@ -96,7 +100,9 @@ fn tell_space<D: Disk>(staged: &TreePages<D>, params: &Params, reply: &mut Reply
 #[inline(never)]
 fn tell_digest<D: Disk>(staged: &mut TreePages<D>, reply: &mut Reply) -> Result<(), ApplyFault>
     requires runs { staged.old.is_spent ≡ false }
-    ensures call { (t : Tree) (p : Parameters) → IsFitting t p → AreAt D.state t p staged.old → EndsCommand D.state t (step t Digest p) p staged.old staged.new (in_place reply.new result) }
+    ensures call { (t : Tree) (p : Parameters) → IsFitting t p → AreAt D.state t p staged.old
+        → EndsCommand D.state t (step t Digest p) p
+        staged.old staged.new (in_place reply.new result) }
     ensures map { IsObservable (D.state staged.old.disk) → staged.new.map ≡ staged.old.map }
     ensures follows { Follows D.state staged.old staged.new }
 {
@@ -116,8 +122,10 @@ fn carry_out_look<D: Disk>(
     requires command { IsCommand (command_of command.now) }
     requires runs { pairs.old.pages.is_spent ≡ false }
     requires list { (t : Tree) × ((p : Parameters) × IsListAt D.state t p pairs.old) }
-    ensures call { (t : Tree) (p : Parameters) → steps.lacks_version (command_of command.now) p ≡ false → IsListAt D.state t p pairs.old
-        → EndsCommand D.state t (step t (command_of command.now) p) p pairs.old.pages pairs.new.pages (in_place reply.new result) }
+    ensures call { (t : Tree) (p : Parameters)
+        → steps.lacks_version (command_of command.now) p ≡ false → IsListAt D.state t p pairs.old
+        → EndsCommand D.state t (step t (command_of command.now) p) p
+        pairs.old.pages pairs.new.pages (in_place reply.new result) }
     ensures list { GoesOn D.state pairs.old pairs.new }
 {
     match answer(alloc, pairs, command, reply) {
@@ -144,7 +152,9 @@ fn carry_out_change<D: Disk>(
     requires command { IsCommand (command_of command.now) }
     requires runs { pairs.old.pages.is_spent ≡ false }
     requires list { (t : Tree) × IsListAt D.state t params.now pairs.old }
-    ensures call { (t : Tree) → IsListAt D.state t params.now pairs.old → EndsCommand D.state t (step t (command_of command.now) params.now) params.now pairs.old.pages pairs.new.pages (change_reply result) }
+    ensures call { (t : Tree) → IsListAt D.state t params.now pairs.old
+        → EndsCommand D.state t (step t (command_of command.now) params.now)
+        params.now pairs.old.pages pairs.new.pages (change_reply result) }
     ensures list { GoesOn D.state pairs.old pairs.new }
 {
     match change(pairs, params.version(), command) {
@@ -165,8 +175,13 @@ fn carry_out_change<D: Disk>(
 fn end_change<D: Disk>(pairs: &mut TreeList<D>) -> Result<Answer<()>, ApplyFault>
     requires runs { pairs.old.pages.is_spent ≡ false }
     requires whole { IsObservable (D.state pairs.old.pages.disk) → pairs.old.is_whole ≡ true }
-    requires staged { (t : Tree) × ((next : Tree) × ((p : Parameters) × (IsStagedFor D.state t next p pairs.old.pages × (any_draw pairs.old.draw ≡ draw_of p)))) }
-    ensures call { (t next : Tree) (p : Parameters) → IsStagedFor D.state t next p pairs.old.pages → EndsCommand D.state t (counted_step t next p) p pairs.old.pages pairs.new.pages (change_reply result) }
+    requires staged { (t : Tree)
+        × ((next : Tree)
+        × ((p : Parameters)
+        × (IsStagedFor D.state t next p pairs.old.pages × (any_draw pairs.old.draw ≡ draw_of p)))) }
+    ensures call { (t next : Tree) (p : Parameters) → IsStagedFor D.state t next p pairs.old.pages
+        → EndsCommand D.state t (counted_step t next p) p
+        pairs.old.pages pairs.new.pages (change_reply result) }
     ensures list { GoesOn D.state pairs.old pairs.new }
 {
     match pairs.pages.settle() {

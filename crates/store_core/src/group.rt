@@ -78,8 +78,12 @@ fn carry_out_all<D: Disk>(
     requires runs { pairs.old.pages.is_spent ≡ false }
     requires list { (t : Tree) × IsListAt D.state t params.now pairs.old }
     ensures call { (t : Tree) → IsListAt D.state t params.now pairs.old
-        → EndsStep D.state t (group_tree params.now t (map change_of changes.now)) (IsGroupAnswer params.now t (map change_of changes.now)) params.now pairs.old.pages pairs.new.pages result }
-    ensures fits { (t : Tree) → IsListAt D.state t params.now pairs.old → IsObservable (D.state pairs.old.pages.disk) → OnOk result (IsFitting (group_tree params.now t (map change_of changes.now)) params.now) }
+        → EndsStep D.state t (group_tree params.now t (map change_of changes.now))
+        (IsGroupAnswer params.now t (map change_of changes.now))
+        params.now pairs.old.pages pairs.new.pages result }
+    ensures fits { (t : Tree) → IsListAt D.state t params.now pairs.old
+        → IsObservable (D.state pairs.old.pages.disk)
+        → OnOk result (IsFitting (group_tree params.now t (map change_of changes.now)) params.now) }
     ensures list { GoesOn D.state pairs.old pairs.new }
 {
     match stage_all(pairs, params, changes) {
@@ -105,7 +109,8 @@ fn stage_all<D: Disk>(
     requires few { length changes.now < 2 ^ 32 }
     requires runs { pairs.old.pages.is_spent ≡ false }
     requires list { (t : Tree) × IsListFor D.state t t params.now pairs.old }
-    ensures call { (t : Tree) → IsListFor D.state t t params.now pairs.old → StagesAll D.state t params.now (map change_of changes.now) pairs.old pairs.new result }
+    ensures call { (t : Tree) → IsListFor D.state t t params.now pairs.old
+        → StagesAll D.state t params.now (map change_of changes.now) pairs.old pairs.new result }
     ensures follows { FollowsList D.state pairs.old pairs.new }
 {
     for (index, change) in changes.iter().enumerate() {
@@ -130,7 +135,9 @@ fn stage_change<D: Disk>(
     requires change { is_change (command_of command.now) ≡ true }
     requires runs { pairs.old.pages.is_spent ≡ false }
     requires list { (t : Tree) × ((now : Tree) × IsListFor D.state t now params.now pairs.old) }
-    ensures call { (t now : Tree) → IsListFor D.state t now params.now pairs.old → StagesChange D.state t now params.now (command_of command.now) pairs.old pairs.new result }
+    ensures call { (t now : Tree) → IsListFor D.state t now params.now pairs.old
+        → StagesChange D.state t now params.now (command_of command.now)
+        pairs.old pairs.new result }
     ensures follows { FollowsList D.state pairs.old pairs.new }
 {
     reveal(command);
@@ -146,7 +153,8 @@ fn stage_change<D: Disk>(
 /// Refuses staged pages as full where they are more than the slots.
 fn count_pages<D: Disk>(staged: &TreePages<D>, params: &Params) -> Answer<()>
     requires runs { staged.now.is_spent ≡ false }
-    ensures { IsObservable (D.state staged.now.disk) → result ≡ counted_answer (maps.len staged.now.map) params.now.slots }
+    ensures { IsObservable (D.state staged.now.disk)
+        → result ≡ counted_answer (maps.len staged.now.map) params.now.slots }
 {
     let need = staged.used();
     let slots = params.slots();
@@ -160,8 +168,11 @@ fn count_pages<D: Disk>(staged: &TreePages<D>, params: &Params) -> Answer<()>
 /// back.
 fn end_group<D: Disk>(pairs: &mut TreeList<D>) -> Result<GroupAnswer, ApplyFault>
     requires runs { pairs.old.pages.is_spent ≡ false }
-    requires list { (t : Tree) × ((next : Tree) × ((p : Parameters) × IsListFor D.state t next p pairs.old)) }
-    ensures call { (t next : Tree) (p : Parameters) → IsListFor D.state t next p pairs.old → EndsStep D.state t next (λ answer. answer ≡ GroupAnswer.Done) p pairs.old.pages pairs.new.pages result }
+    requires list { (t : Tree)
+        × ((next : Tree) × ((p : Parameters) × IsListFor D.state t next p pairs.old)) }
+    ensures call { (t next : Tree) (p : Parameters) → IsListFor D.state t next p pairs.old
+        → EndsStep D.state t next (λ answer. answer ≡ GroupAnswer.Done) p
+        pairs.old.pages pairs.new.pages result }
     ensures list { GoesOn D.state pairs.old pairs.new }
 {
     match pairs.pages.settle() {

@@ -37,7 +37,11 @@ impl<D: Disk> KnownTree<D> {
     /// The tree at which the disk stands.
     pub fn new(params: Params, disk: &D) -> Self
         requires { TellsTree (D.state disk.now) params }
-        ensures { (t : Tree) → IsKnownTree (D.state disk.now) params t → result ≡ record { params = params; tree = t; settled = disk.now } }
+        ensures { (t : Tree) → IsKnownTree (D.state disk.now) params t → result ≡ record {
+          params = params;
+          tree = t;
+          settled = disk.now;
+        } }
     {
         KnownTree {
             params,
@@ -62,8 +66,11 @@ impl<D: Disk> KnownTree<D> {
 
     /// Goes on to the tree at which the disk stands now.
     pub fn move_on(&mut self, disk: &D)
-        requires same { (D.state disk.now).is_observable ≡ (D.state self.old.settled).is_observable }
-        requires tree { IsObservable (D.state disk.now) → (t : Tree) × (IsFitting t self.old.params × ((D.state disk.now).bytes ≡ layout t self.old.params)) }
+        requires same { (D.state disk.now).is_observable
+            ≡ (D.state self.old.settled).is_observable }
+        requires tree { IsObservable (D.state disk.now)
+            → (t : Tree) × (IsFitting t self.old.params
+            × ((D.state disk.now).bytes ≡ layout t self.old.params)) }
         ensures call { MovesOn D.state disk.now self.old self.new }
     {
         self.settled = Snapshot::of(disk);
@@ -71,9 +78,15 @@ impl<D: Disk> KnownTree<D> {
 
     /// Goes on to the same tree under version 2, at which the disk stands now.
     pub fn upgrade(&mut self, disk: &D)
-        requires same { (D.state disk.now).is_observable ≡ (D.state self.old.settled).is_observable }
-        requires tree { IsObservable (D.state disk.now) → (D.state disk.now).bytes ≡ layout self.old.tree (with_version self.old.params Two) }
-        ensures { self.new ≡ record { params = with_version self.old.params Two; tree = self.old.tree; settled = disk.now } }
+        requires same { (D.state disk.now).is_observable
+            ≡ (D.state self.old.settled).is_observable }
+        requires tree { IsObservable (D.state disk.now)
+            → (D.state disk.now).bytes ≡ layout self.old.tree (with_version self.old.params Two) }
+        ensures { self.new ≡ record {
+          params = with_version self.old.params Two;
+          tree = self.old.tree;
+          settled = disk.now;
+        } }
     {
         *self = KnownTree::new(self.params.with_version(Version::Two), disk);
     }

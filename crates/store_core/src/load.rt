@@ -49,8 +49,10 @@ impl<D: Disk> Store<D> {
     pub fn load(&mut self, pairs: &PairList) -> Result<LoadAnswer, ApplyFault>
         requires empty { self.old.tree ≡ empty_tree }
         requires few { length pairs.now ≤ sorted_limit }
-        requires pairs { (t : Tree) × (IsTreeUnder t self.old.params × (pairs.now ≡ model.pairs t self.old.params)) }
-        ensures call { (t : Tree) → IsTreeUnder t self.old.params → pairs.now ≡ model.pairs t self.old.params → Loads D.state t self.old self.new result }
+        requires pairs { (t : Tree)
+            × (IsTreeUnder t self.old.params × (pairs.now ≡ model.pairs t self.old.params)) }
+        ensures call { (t : Tree) → IsTreeUnder t self.old.params
+            → pairs.now ≡ model.pairs t self.old.params → Loads D.state t self.old self.new result }
     {
         if self.is_stopped() {
             return Err(ApplyFault::Stopped);
@@ -77,9 +79,11 @@ fn load_list<D: Disk>(
     requires runs { list.old.pages.is_spent ≡ false }
     requires list { IsListAt D.state empty_tree params.now list.old }
     requires few { length pairs.now ≤ sorted_limit }
-    requires pairs { (t : Tree) × (IsTreeUnder t params.now × (pairs.now ≡ model.pairs t params.now)) }
+    requires pairs { (t : Tree)
+        × (IsTreeUnder t params.now × (pairs.now ≡ model.pairs t params.now)) }
     ensures call { (t : Tree) → IsTreeUnder t params.now → pairs.now ≡ model.pairs t params.now
-        → EndsStep D.state empty_tree (loaded_tree params.now empty_tree t) (IsLoadAnswer params.now t) params.now list.old.pages list.new.pages result }
+        → EndsStep D.state empty_tree (loaded_tree params.now empty_tree t)
+        (IsLoadAnswer params.now t) params.now list.old.pages list.new.pages result }
     ensures list { GoesOn D.state list.old list.new }
 {
     match build_sorted(alloc, params, pairs) {
@@ -98,9 +102,11 @@ fn settle_layout<D: Disk>(
 ) -> Result<LoadAnswer, ApplyFault>
     requires runs { list.old.pages.is_spent ≡ false }
     requires list { IsListAt D.state empty_tree params.now list.old }
-    requires tree { (t : Tree) × (IsFitting t params.now × (layout.now ≡ table_of_tree t params.now)) }
+    requires tree { (t : Tree)
+        × (IsFitting t params.now × (layout.now ≡ table_of_tree t params.now)) }
     ensures call { (t : Tree) → IsFitting t params.now → layout.now ≡ table_of_tree t params.now
-        → EndsStep D.state empty_tree t (λ answer. answer ≡ LoadAnswer.Done) params.now list.old.pages list.new.pages result }
+        → EndsStep D.state empty_tree t (λ answer. answer ≡ LoadAnswer.Done)
+        params.now list.old.pages list.new.pages result }
     ensures list { GoesOn D.state list.old list.new }
 {
     let Ok(changes) = UsedSlots::of(alloc, layout, params.slots()) else {

@@ -45,7 +45,8 @@ fn find_next<D: Disk>(
     requires runs { pairs.old.pages.is_spent ≡ false }
     requires list { (t : Tree) × ((p : Parameters) × IsListAt D.state t p pairs.old) }
     ensures call { (t : Tree) (p : Parameters) → IsListAt D.state t p pairs.old
-        → EndsStep D.state t t (λ pair. pair ≡ sorted.next_pair key.now (model.pairs t p)) p pairs.old.pages pairs.new.pages result }
+        → EndsStep D.state t t (λ pair. pair ≡ sorted.next_pair key.now (model.pairs t p)) p
+        pairs.old.pages pairs.new.pages result }
     ensures list { GoesOn D.state pairs.old pairs.new }
 {
     match pairs.next_from(key) {

@@ -29,7 +29,13 @@ impl<D: Disk> Model for Store<D> {
 
     ghost Value = { StoreState D };
 
-    ghost view = { λ s. record { params = s.known.params; tree = s.known.tree; disk = s.pairs.pages.disk; is_stopped = s.pairs.pages.is_spent } };
+    ghost view = { λ s. record {
+      params = s.known.params;
+      tree = s.known.tree;
+      disk = s.pairs.pages.disk;
+      is_stopped =
+          s.pairs.pages.is_spent;
+    } };
 
     ghost invariant = { λ s. HoldsKnown D.state s.known s.pairs };
 }
@@ -39,7 +45,8 @@ impl<D: Disk> Store<D> {
     /// other, and is to be attached anew.
     pub fn is_stopped(&self) -> bool
         ensures value { result ≡ self.now.is_stopped }
-        ensures stands { IsObservable (D.state self.now.disk) → self.now.is_stopped ≡ false → Stands (D.state self.now.disk) self.now.tree self.now.params }
+        ensures stands { IsObservable (D.state self.now.disk) → self.now.is_stopped ≡ false
+            → Stands (D.state self.now.disk) self.now.tree self.now.params }
     {
         self.pairs.pages.is_spent()
     }
@@ -55,7 +62,8 @@ impl<D: Disk> Store<D> {
     /// How many slots are used: as many as the tree has pages, on an observable disk and while the store is not
     /// stopped.
     pub fn used(&self) -> u32
-        ensures { IsObservable (D.state self.now.disk) → self.now.is_stopped ≡ false → result ≡ page_count self.now.tree self.now.params }
+        ensures { IsObservable (D.state self.now.disk) → self.now.is_stopped ≡ false
+            → result ≡ page_count self.now.tree self.now.params }
     {
         self.pairs.pages.used()
     }
@@ -64,7 +72,8 @@ impl<D: Disk> Store<D> {
     /// of the answer, and the tree counts as empty.
     pub fn is_empty(&self) -> bool
         requires { self.now.is_stopped ≡ false }
-        ensures told { IsObservable (D.state self.now.disk) → (IsTrue result ↔ (self.now.tree ≡ empty_tree)) }
+        ensures told { IsObservable (D.state self.now.disk)
+            → (IsTrue result ↔ (self.now.tree ≡ empty_tree)) }
         ensures empty { IsTrue result → self.now.tree ≡ empty_tree }
     {
         self.known.reveal();

@@ -62,8 +62,10 @@ impl<D: Disk> Store<D> {
 /// a write or a sync, or behind one, the pages are spent.
 fn upgrade_list<D: Disk>(pairs: &mut TreeList<D>) -> Result<(), ApplyFault>
     requires runs { pairs.old.pages.is_spent ≡ false }
-    requires list { (t : Tree) × ((p : Parameters) × (IsListAt D.state t p pairs.old × (p.version ≡ One))) }
-    ensures call { (t : Tree) (p : Parameters) → IsListAt D.state t p pairs.old → EndsUpgrade D.state t p pairs.old.pages pairs.new.pages result }
+    requires list { (t : Tree)
+        × ((p : Parameters) × (IsListAt D.state t p pairs.old × (p.version ≡ One))) }
+    ensures call { (t : Tree) (p : Parameters) → IsListAt D.state t p pairs.old
+        → EndsUpgrade D.state t p pairs.old.pages pairs.new.pages result }
     ensures list { GoesOn D.state pairs.old pairs.new }
 {
     match inline_short_files(pairs) {
@@ -80,8 +82,12 @@ fn upgrade_list<D: Disk>(pairs: &mut TreeList<D>) -> Result<(), ApplyFault>
 fn end_upgrade<D: Disk>(pairs: &mut TreeList<D>) -> Result<(), ApplyFault>
     requires runs { pairs.old.pages.is_spent ≡ false }
     requires whole { IsObservable (D.state pairs.old.pages.disk) → pairs.old.is_whole ≡ true }
-    requires staged { (t : Tree) × ((p : Parameters) × (IsUpgradeStaged D.state t p pairs.old.pages × ((any_draw pairs.old.draw ≡ draw_of p) × (p.version ≡ One)))) }
-    ensures call { (t : Tree) (p : Parameters) → IsUpgradeStaged D.state t p pairs.old.pages → EndsUpgrade D.state t p pairs.old.pages pairs.new.pages result }
+    requires staged { (t : Tree)
+        × ((p : Parameters)
+        × (IsUpgradeStaged D.state t p pairs.old.pages
+        × ((any_draw pairs.old.draw ≡ draw_of p) × (p.version ≡ One)))) }
+    ensures call { (t : Tree) (p : Parameters) → IsUpgradeStaged D.state t p pairs.old.pages
+        → EndsUpgrade D.state t p pairs.old.pages pairs.new.pages result }
     ensures list { GoesOn D.state pairs.old pairs.new }
 {
     match pairs.pages.settle_upgrade() {

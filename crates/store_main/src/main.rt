@@ -134,8 +134,8 @@ fn call_top(rt: &HostRuntime, words: &Words, disk: FileDisk) -> Status {
     status
 }
 
-/// Carries out a dump. Nobody waits for one of its lines, so they go out in large pieces: whoever reads them from a pipe
-/// is not woken for each.
+/// Carries out a dump. Nobody waits for one of its lines, so they go out in large pieces: whoever reads them from a
+/// pipe is not woken for each.
 fn call_dump(rt: &HostRuntime, words: &Words, disk: FileDisk) -> Status {
     let Ok(sink) = GatheredSink::new(rt.alloc(), StdSink::new(rt.stdout())) else {
         return Status::NoMemory;

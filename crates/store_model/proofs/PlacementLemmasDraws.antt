@@ -4,7 +4,8 @@ use Rattle.store_model.specs.declared.draw_kind.DrawKind.{DrawKind}
 use Rattle.store_model.specs.declared.draw_kind.DrawKind.TheVariants.{Ruler, Sha256}
 use Rattle.store_model.specs.Parameters.{Parameters, IsParameters}
 use Rattle.store_model.specs.Labels.{Label}
-use Rattle.store_model.specs.Draws.{IsLawful, draw_of, start_by, level_by, ruler_start, ruler_level, start_of_digest, level_of_digest, sha256_start, sha256_level, key_block}
+use Rattle.store_model.specs.Draws.{IsLawful, draw_of, start_by, level_by, ruler_start, ruler_level, start_of_digest}
+use Rattle.store_model.specs.Draws.{level_of_digest, sha256_start, sha256_level, key_block}
 
 -- a start lies in the table
 start_by-lt : (kind : DrawKind) (p : Parameters) (l : Label) → 1 ≤ p.slots → start_by kind p l < p.slots

@@ -110,7 +110,8 @@ reply_text (Refused refusal) = line (codes "no " ++ refusal_text refusal)
 -- the text of a command: a word, and its fields with one space before each
 unfoldable pub command_text : Command → List ℕ
 command_text (Make p) = codes "make " ++ path_text p
-command_text (Write p at bytes) = codes "write " ++ path_text p ++ codes " " ++ decimal at ++ codes " " ++ content_text bytes
+command_text (Write p at bytes) = codes "write " ++ path_text p ++ codes " " ++ decimal at
+    ++ codes " " ++ content_text bytes
 command_text (Cut p len) = codes "cut " ++ path_text p ++ codes " " ++ decimal len
 command_text (Rename p q) = codes "rename " ++ path_text p ++ codes " " ++ path_text q
 command_text (Remove p) = codes "remove " ++ path_text p

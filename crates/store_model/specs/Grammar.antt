@@ -1,5 +1,6 @@
 -- What a line of a script says. Fields are parted by exactly one space.
-use Rattle.std.specs.Prelude.{ℕ, ◌+◌, ◌-◌, ◌*◌, List, [], ◌∷◌, Bool, true, false, not, ◌&&◌, Option, Some, None, Result, Ok, Err, nat_le, ◌==◌, if◌then◌else◌, codes}
+use Rattle.std.specs.Prelude.{ℕ, ◌+◌, ◌-◌, ◌*◌, List, [], ◌∷◌, Bool, true, false, not, ◌&&◌, Option, Some, None, Result}
+use Rattle.std.specs.Prelude.{Ok, Err, nat_le, ◌==◌, if◌then◌else◌, codes}
 use Rattle.std.specs.List.{list_all, slice_split, fold}
 use Rattle.std.specs.Option.{option_map}
 use Rattle.hex.specs.Hex.{decode_of}
@@ -9,7 +10,8 @@ use Rattle.store_model.specs.declared.refusal.Refusal.TheVariants as refusals
 use Rattle.store_model.specs.Lists.{same_bytes}
 use Rattle.store_model.specs.Paths.{Path, Name, root, is_name, is_attribute_name, fits_field}
 use Rattle.store_model.specs.Commands.{Command}
-use Rattle.store_model.specs.Commands.Command.{Make, Write, Cut, Rename, Remove, Prune, ListChildren, Read, Space, Digest, SetAttribute, UnsetAttribute, GetAttribute, ListAttributes}
+use Rattle.store_model.specs.Commands.Command.{Make, Write, Cut, Rename, Remove, Prune, ListChildren, Read, Space}
+use Rattle.store_model.specs.Commands.Command.{Digest, SetAttribute, UnsetAttribute, GetAttribute, ListAttributes}
 
 -- the greatest number
 abbrev pub number_limit : ℕ
@@ -84,7 +86,8 @@ command_of_fields (w ∷ a ∷ b ∷ []) =
 command_of_fields (w ∷ a ∷ b ∷ c ∷ []) =
     on_word w (codes "write") (path_of a >>= λ p. number_of b >>= λ n. content_of c >>= λ bytes. Some (Write p n bytes))
     (on_word w (codes "read") (path_of a >>= λ p. number_of b >>= λ n. number_of c >>= λ m. Some (Read p n m))
-    (on_word w (codes "set") (path_of a >>= λ p. attribute_name_of b >>= λ n. content_of c >>= λ bytes. Some (SetAttribute p n bytes)) None))
+    (on_word w (codes "set") (path_of a >>= λ p. attribute_name_of b >>= λ n. content_of c >>=
+    λ bytes. Some (SetAttribute p n bytes)) None))
 command_of_fields _ = None
 
 -- the command that a line spells, with paths of any length

@@ -1,5 +1,6 @@
 -- The bytes of an image: header, slots, layout, and what recovery makes of an image.
-use Rattle.std.specs.Prelude.{◌≡◌, ℕ, ◌+◌, ◌*◌, List, [], ◌∷◌, ◌++◌, map, length, take, drop, Bool, not, ◌&&◌, Option, Some, None, slice_index, slice_set, ◌==◌, if◌then◌else◌, codes}
+use Rattle.std.specs.Prelude.{◌≡◌, ℕ, ◌+◌, ◌*◌, List, [], ◌∷◌, ◌++◌, map, length, take, drop, Bool, not, ◌&&◌, Option}
+use Rattle.std.specs.Prelude.{Some, None, slice_index, slice_set, ◌==◌, if◌then◌else◌, codes}
 use Rattle.std.specs.Int.{w16, w32, to_be_bytes}
 use Rattle.std.specs.List.{flat_map}
 use Rattle.store_model.specs.declared.draw_kind.DrawKind.{DrawKind}
@@ -7,7 +8,8 @@ use Rattle.store_model.specs.declared.draw_kind.DrawKind.TheVariants.{Ruler, Sha
 use Rattle.store_model.specs.declared.version.Version.{Version}
 use Rattle.store_model.specs.declared.version.Version.TheVariants.{One, Two}
 use Rattle.store_model.specs.Lists.{zeros, zero_filled, numbers_below}
-use Rattle.store_model.specs.Parameters.{Parameters, IsParameters, block_len, gate_at, mark_blocks, mark_at, shadow_at, table_at, image_len}
+use Rattle.store_model.specs.Parameters.{Parameters, IsParameters, block_len, gate_at, mark_blocks, mark_at, shadow_at}
+use Rattle.store_model.specs.Parameters.{table_at, image_len}
 use Rattle.store_model.specs.Trees.{Tree, IsTree}
 use Rattle.store_model.specs.Pairs.{value_limit}
 use Rattle.store_model.specs.Labels.{label_bytes}
@@ -33,7 +35,8 @@ version_at = 14
 
 -- the header block: the text HSTORE01, slots, height, draw kind, the format's version, a zero, the seed, zeros
 unfoldable pub header : Parameters → List ℕ
-header p = zero_filled block_len (codes "HSTORE01" ++ to_be_bytes w32 p.slots ++ p.height ∷ kind_byte p.kind ∷ version_byte p.version ∷ 0 ∷ p.seed)
+header p = zero_filled block_len (codes "HSTORE01" ++ to_be_bytes w32 p.slots ++ p.height ∷ kind_byte p.kind
+    ∷ version_byte p.version ∷ 0 ∷ p.seed)
 
 abbrev pub value_bytes : Option (List ℕ) → List ℕ
 value_bytes None = []
@@ -45,7 +48,8 @@ cell_bytes cell = cell.key ++ value_bytes cell.value
 
 -- a slot that holds a page: 01, the label, the number of cells, the cells, zeros
 unfoldable pub page_bytes : Page → List ℕ
-page_bytes page = zero_filled block_len (1 ∷ label_bytes page.label ++ length page.cells ∷ flat_map cell_bytes page.cells)
+page_bytes page = zero_filled block_len
+    (1 ∷ label_bytes page.label ++ length page.cells ∷ flat_map cell_bytes page.cells)
 
 -- an empty slot is all zeros
 unfoldable pub slot_bytes : Option Page → List ℕ
@@ -84,10 +88,12 @@ is_marked image i = not (slice_index image (mark_at i) == 0)
 abbrev pub header_as_two : List ℕ → List ℕ
 header_as_two image = slice_set (take block_len image) version_at (version_byte Two)
 
--- the header of an image of so many slots, as it is read. The mark behind the last slot's says, where it is not 0 and the
--- commit flag is set, that the journal makes the image one of version 2: then the header has that version, whichever it names
+-- the header of an image of so many slots, as it is read. The mark behind the last slot's says, where it is not 0 and
+-- the commit flag is set, that the journal makes the image one of version 2: then the header has that version,
+-- whichever it names
 unfoldable pub viewed_header : ℕ → List ℕ → List ℕ
-viewed_header slots image = if is_flag_set image && is_marked image slots then header_as_two image else take block_len image
+viewed_header slots image = if is_flag_set image
+    && is_marked image slots then header_as_two image else take block_len image
 
 -- the image's header, as it is read, names these parameters
 pub record NamesParameters (image : List ℕ) (p : Parameters) : Type 0 where
@@ -96,11 +102,13 @@ pub record NamesParameters (image : List ℕ) (p : Parameters) : Type 0 where
 
 -- what recovery leaves in slot i: its shadow where the commit flag is set and the slot marked, and else the slot
 unfoldable pub recovered_slot : ℕ → List ℕ → ℕ → List ℕ
-recovered_slot slots image i = bytes_at image (if is_flag_set image && is_marked image i then shadow_at slots i else table_at slots i) block_len
+recovered_slot slots image i =
+    bytes_at image (if is_flag_set image && is_marked image i then shadow_at slots i else table_at slots i) block_len
 
 -- what recovery leaves of an image: its header as it is read, zeros, and the slots
 unfoldable pub recovered : ℕ → List ℕ → List ℕ
-recovered slots image = viewed_header slots image ++ zeros (journal_len slots) ++ flat_map (recovered_slot slots image) (numbers_below slots)
+recovered slots image = viewed_header slots image ++ zeros (journal_len slots)
+    ++ flat_map (recovered_slot slots image) (numbers_below slots)
 
 -- what scrubbing makes of a slot: zeros where its byte 0 is 0, and else what it was
 unfoldable pub scrubbed_block : List ℕ → List ℕ
@@ -112,7 +120,8 @@ scrubbed_slot slots image i = scrubbed_block (recovered_slot slots image i)
 
 -- what scrubbing leaves of an image: the recovered image, with the slots whose byte 0 is 0 made zero
 unfoldable pub scrubbed : ℕ → List ℕ → List ℕ
-scrubbed slots image = viewed_header slots image ++ zeros (journal_len slots) ++ flat_map (scrubbed_slot slots image) (numbers_below slots)
+scrubbed slots image = viewed_header slots image ++ zeros (journal_len slots)
+    ++ flat_map (scrubbed_slot slots image) (numbers_below slots)
 
 -- the image represents the tree, which is one: its header names the parameters, it has their length, the tree
 -- fits, and recovery leaves the tree's layout

@@ -1,5 +1,6 @@
 -- How a list of pairs becomes pages: levels, groups, runs. This cut is the store's own.
-use Rattle.std.specs.Prelude.{◌≡◌, ℕ, ◌≤◌, ◌<◌, List, [], ◌∷◌, map, length, Bool, Option, Some, None, nat_le, nat_lt, ◌==◌, if◌then◌else◌, false}
+use Rattle.std.specs.Prelude.{◌≡◌, ℕ, ◌≤◌, ◌<◌, List, [], ◌∷◌, map, length, Bool, Option, Some, None, nat_le, nat_lt}
+use Rattle.std.specs.Prelude.{◌==◌, if◌then◌else◌, false}
 use Rattle.std.specs.List.{filter, flat_map, enumerate_from, AllByRecursion}
 use Rattle.std.specs.List.Sorted.{IsStrictlySortedBy}
 use Rattle.store_model.specs.Lists.{IsBytes, runs, cut_before, numbers_below}
@@ -27,7 +28,8 @@ page_room level = if level == 0 then 10 else 31
 
 -- the cell of a pair on a level
 abbrev pub cell_on : ℕ → Pair → Cell
-cell_on level pair = if level == 0 then (record { key = pair.0; value = Some pair.1 }) else (record { key = pair.0; value = None })
+cell_on level pair = if level == 0 then (record { key = pair.0; value = Some pair.1 }) else
+    (record { key = pair.0; value = None })
 
 -- the list of a level: a cell for each pair whose key's level is at least that
 unfoldable pub level_list : Draw → List Pair → ℕ → List Cell
@@ -58,7 +60,11 @@ IsLedGroup d level (cell ∷ cells) = lead_of d level (cell ∷ cells) ≡ Leade
 
 -- the pages of one group: its runs, numbered from 0
 unfoldable pub group_pages : ℕ → Lead → List Cell → List Page
-group_pages level lead cells = map (λ run. record { label = record { level = level; lead = lead; index = run.0 }; cells = run.1 }) (enumerate_from 0 (runs (page_room level) cells))
+group_pages level lead cells = map (λ run. record {
+  label = record { level = level; lead = lead; index = run.0 };
+  cells = run.1;
+})
+    (enumerate_from 0 (runs (page_room level) cells))
 
 -- the pages of one level, group after group
 unfoldable pub level_pages : Draw → List Pair → ℕ → List Page
@@ -80,7 +86,8 @@ page_count t p = length (pages t p)
 abbrev pub IsBare : Tree → Type 0
 IsBare t = AllByRecursion (λ e. e.1.attributes ≡ []) t
 
--- a tree that an image with these parameters may hold, however many slots there are: under version 1 no path has an attribute
+-- a tree that an image with these parameters may hold, however many slots there are: under version 1 no path has an
+-- attribute
 pub record IsTreeUnder (t : Tree) (p : Parameters) : Type 0 where
   pub is_tree : IsTree t
   pub bare : has_attributes p.version ≡ false → IsBare t

@@ -23,8 +23,8 @@ value_limit = 256
 abbrev pub file_block : ℕ
 file_block = value_limit
 
--- the value of a directory's one pair, and of the first of the pairs that a file of n bytes has where its bytes stand in
--- blocks
+-- the value of a directory's one pair, and of the first of the pairs that a file of n bytes has where its bytes stand
+-- in blocks
 abbrev pub directory_value : List ℕ
 directory_value = 1 ∷ []
 
@@ -46,7 +46,8 @@ is_inline Two n = nat_le n inline_limit
 -- the pairs of a file: its first pair alone, or behind it the blocks of its bytes, numbered from 1
 abbrev pub file_pairs : Bool → Path → List ℕ → List Pair
 file_pairs true path bytes = (key path 0, inline_value bytes) ∷ []
-file_pairs false path bytes = (key path 0, file_value (length bytes)) ∷ map (λ b. (key path b.0, b.1)) (enumerate_from 1 (runs file_block bytes))
+file_pairs false path bytes = (key path 0, file_value (length bytes))
+    ∷ map (λ b. (key path b.0, b.1)) (enumerate_from 1 (runs file_block bytes))
 
 -- the pairs of what stands at a path
 unfoldable pub node_pairs : Path → Node → Parameters → List Pair

@@ -1,5 +1,6 @@
 -- Paths as lists of names, their text, their order, their attributes' names, and the keys that they have.
-use Rattle.std.specs.Prelude.{ℕ, ◌-◌, List, [], ◌∷◌, ◌++◌, length, take, drop, Bool, true, false, not, ◌&&◌, ◌||◌, nat_le, nat_lt, ◌==◌}
+use Rattle.std.specs.Prelude.{ℕ, ◌-◌, List, [], ◌∷◌, ◌++◌, length, take, drop, Bool, true, false, not, ◌&&◌, ◌||◌}
+use Rattle.std.specs.Prelude.{nat_le, nat_lt, ◌==◌}
 use Rattle.std.specs.Int.{w32, to_be_bytes}
 use Rattle.std.specs.List.{flat_map, list_all, concat}
 use Rattle.std.specs.declared.cmp.Ordering.{Ordering}
@@ -23,7 +24,8 @@ is_name_byte c = nat_le 0x21 c && nat_le c 0x7e && not (c == 0x2f)
 
 -- one byte or more, and neither `.` nor `..`
 abbrev pub is_name : Name → Bool
-is_name n = nat_le 1 (length n) && list_all is_name_byte n && not (same_bytes n (0x2e ∷ [])) && not (same_bytes n (0x2e ∷ 0x2e ∷ []))
+is_name n = nat_le 1 (length n) && list_all is_name_byte n && not (same_bytes n (0x2e ∷ []))
+    && not (same_bytes n (0x2e ∷ 0x2e ∷ []))
 
 -- each name followed by a byte 0
 unfoldable pub name_bytes : Path → List ℕ
@@ -122,8 +124,8 @@ attribute_place p a = p ++ (attribute_mark ∷ a) ∷ []
 abbrev pub fits_attribute : Path → Name → Bool
 fits_attribute p a = fits_field (attribute_place p a)
 
--- the 124 bytes of an attribute's key: the path's names, each with a byte 0 behind it, the byte 1, the attribute's name,
--- zeros, and the block number 0
+-- the 124 bytes of an attribute's key: the path's names, each with a byte 0 behind it, the byte 1, the attribute's
+-- name, zeros, and the block number 0
 abbrev pub attribute_key : Path → Name → List ℕ
 attribute_key p a = key (attribute_place p a) 0
 

@@ -1,6 +1,7 @@
 -- Where pages lie in the table: greedy placement by rank (Blelloch and Golovin), and the order condition
 -- of an ordered hash table (Amble and Knuth) that makes the table of a set of pages unique.
-use Rattle.std.specs.Prelude.{◌≡◌, ℕ, ◌+◌, ◌%◌, ◌<◌, List, [], ◌∷◌, map, length, replicate, Bool, true, false, Option, Some, None, slice_get, slice_set}
+use Rattle.std.specs.Prelude.{◌≡◌, ℕ, ◌+◌, ◌%◌, ◌<◌, List, [], ◌∷◌, map, length, replicate, Bool, true, false, Option}
+use Rattle.std.specs.Prelude.{Some, None, slice_get, slice_set}
 use Rattle.std.specs.List.{find, filter_map, AllByRecursion}
 use Rattle.std.specs.declared.cmp.Ordering.{Ordering}
 use Rattle.std.specs.declared.cmp.Ordering.TheVariants.{Less}
@@ -65,7 +66,8 @@ HoldsPage table slot page = slice_get table slot ≡ Some (Some page)
 -- each slot from a page's start up to its own, going round, holds a page of smaller label
 abbrev pub IsInOrder : Draw → Table → Type 0
 IsInOrder d table = (page : Page) (i : ℕ) → i < d.slots → HoldsPage table (probe d.slots (d.start page.label) i) page
-    → (k : ℕ) → k < i → (other : Page) × HoldsPage table (probe d.slots (d.start page.label) k) other × (label_cmp other.label page.label ≡ Less)
+    → (k : ℕ) → k < i → (other : Page) × HoldsPage table (probe d.slots (d.start page.label) k) other
+    × (label_cmp other.label page.label ≡ Less)
 
 -- an ordered table: as many slots as the draw's, each empty or with a page, in order
 pub record IsOrderedTable (d : Draw) (table : Table) : Type 0 where

@@ -32,13 +32,17 @@ answer_by t (Ok c) p = step t c p
 
 -- the reply to a line and the tree after it: `long` before `syntax` and `path`, and then the command's step
 unfoldable pub answer : Tree → List ℕ → Parameters → Step
-answer t text p = if nat_lt line_limit (length text) then (record { reply = Refused refusals.Long; tree = t }) else answer_by t (parse text) p
+answer t text p = if nat_lt line_limit (length text) then (record {
+  reply = Refused refusals.Long;
+  tree = t;
+}) else answer_by t (parse text) p
 
 -- the answers to questions, one after another from a state, where each is answered from the state that those before
 -- it left. What answers a question gives the answer and the state after it
 unfoldable pub answers_by : {S Q A : Type 0} → (S → Q → A × S) → S → List Q → List A
 answers_by answered s [] = []
-answers_by answered s (question ∷ questions) = (answered s question).0 ∷ answers_by answered (answered s question).1 questions
+answers_by answered s (question ∷ questions) =
+    (answered s question).0 ∷ answers_by answered (answered s question).1 questions
 
 -- the state after them
 unfoldable pub state_by : {S Q A : Type 0} → (S → Q → A × S) → S → List Q → S

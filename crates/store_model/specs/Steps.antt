@@ -1,20 +1,26 @@
 -- What a command answers on a tree, and the tree after it.
-use Rattle.std.specs.Prelude.{ℕ, ◌+◌, List, [], ◌∷◌, map, length, take, drop, Bool, true, false, not, ◌&&◌, ◌||◌, Option, Some, None, is_some, unwrap_or, nat_lt, if◌then◌else◌}
+use Rattle.std.specs.Prelude.{ℕ, ◌+◌, List, [], ◌∷◌, map, length, take, drop, Bool, true, false, not, ◌&&◌, ◌||◌}
+use Rattle.std.specs.Prelude.{Option, Some, None, is_some, unwrap_or, nat_lt, if◌then◌else◌}
 use Rattle.std.specs.List.{list_any}
 use Rattle.sha2.specs.Sha256.{sha256}
 use Rattle.store_model.specs.declared.refusal.Refusal.{Refusal}
 use Rattle.store_model.specs.declared.refusal.Refusal.TheVariants as refusals
 use Rattle.store_model.specs.Lists.{overwrite}
 use Rattle.store_model.specs.Parameters.{Parameters}
-use Rattle.store_model.specs.Paths.{Path, Name, is_root, parent, last_name, is_inside, is_at_or_inside, replanted, fits_field, fits_attribute}
-use Rattle.store_model.specs.Trees.{Tree, Node, Entry, Attributes, file_limit, attribute_limit, exists, is_directory, is_file, contents, attributes_at, attribute_at, children, with_node, with_attributes, with_attribute, without_attribute, without, without_subtree, moved}
+use Rattle.store_model.specs.Paths.{Path, Name, is_root, parent, last_name, is_inside, is_at_or_inside, replanted}
+use Rattle.store_model.specs.Paths.{fits_field, fits_attribute}
+use Rattle.store_model.specs.Trees.{Tree, Node, Entry, Attributes, file_limit, attribute_limit, exists, is_directory}
+use Rattle.store_model.specs.Trees.{is_file, contents, attributes_at, attribute_at, children, with_node}
+use Rattle.store_model.specs.Trees.{with_attributes, with_attribute, without_attribute, without, without_subtree, moved}
 use Rattle.store_model.specs.Trees.Node.{Directory, File}
 use Rattle.store_model.specs.Pairs.{has_attributes}
 use Rattle.store_model.specs.Pages.{page_count}
 use Rattle.store_model.specs.Images.{layout}
 use Rattle.store_model.specs.Commands.{Command, Reply, Child, AttributeSize}
-use Rattle.store_model.specs.Commands.Command.{Make, Write, Cut, Rename, Remove, Prune, ListChildren, Read, Space, Digest, SetAttribute, UnsetAttribute, GetAttribute, ListAttributes}
-use Rattle.store_model.specs.Commands.Reply.{Acknowledged, Content, Listing, AttributeListing, PagesUsed, ImageDigest, Refused}
+use Rattle.store_model.specs.Commands.Command.{Make, Write, Cut, Rename, Remove, Prune, ListChildren, Read, Space}
+use Rattle.store_model.specs.Commands.Command.{Digest, SetAttribute, UnsetAttribute, GetAttribute, ListAttributes}
+use Rattle.store_model.specs.Commands.Reply.{Acknowledged, Content, Listing, AttributeListing, PagesUsed, ImageDigest}
+use Rattle.store_model.specs.Commands.Reply.{Refused}
 
 -- the longest answer of one read
 abbrev pub read_limit : ℕ
@@ -61,16 +67,22 @@ has_child t p = nat_lt 0 (length (children t p))
 -- the refusals of a command in their order, all but `version` and `full`
 unfoldable pub conditions : Tree → Command → List Condition
 conditions t (Make p) = root_refused p ∷ parent_refused t p ∷ exists_refused t p ∷ []
-conditions t (Write p at bytes) = parent_refused t p ∷ (is_directory t p, refusals.Kind) ∷ (nat_lt (length (contents t p)) at, refusals.Gap) ∷ (nat_lt file_limit (at + length bytes), refusals.Big) ∷ []
-conditions t (Cut p len) = missing_refused t p ∷ (is_directory t p, refusals.Kind) ∷ (nat_lt (length (contents t p)) len, refusals.Gap) ∷ []
-conditions t (Rename p q) = (is_root p || is_root q, refusals.Root) ∷ missing_refused t p ∷ (is_inside q p, refusals.Inside) ∷ parent_refused t q ∷ exists_refused t q ∷ (outgrows t p q, refusals.Path) ∷ []
-conditions t (Remove p) = root_refused p ∷ missing_refused t p ∷ (is_directory t p && has_child t p, refusals.NotEmpty) ∷ []
+conditions t (Write p at bytes) = parent_refused t p ∷ (is_directory t p, refusals.Kind)
+    ∷ (nat_lt (length (contents t p)) at, refusals.Gap) ∷ (nat_lt file_limit (at + length bytes), refusals.Big) ∷ []
+conditions t (Cut p len) = missing_refused t p ∷ (is_directory t p, refusals.Kind)
+    ∷ (nat_lt (length (contents t p)) len, refusals.Gap) ∷ []
+conditions t (Rename p q) = (is_root p || is_root q, refusals.Root) ∷ missing_refused t p
+    ∷ (is_inside q p, refusals.Inside) ∷ parent_refused t q ∷ exists_refused t q ∷ (outgrows t p q, refusals.Path) ∷ []
+conditions t (Remove p) = root_refused p ∷ missing_refused t p
+    ∷ (is_directory t p && has_child t p, refusals.NotEmpty) ∷ []
 conditions t (Prune p) = root_refused p ∷ missing_refused t p ∷ []
 conditions t (ListChildren p) = missing_refused t p ∷ (is_file t p, refusals.Kind) ∷ []
-conditions t (Read p at len) = missing_refused t p ∷ (is_directory t p, refusals.Kind) ∷ (nat_lt (length (contents t p)) at, refusals.Gap) ∷ (nat_lt read_limit len, refusals.Big) ∷ []
+conditions t (Read p at len) = missing_refused t p ∷ (is_directory t p, refusals.Kind)
+    ∷ (nat_lt (length (contents t p)) at, refusals.Gap) ∷ (nat_lt read_limit len, refusals.Big) ∷ []
 conditions t Space = []
 conditions t Digest = []
-conditions t (SetAttribute p a bytes) = root_refused p ∷ missing_refused t p ∷ (nat_lt attribute_limit (length bytes), refusals.Big) ∷ (not (fits_attribute p a), refusals.Path) ∷ []
+conditions t (SetAttribute p a bytes) = root_refused p ∷ missing_refused t p
+    ∷ (nat_lt attribute_limit (length bytes), refusals.Big) ∷ (not (fits_attribute p a), refusals.Path) ∷ []
 conditions t (UnsetAttribute p a) = root_refused p ∷ missing_refused t p ∷ no_attribute_refused t p a ∷ []
 conditions t (GetAttribute p a) = root_refused p ∷ missing_refused t p ∷ no_attribute_refused t p a ∷ []
 conditions t (ListAttributes p) = root_refused p ∷ missing_refused t p ∷ []
@@ -166,7 +178,9 @@ pub record Step : Type 0 where
 
 -- the step of a command whose other refusals do not hold: `full` where the next tree has more pages than slots
 abbrev pub step_to : Tree → Command → Parameters → Tree → Step
-step_to t c p next = if may_fill c && nat_lt p.slots (page_count next p) then (record { reply = Refused (refusals.Full (page_count next p) p.slots); tree = t }) else (record { reply = reply_of t c p; tree = next })
+step_to t c p next = if may_fill c && nat_lt p.slots (page_count next p) then
+    (record { reply = Refused (refusals.Full (page_count next p) p.slots); tree = t }) else
+    (record { reply = reply_of t c p; tree = next })
 
 abbrev pub step_by : Tree → Command → Parameters → Option Refusal → Step
 step_by t c p (Some refusal) = record { reply = Refused refusal; tree = t }
@@ -179,4 +193,7 @@ lacks_version c p = is_on_attributes c && not (has_attributes p.version)
 -- a command's reply and the tree after it: `version`, the first other refusal that holds and the same tree, or what the
 -- command does
 unfoldable pub step : Tree → Command → Parameters → Step
-step t c p = if lacks_version c p then (record { reply = Refused refusals.Version; tree = t }) else step_by t c p (refusal_of t c)
+step t c p = if lacks_version c p then (record {
+  reply = Refused refusals.Version;
+  tree = t;
+}) else step_by t c p (refusal_of t c)

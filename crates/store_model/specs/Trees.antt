@@ -1,10 +1,12 @@
 -- What a store holds: a finite map from paths to directories and files, each with its attributes.
-use Rattle.std.specs.Prelude.{◌≡◌, ℕ, ◌≤◌, List, [], ◌∷◌, map, length, Bool, true, false, not, IsTrue, Option, Some, None, is_some, if◌then◌else◌}
+use Rattle.std.specs.Prelude.{◌≡◌, ℕ, ◌≤◌, List, [], ◌∷◌, map, length, Bool, true, false, not, IsTrue, Option, Some}
+use Rattle.std.specs.Prelude.{None, is_some, if◌then◌else◌}
 use Rattle.std.specs.Ordering.{eq_by_cmp}
 use Rattle.std.specs.FinMap.{find, put, is_sorted}
 use Rattle.std.specs.List.{filter, AllByRecursion}
 use Rattle.store_model.specs.Lists.{IsBytes}
-use Rattle.store_model.specs.Paths.{Path, Name, is_root, is_path, is_attribute_name, fits_attribute, name_cmp, path_cmp, same_path, parent, is_at_or_inside, replanted}
+use Rattle.store_model.specs.Paths.{Path, Name, is_root, is_path, is_attribute_name, fits_attribute, name_cmp, path_cmp}
+use Rattle.store_model.specs.Paths.{same_path, parent, is_at_or_inside, replanted}
 
 pub data Node : Type 0 where
   Directory : Node
@@ -89,8 +91,8 @@ abbrev pub IsNode : Node → Type 0
 IsNode Directory = Unit {0}
 IsNode (File bytes) = (length bytes ≤ file_limit) × IsBytes bytes
 
--- what an attribute of a path may be: a name of 1 to 32 bytes that the path's field has room for, and at most 255 bytes,
--- which with the byte 4 fill a value
+-- what an attribute of a path may be: a name of 1 to 32 bytes that the path's field has room for, and at most 255
+-- bytes, which with the byte 4 fill a value
 pub record IsAttribute (path : Path) (attribute : Name × List ℕ) : Type 0 where
   pub name : IsTrue (is_attribute_name attribute.0)
   pub fits : IsTrue (fits_attribute path attribute.0)

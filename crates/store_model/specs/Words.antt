@@ -1,5 +1,6 @@
 -- The command line behind the image's path.
-use Rattle.std.specs.Prelude.{ℕ, ◌*◌, List, [], ◌∷◌, length, ◌&&◌, Option, Some, None, nat_le, ◌==◌, if◌then◌else◌, codes}
+use Rattle.std.specs.Prelude.{ℕ, ◌*◌, List, [], ◌∷◌, length, ◌&&◌, Option, Some, None, nat_le, ◌==◌, if◌then◌else◌}
+use Rattle.std.specs.Prelude.{codes}
 use Rattle.hex.specs.Hex.{decode_of}
 use Rattle.store_model.specs.declared.draw_kind.DrawKind.{DrawKind}
 use Rattle.store_model.specs.declared.draw_kind.DrawKind.TheVariants.{Ruler, Sha256}
@@ -33,7 +34,8 @@ number_in low high word = number_of word >>= λ n. if nat_le low n && nat_le n h
 
 -- the draw kind that a word names
 unfoldable pub kind_of_word : List ℕ → Option DrawKind
-kind_of_word word = if same_bytes word (codes "ruler") then Some Ruler else if same_bytes word (codes "sha256") then Some Sha256 else None
+kind_of_word word = if same_bytes word (codes "ruler") then Some Ruler else if same_bytes word
+    (codes "sha256") then Some Sha256 else None
 
 -- the bytes of a seed, two hexadecimal digits of either case a byte
 unfoldable pub seed_of_word : List ℕ → Option (List ℕ)
@@ -57,6 +59,7 @@ request_of (w ∷ []) =
 request_of (w ∷ number ∷ count ∷ []) =
     on_word w (codes "big") (number_of number >>= λ n. number_in 1 commands_limit count >>= λ k. Some (Big n k)) None
 request_of (w ∷ slots ∷ height ∷ kind ∷ seed ∷ []) =
-    version_of_word w >>= λ v. number_in 1 slots_limit slots >>= λ n. number_in 1 height_limit height >>= λ h. kind_of_word kind >>= λ k. seed_of_word seed >>= λ s.
+    version_of_word w >>= λ v. number_in 1 slots_limit slots >>= λ n. number_in 1 height_limit height >>=
+    λ h. kind_of_word kind >>= λ k. seed_of_word seed >>= λ s.
     Some (Format (record { slots = n; height = h; kind = k; seed = s; version = v }))
 request_of _ = None

@@ -23,10 +23,12 @@ use Rattle.store_top.proofs.CrashLemmas.{crash_start, crash_more, crash_still, c
 
 module _ (trees : ℕ → Tree) (p : Parameters) where
   -- before the first line
-  pub disk_start : (disk : DiskState) → IsSound disk → IsFitting (trees 0) p → Stands disk (trees 0) p → DiskSoFar trees p 0 disk disk
+  pub disk_start : (disk : DiskState) → IsSound disk → IsFitting (trees 0) p → Stands disk (trees 0) p
+      → DiskSoFar trees p 0 disk disk
   disk_start disk sound fit stands = record {
     stands = stands;
-    crash = crash_start trees p disk (trees 0) sound (λ image gone. standing_represents (trees 0) p image fit (stands.durable image gone ∙ stands.layout_is)) refl;
+    crash = crash_start trees p disk (trees 0) sound
+        (λ image gone. standing_represents (trees 0) p image fit (stands.durable image gone ∙ stands.layout_is)) refl;
     quiet = λ all. ReadsOnly-refl disk sound;
     counts = made_none disk;
   }
@@ -37,7 +39,8 @@ module _ (trees : ℕ → Tree) (p : Parameters) where
     disk_reading next sound reads = record {
       stands = stands_reading now next (trees n) p reads so_far.stands;
       crash = LeavesOnly-trans first now next (RepresentsOneOf trees n p) so_far.crash
-          (LeavesOnly-weaken now next now.crash_images (RepresentsOneOf trees n p) (MayLeaveOnly-end first now (RepresentsOneOf trees n p) sound so_far.crash) reads.leaves);
+          (LeavesOnly-weaken now next now.crash_images (RepresentsOneOf trees n p)
+          (MayLeaveOnly-end first now (RepresentsOneOf trees n p) sound so_far.crash) reads.leaves);
       quiet = λ all. ReadsOnly-trans first now next (so_far.quiet all) reads;
       counts = lines_reading p trees n first now next so_far.counts reads;
     }
@@ -49,24 +52,30 @@ module _ (trees : ℕ → Tree) (p : Parameters) where
       crash = crash_still trees n p first now so_far.crash;
       quiet = λ all. so_far.quiet (λ k low. all k (omega arith));
       counts = lines_more p trees n first now now (trees n) (trees (n + 1)) so_far.counts refl refl
-          (subst (λ k. Made (commit_writes k) (commit_syncs k) now now) (sym (none_between p (trees n) (trees (n + 1)) same)) (made_none now));
+          (subst (λ k. Made (commit_writes k) (commit_syncs k) now now)
+          (sym (none_between p (trees n) (trees (n + 1)) same)) (made_none now));
     }
 
-    module _ {T : Type 0} (next : DiskState) (t u : Tree) (is_stopped : Bool) (here : trees n ≡ t) (after : trees (n + 1) ≡ u) where
+    module _ {T : Type 0} (next : DiskState) (t u : Tree) (is_stopped : Bool) (here : trees n ≡ t)
+        (after : trees (n + 1) ≡ u) where
       -- a step that was taken
-      pub disk_more : (value : T) → ChangesImage t u p now next is_stopped (Ok value) → DiskSoFar trees p (n + 1) first next
+      pub disk_more : (value : T) → ChangesImage t u p now next is_stopped (Ok value)
+          → DiskSoFar trees p (n + 1) first next
       disk_more value change = record {
         stands = subst (λ (v : Tree). Stands next v p) (sym after) change.stands;
         crash = crash_more trees n p first now next t u so_far.crash change.crash here after;
-        quiet = λ all. ReadsOnly-trans first now next (so_far.quiet (λ k low. all k (omega arith))) (change.still (sym after ∙ all (n + 1) (omega arith) ∙ sym (all n (omega arith)) ∙ here));
+        quiet = λ all. ReadsOnly-trans first now next (so_far.quiet (λ k low. all k (omega arith)))
+            (change.still (sym after ∙ all (n + 1) (omega arith) ∙ sym (all n (omega arith)) ∙ here));
         counts = lines_more p trees n first now next t u so_far.counts here after change.counts.made;
       }
 
       -- one in which the disk failed
-      pub changes_fault : IsSound next → ChangesImage {T = T} t u p now next is_stopped (Err apply.Disk) → ChangesByLines statuses.DiskFault n trees p first next
+      pub changes_fault : IsSound next → ChangesImage {T = T} t u p now next is_stopped (Err apply.Disk)
+          → ChangesByLines statuses.DiskFault n trees p first next
       changes_fault sound change = record {
         stands = λ e. absurd (e refl);
-        fault = λ e. subst (λ (v : Tree). Represents next.bytes v p ⊎ Represents next.bytes (trees (n + 1)) p) (sym here)
+        fault = λ e. subst (λ (v : Tree). Represents next.bytes v p
+            ⊎ Represents next.bytes (trees (n + 1)) p) (sym here)
             (subst (λ (v : Tree). Represents next.bytes t p ⊎ Represents next.bytes v p) (sym after) change.reads);
         crashes = crashes_fault n trees first now next p t u so_far.crash change.crash sound here after;
         quiet = λ e all. absurd (e refl);
@@ -74,7 +83,8 @@ module _ (trees : ℕ → Tree) (p : Parameters) where
       }
 
     -- the call ends otherwise than by a fault of the disk
-    pub changes_whole : (status : Status) → (status ≡ statuses.DiskFault → ⊥) → ChangesByLines status n trees p first now
+    pub changes_whole : (status : Status) → (status ≡ statuses.DiskFault → ⊥)
+        → ChangesByLines status n trees p first now
     changes_whole status other = record {
       stands = λ e. so_far.stands;
       fault = λ e. absurd (other e);

@@ -27,13 +27,18 @@ pub line_spares : (fault : LineFault) → SparesDisk (line_status fault)
 line_spares causes.Source = record { other = λ e. cc; count = λ faults. refl }
 line_spares causes.TooLong = record { other = λ e. cc; count = λ faults. refl }
 
-module _ (word : Subcommand) (texts : Tree → List ℕ → Parameters → List (List ℕ)) (trees : Tree → List ℕ → Parameters → ℕ → Tree)
-    {D R W : Type 0} (disk_of : D → DiskState) (source_of : R → SourceState) (sink_of : W → SinkState) (status : Status) (done : ℕ)
+module _ (word : Subcommand) (texts : Tree → List ℕ → Parameters → List (List ℕ))
+    (trees : Tree → List ℕ → Parameters → ℕ → Tree)
+    {D R W : Type 0} (disk_of : D → DiskState) (source_of : R → SourceState) (sink_of : W → SinkState)
+    (status : Status) (done : ℕ)
     (store store_new : StoreState D) (reader reader_new : LineState R) (sink sink_new : W) where
   -- what a script and a store are left as
-  pub lines_answered : LinesEnd source_of sink_of word (texts store.tree (left source_of reader) store.params) (disks.IsObservable (disk_of store.disk)) reader reader_new sink sink_new done status
-      → StoreEnds disk_of (sources.IsObservable (source_of reader.source)) (trees store.tree (left source_of reader) store.params) status done store store_new
-      → AnswersLines word texts trees disk_of source_of sink_of status done store store_new reader reader_new sink sink_new
+  pub lines_answered : LinesEnd source_of sink_of word (texts store.tree (left source_of reader) store.params)
+      (disks.IsObservable (disk_of store.disk)) reader reader_new sink sink_new done status
+      → StoreEnds disk_of (sources.IsObservable (source_of reader.source))
+      (trees store.tree (left source_of reader) store.params) status done store store_new
+      → AnswersLines word texts trees disk_of source_of sink_of status done store store_new reader
+      reader_new sink sink_new
   lines_answered lines kept = record {
     ends = lines.ends;
     outside = record {

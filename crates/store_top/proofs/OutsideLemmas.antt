@@ -10,7 +10,9 @@ use Rattle.image_subcommands.specs.Outside.{KeepsOutside}
 use Rattle.image_subcommands.specs.Statuses.{disk_faults_by}
 
 -- lines were answered behind the opening of an image
-pub outside_behind : (status : Status) (old mid new : DiskState) (source source_new : SourceState) (sink sink_new : SinkState) → KeepsDisk old mid → mid.faults ≡ old.faults → KeepsOutside status mid new source source_new sink sink_new
+pub outside_behind : (status : Status) (old mid new : DiskState) (source source_new : SourceState)
+    (sink sink_new : SinkState) → KeepsDisk old mid → mid.faults ≡ old.faults
+    → KeepsOutside status mid new source source_new sink sink_new
     → KeepsOutside status old new source source_new sink sink_new
 outside_behind status old mid new source source_new sink sink_new kept same lines = record {
   disk_kept = keeps_then old mid new kept lines.disk_kept;

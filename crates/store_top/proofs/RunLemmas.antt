@@ -19,7 +19,8 @@ texts_joined rs = concat_is (map reply_text rs) ∙ flat_map-map (λ x. x) reply
 pub front_joined : (n : ℕ) (rs : List Reply) → concat (take n (map reply_text rs)) ≡ replies_text (take n rs)
 front_joined n rs = ap concat (take-map reply_text n rs) ∙ texts_joined (take n rs)
 
-pub next_joined : (n : ℕ) (rs : List Reply) → concat (take 1 (drop n (map reply_text rs))) ≡ replies_text (take 1 (drop n rs))
+pub next_joined : (n : ℕ) (rs : List Reply) → concat (take 1 (drop n (map reply_text rs)))
+    ≡ replies_text (take 1 (drop n rs))
 next_joined n rs = ap (λ xs. concat (take 1 xs)) (drop-map reply_text n rs) ∙ front_joined 1 (drop n rs)
 
 -- before the first line
@@ -31,10 +32,12 @@ module _ (t : Tree) (script : List ℕ) (p : Parameters) where
   -- a text for each line
   pub length-run_texts : length (run_texts t script p) ≡ length (lines script)
   unfolding replies replies_by
-  length-run_texts = length-map (run_replies t script p) reply_text ∙ length-answers_by (by_step (λ u text. answer u text p)) t (lines script)
+  length-run_texts = length-map (run_replies t script p) reply_text
+      ∙ length-answers_by (by_step (λ u text. answer u text p)) t (lines script)
 
   -- behind so many lines there is another
-  module _ (read : List (List ℕ)) (done : ℕ) (count : done ≡ length read) (line : List ℕ) (rest : List (List ℕ)) (split : lines script ≡ read ++ line ∷ rest) where
+  module _ (read : List (List ℕ)) (done : ℕ) (count : done ≡ length read) (line : List ℕ) (rest : List (List ℕ))
+      (split : lines script ≡ read ++ line ∷ rest) where
     -- the tree after it
     pub tree_next : run_trees t script p (done + 1) ≡ (answer (run_trees t script p done) line p).tree
     unfolding tree_after tree_by
@@ -45,7 +48,8 @@ module _ (t : Tree) (script : List ℕ) (p : Parameters) where
     reply_next = answer_next (by_step (λ u text. answer u text p)) t (lines script) read done count line rest split
 
     -- and the text of its reply
-    pub text_next : take 1 (drop done (run_texts t script p)) ≡ reply_text (answer (run_trees t script p done) line p).reply ∷ []
+    pub text_next : take 1 (drop done (run_texts t script p))
+        ≡ reply_text (answer (run_trees t script p done) line p).reply ∷ []
     text_next =
         ap (take 1) (drop-map reply_text done (run_replies t script p))
         ∙ take-map reply_text 1 (drop done (run_replies t script p))

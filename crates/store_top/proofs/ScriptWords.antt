@@ -15,14 +15,19 @@ use Rattle.store_top.proofs.SessionLemmas.{no_call, length-session_texts}
 abbrev pub EndsAsRun : Subcommand → Type 0
 EndsAsRun word = (status : Status) → is_among word (row status).words ≡ is_among words.Run (row status).words
 
-pub end_as_run : (word : Subcommand) → EndsAsRun word → (status : Status) → IsEndOf words.Run status → IsEndOf word status
-end_as_run word as_run status ends = subst (λ (b : Bool). IsTrue (b && not (row status).refuses_image)) (sym (as_run status)) ends
+pub end_as_run : (word : Subcommand) → EndsAsRun word → (status : Status)
+    → IsEndOf words.Run status → IsEndOf word status
+end_as_run word as_run status ends = subst (λ (b : Bool). IsTrue (b && not (row status).refuses_image))
+    (sym (as_run status)) ends
 
-pub run_as_end : (word : Subcommand) → EndsAsRun word → (status : Status) → IsEndOf word status → IsEndOf words.Run status
-run_as_end word as_run status ends = subst (λ (b : Bool). IsTrue (b && not (row status).refuses_image)) (as_run status) ends
+pub run_as_end : (word : Subcommand) → EndsAsRun word → (status : Status) → IsEndOf word status
+    → IsEndOf words.Run status
+run_as_end word as_run status ends =
+    subst (λ (b : Bool). IsTrue (b && not (row status).refuses_image)) (as_run status) ends
 
 -- The texts have one for each line, and the trees begin with that before the first.
-pub record AnswersEach (word : Subcommand) (texts : Tree → List ℕ → Parameters → List (List ℕ)) (trees : Tree → List ℕ → Parameters → ℕ → Tree) : Type 0 where
+pub record AnswersEach (word : Subcommand) (texts : Tree → List ℕ → Parameters → List (List ℕ))
+    (trees : Tree → List ℕ → Parameters → ℕ → Tree) : Type 0 where
   pub as_run : EndsAsRun word
   pub none : (t : Tree) (script : List ℕ) (p : Parameters) → trees t script p 0 ≡ t
   pub each : (t : Tree) (script : List ℕ) (p : Parameters) → length (texts t script p) ≡ length (lines script)

@@ -18,15 +18,20 @@ use Rattle.store_top.proofs.RunEnds.{nothing_opened, script_unopened}
 use Rattle.store_top.proofs.ScriptWords.{run_each, session_each}
 use Rattle.store_top.proofs.UpgradeEnds.{upgrade_unopened}
 
-module _ {D R W : Type 0} (disk_of : D → DiskState) (source_of : R → SourceState) (sink_of : W → SinkState) (sound : (disk : D) → IsObservable (disk_of disk) → IsSound (disk_of disk)) (before : Outside D R W) where
+module _ {D R W : Type 0} (disk_of : D → DiskState) (source_of : R → SourceState) (sink_of : W → SinkState)
+    (sound : (disk : D) → IsObservable (disk_of disk) → IsSound (disk_of disk)) (before : Outside D R W) where
   pub run_uncalled : IsRun disk_of source_of sink_of before (without_memory before)
-  run_uncalled = script_unopened words.Run run_texts run_trees run_each disk_of source_of sink_of sound before faults.NoMemory before.disk (nothing_opened (disk_of before.disk) (sound before.disk))
+  run_uncalled = script_unopened words.Run run_texts run_trees run_each disk_of source_of sink_of sound before
+      faults.NoMemory before.disk (nothing_opened (disk_of before.disk) (sound before.disk))
 
   pub session_uncalled : IsSession disk_of source_of sink_of before (without_memory before)
-  session_uncalled = script_unopened words.Session session_texts session_trees session_each disk_of source_of sink_of sound before faults.NoMemory before.disk (nothing_opened (disk_of before.disk) (sound before.disk))
+  session_uncalled = script_unopened words.Session session_texts session_trees session_each disk_of source_of sink_of
+      sound before faults.NoMemory before.disk (nothing_opened (disk_of before.disk) (sound before.disk))
 
   pub upgrade_uncalled : IsUpgrade disk_of before (without_memory before)
-  upgrade_uncalled = upgrade_unopened disk_of before faults.NoMemory before.disk (nothing_opened (disk_of before.disk) (sound before.disk))
+  upgrade_uncalled = upgrade_unopened disk_of before
+      faults.NoMemory before.disk (nothing_opened (disk_of before.disk) (sound before.disk))
 
   pub big_uncalled : (number count : ℕ) → IsBig disk_of sink_of number count before (without_memory before)
-  big_uncalled number count = big_unopened disk_of sink_of sound number count before faults.NoMemory before.disk (nothing_opened (disk_of before.disk) (sound before.disk))
+  big_uncalled number count = big_unopened disk_of sink_of sound number count before
+      faults.NoMemory before.disk (nothing_opened (disk_of before.disk) (sound before.disk))

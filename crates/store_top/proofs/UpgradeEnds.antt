@@ -1,5 +1,6 @@
 -- How `upgrade` ends: with no store, or behind the upgrade of one.
-use Rattle.std.proofs.Common.{◌≡◌, ◌⊎◌, ℕ, ◌+◌, Bool, List, Result, Ok, Err, OnOk, IsErrOf, refl, sym, ap, ◌∙◌, subst, arith, inl, inr, ⊎_elim}
+use Rattle.std.proofs.Common.{◌≡◌, ◌⊎◌, ℕ, ◌+◌, Bool, List, Result, Ok, Err, OnOk, IsErrOf, refl, sym, ap, ◌∙◌, subst}
+use Rattle.std.proofs.Common.{arith, inl, inr, ⊎_elim}
 use Rattle.std.proofs.lemmas.Bool.{false≢true}
 use Rattle.store_model.specs.declared.version.Version.{Version}
 use Rattle.store_model.specs.declared.version.Version.TheVariants.{One, Two}
@@ -34,8 +35,10 @@ use Rattle.image_subcommands.specs.Endings.{attach_status, apply_status, status_
 use Rattle.image_subcommands.specs.Outside.{Outside, outside_of, KeepsOutside}
 use Rattle.image_subcommands.specs.Statuses.{Subcommand as words, IsStatusOf, IsRefusedImage, done_of_work}
 use Rattle.image_subcommands.proofs.ReportLemmas.{rose}
-use Rattle.store_top.specs.UpgradeCall.{writes_behind, syncs_behind, RepresentsEither, KeepsVersion, UpgradesTree, IsUpgrade}
-use Rattle.store_top.proofs.RunEnds.{no_image_by, damaged_by, says_no_image, says_damaged, named_by, memory_left, memory_only, quiet_unopened}
+use Rattle.store_top.specs.UpgradeCall.{writes_behind, syncs_behind, RepresentsEither, KeepsVersion, UpgradesTree}
+use Rattle.store_top.specs.UpgradeCall.{IsUpgrade}
+use Rattle.store_top.proofs.RunEnds.{no_image_by, damaged_by, says_no_image, says_damaged, named_by, memory_left}
+use Rattle.store_top.proofs.RunEnds.{memory_only, quiet_unopened}
 
 -- ---- no store was had
 
@@ -58,17 +61,22 @@ not_done faults.NotImage e = cc
 not_done faults.Damaged e = cc
 
 -- the image represents the tree still
-tree_unopened : (fault : AttachFault) (old new : DiskState) (t : Tree) (p : Parameters) → disks.IsObservable old → IsRefused old fault new → KeepsImage t p old fault new → UpgradesTree t p (attach_status fault) old new
+tree_unopened : (fault : AttachFault) (old new : DiskState) (t : Tree) (p : Parameters) → disks.IsObservable old
+    → IsRefused old fault new → KeepsImage t p old fault new → UpgradesTree t p (attach_status fault) old new
 tree_unopened fault old new t p o refused keeps = record {
   upgraded = λ e. absurd (not_done fault e);
-  crash = LeavesOnly-weaken old new (λ image. old.crash_images image ⊎ Represents image t p) (λ image. old.crash_images image ⊎ RepresentsEither t p image)
+  crash = LeavesOnly-weaken old new (λ image. old.crash_images image ⊎ Represents image t p)
+      (λ image. old.crash_images image ⊎ RepresentsEither t p image)
       (λ image either. ⊎_elim (λ left. inl left) (λ represents. inr (inl represents)) either) keeps.crash;
   reads = inl keeps.represents;
   no_memory = λ e. record { stands = inr (refused.unwritten o (memory_only fault e)); crash = keeps.crash };
   counts = record {
     done = λ e. absurd (not_done fault e);
     no_memory = λ e. inr (refused.unwritten o (memory_only fault e)).synced;
-    limit = record { write_limit = omega (arith, keeps.limit.write_limit); sync_limit = omega (arith, keeps.limit.sync_limit) };
+    limit = record {
+      write_limit = omega (arith, keeps.limit.write_limit);
+      sync_limit = omega (arith, keeps.limit.sync_limit);
+    };
   };
   quiet = λ two empty whole. quiet_unopened fault old new refused o whole;
   complete = λ whole. inr (memory_left fault old new t p refused keeps whole);
@@ -76,8 +84,15 @@ tree_unopened fault old new t p o refused keeps = record {
 
 module _ {D R W : Type 0} (disk_of : D → DiskState) where
   -- The call had no store.
-  pub upgrade_unopened : (before : Outside D R W) (fault : AttachFault) (disk : D) → IsRefused (disk_of before.disk) fault (disk_of disk)
-      → IsUpgrade disk_of before (record { status = attach_status fault; done = 0; disk = disk; source = before.source; sink = before.sink })
+  pub upgrade_unopened : (before : Outside D R W) (fault : AttachFault) (disk : D)
+      → IsRefused (disk_of before.disk) fault (disk_of disk)
+      → IsUpgrade disk_of before (record {
+        status = attach_status fault;
+        done = 0;
+        disk = disk;
+        source = before.source;
+        sink = before.sink;
+      })
   upgrade_unopened before fault disk refused =
       let old = disk_of before.disk in
       let new = disk_of disk in
@@ -88,8 +103,14 @@ module _ {D R W : Type 0} (disk_of : D → DiskState) where
         source = refl;
         sink = refl;
         observed = λ o. record {
-          not_image = record { only = λ e. refused.not_image (no_image_by fault e); always = says_no_image fault old new refused o fault refl };
-          damaged = record { only = λ e. refused.damaged (damaged_by fault e); always = says_damaged fault old new refused o fault refl };
+          not_image = record {
+            only = λ e. refused.not_image (no_image_by fault e);
+            always = says_no_image fault old new refused o fault refl;
+          };
+          damaged = record {
+            only = λ e. refused.damaged (damaged_by fault e);
+            always = says_damaged fault old new refused o fault refl;
+          };
           represented = λ e. absurd (not_done fault e);
           nothing = λ none. refused.unrepresented o none;
           upgrades = λ t p represents. tree_unopened fault old new t p o refused (refused.represented o t p represents);
@@ -111,34 +132,60 @@ image_kept (Err apply.Disk) h = false≢true h
 image_kept (Err apply.NoMemory) h = false≢true h
 image_kept (Err apply.Stopped) h = false≢true h
 
-when_done : {P : Type 0} (result : Result (Unit {0}) ApplyFault) → status_of apply_status result ≡ statuses.Done → OnOk result P → P
+when_done : {P : Type 0} (result : Result (Unit {0}) ApplyFault)
+    → status_of apply_status result ≡ statuses.Done → OnOk result P → P
 when_done (Ok value) e holds = holds
 when_done (Err apply.Disk) e holds = absurd (cc)
 when_done (Err apply.NoMemory) e holds = absurd (cc)
 when_done (Err apply.Stopped) e holds = absurd (cc)
 
-when_no_memory : (result : Result (Unit {0}) ApplyFault) → status_of apply_status result ≡ statuses.NoMemory → IsErrOf result apply.NoMemory
+when_no_memory : (result : Result (Unit {0}) ApplyFault) → status_of apply_status result ≡ statuses.NoMemory
+    → IsErrOf result apply.NoMemory
 when_no_memory (Ok value) e = absurd (cc)
 when_no_memory (Err apply.Disk) e = absurd (cc)
 when_no_memory (Err apply.NoMemory) e = refl
 when_no_memory (Err apply.Stopped) e = absurd (cc)
 
-done_or_lacks : (result : Result (Unit {0}) ApplyFault) (old new : ℕ) → (result ≡ Err apply.Stopped → ⊥) → new ≡ apply_faults_after old result → (Rose old new → ⊥)
+done_or_lacks : (result : Result (Unit {0}) ApplyFault) (old new : ℕ) → (result ≡ Err apply.Stopped → ⊥)
+    → new ≡ apply_faults_after old result → (Rose old new → ⊥)
     → (status_of apply_status result ≡ statuses.Done) ⊎ (status_of apply_status result ≡ statuses.NoMemory)
 done_or_lacks (Ok value) old new ran count whole = inl refl
 done_or_lacks (Err apply.Disk) old new ran count whole = absurd (whole (rose old new count))
 done_or_lacks (Err apply.NoMemory) old new ran count whole = inr refl
 done_or_lacks (Err apply.Stopped) old new ran count whole = absurd (ran refl)
 
-outside_by : (result : Result (Unit {0}) ApplyFault) (old new : DiskState) (source : SourceState) (sink : SinkState) → (result ≡ Err apply.Stopped → ⊥) → KeepsDisk old new → new.faults ≡ apply_faults_after old.faults result
+outside_by : (result : Result (Unit {0}) ApplyFault) (old new : DiskState) (source : SourceState) (sink : SinkState)
+    → (result ≡ Err apply.Stopped → ⊥) → KeepsDisk old new → new.faults ≡ apply_faults_after old.faults result
     → KeepsOutside (status_of apply_status result) old new source source sink sink
-outside_by (Ok value) old new source sink ran kept count = record { disk_kept = kept; source_observable = refl; sink_observable = refl; disk_faults = count; source_faults = refl; sink_faults = refl }
-outside_by (Err apply.Disk) old new source sink ran kept count = record { disk_kept = kept; source_observable = refl; sink_observable = refl; disk_faults = count; source_faults = refl; sink_faults = refl }
-outside_by (Err apply.NoMemory) old new source sink ran kept count = record { disk_kept = kept; source_observable = refl; sink_observable = refl; disk_faults = count; source_faults = refl; sink_faults = refl }
+outside_by (Ok value) old new source sink ran kept count = record {
+  disk_kept = kept;
+  source_observable = refl;
+  sink_observable = refl;
+  disk_faults = count;
+  source_faults = refl;
+  sink_faults = refl;
+}
+outside_by (Err apply.Disk) old new source sink ran kept count = record {
+  disk_kept = kept;
+  source_observable = refl;
+  sink_observable = refl;
+  disk_faults = count;
+  source_faults = refl;
+  sink_faults = refl;
+}
+outside_by (Err apply.NoMemory) old new source sink ran kept count = record {
+  disk_kept = kept;
+  source_observable = refl;
+  sink_observable = refl;
+  disk_faults = count;
+  source_faults = refl;
+  sink_faults = refl;
+}
 outside_by (Err apply.Stopped) old new source sink ran kept count = absurd (ran refl)
 
 -- What an upgrade of a store does, of whichever version its image is.
-record UpgradesStanding (t : Tree) (p : Parameters) (mid new : DiskState) (result : Result (Unit {0}) ApplyFault) : Type 0 where
+record UpgradesStanding (t : Tree) (p : Parameters) (mid new : DiskState)
+    (result : Result (Unit {0}) ApplyFault) : Type 0 where
   pub stands : OnOk result (Stands new t (with_version p Two))
   pub crash : LeavesOnly mid new (RepresentsEither t p)
   pub reads : RepresentsEither t p new.bytes
@@ -151,44 +198,57 @@ versions_differ : One ≡ Two → ⊥
 versions_differ e = cc
 
 -- an image of version 1
-standing_one : (t : Tree) (p : Parameters) (mid new : DiskState) (is_stopped : Bool) (result : Result (Unit {0}) ApplyFault) → p.version ≡ One → UpgradesImage t p mid new is_stopped result → UpgradesStanding t p mid new result
+standing_one : (t : Tree) (p : Parameters) (mid new : DiskState) (is_stopped : Bool)
+    (result : Result (Unit {0}) ApplyFault) → p.version ≡ One → UpgradesImage t p mid new is_stopped result
+    → UpgradesStanding t p mid new result
 standing_one t p mid new is_stopped result one image = record {
   stands = image.stands;
   crash = image.crash;
   reads = image.reads;
   no_memory = image.no_memory;
-  made = subst (λ (v : Version). OnOk result (Made (writes_behind v (slots_upgraded p t)) (syncs_behind v) mid new)) (sym one) image.counts.made;
-  limit = subst (λ (v : Version). MadeAtMost (writes_behind v (slots_upgraded p t)) (syncs_behind v) mid new) (sym one) image.counts.limit;
+  made = subst (λ (v : Version). OnOk result (Made (writes_behind v (slots_upgraded p t)) (syncs_behind v) mid new))
+      (sym one) image.counts.made;
+  limit = subst (λ (v : Version). MadeAtMost (writes_behind v (slots_upgraded p t)) (syncs_behind v) mid new)
+      (sym one) image.counts.limit;
   idle = λ two. absurd (versions_differ (sym one ∙ two));
 }
 
 -- one of version 2, of which nothing is called
-standing_two : (t : Tree) (p : Parameters) (disk : DiskState) → IsSound disk → IsFitting t p → Stands disk t p → p.version ≡ Two → UpgradesStanding t p disk disk (Ok tt)
+standing_two : (t : Tree) (p : Parameters) (disk : DiskState) → IsSound disk → IsFitting t p → Stands disk t p
+    → p.version ≡ Two → UpgradesStanding t p disk disk (Ok tt)
 standing_two t p disk sound fitting stands two =
     let same : with_version p Two ≡ p = ap (with_version p) (sym two) in
     record {
       stands = subst (Stands disk t) (sym same) stands;
-      crash = LeavesOnly-refl disk (RepresentsEither t p) sound (λ image left. inl (standing_represents t p image fitting (stands.durable image left ∙ stands.layout_is)));
+      crash = LeavesOnly-refl disk (RepresentsEither t p) sound
+          (λ image left. inl (standing_represents t p image fitting (stands.durable image left ∙ stands.layout_is)));
       reads = inl (standing_represents t p disk.bytes fitting stands.layout_is);
       no_memory = λ e. absurd (cc);
-      made = subst (λ (v : Version). Made (writes_behind v (slots_upgraded p t)) (syncs_behind v) disk disk) (sym two) (made_none disk);
-      limit = subst (λ (v : Version). MadeAtMost (writes_behind v (slots_upgraded p t)) (syncs_behind v) disk disk) (sym two) (at_most disk disk 0 0 0 0 (made_none disk) (omega arith) (omega arith));
+      made = subst (λ (v : Version). Made (writes_behind v (slots_upgraded p t)) (syncs_behind v) disk disk)
+          (sym two) (made_none disk);
+      limit = subst (λ (v : Version). MadeAtMost (writes_behind v (slots_upgraded p t)) (syncs_behind v) disk disk)
+          (sym two) (at_most disk disk 0 0 0 0 (made_none disk) (omega arith) (omega arith));
       idle = λ e. record { bytes = refl; writes = refl };
     }
 
 -- the image that was opened, and for whose upgrade memory ran out
-version_kept : (t : Tree) (p : Parameters) (old mid new : DiskState) → IsFitting t p → IsOpened t p old mid → ReadsOnly mid new → KeepsVersion t p old new
+version_kept : (t : Tree) (p : Parameters) (old mid new : DiskState) → IsFitting t p → IsOpened t p old mid
+    → ReadsOnly mid new → KeepsVersion t p old new
 version_kept t p old mid new fitting opened reads =
     let one = λ (image : List ℕ). old.crash_images image ⊎ Represents image t p in
     record {
       stands = inl (stands_reading mid new t p reads opened.stands);
       crash = LeavesOnly-trans old mid new one opened.crash
-          (LeavesOnly-weaken mid new mid.crash_images one (λ image left. inr (standing_represents t p image fitting (opened.stands.durable image left ∙ opened.stands.layout_is))) reads.leaves);
+          (LeavesOnly-weaken mid new mid.crash_images one
+          (λ image left. inr (standing_represents t p image fitting
+          (opened.stands.durable image left ∙ opened.stands.layout_is))) reads.leaves);
     }
 
 -- what stands behind the opening of the image and the upgrade
-tree_upgraded : (t : Tree) (p : Parameters) (old mid new : DiskState) (result : Result (Unit {0}) ApplyFault) → IsFitting t p → IsOpened t p old mid → UpgradesStanding t p mid new result
-    → (result ≡ Err apply.Stopped → ⊥) → new.faults ≡ apply_faults_after old.faults result → UpgradesTree t p (status_of apply_status result) old new
+tree_upgraded : (t : Tree) (p : Parameters) (old mid new : DiskState) (result : Result (Unit {0}) ApplyFault)
+    → IsFitting t p → IsOpened t p old mid → UpgradesStanding t p mid new result
+    → (result ≡ Err apply.Stopped → ⊥) → new.faults ≡ apply_faults_after old.faults result
+    → UpgradesTree t p (status_of apply_status result) old new
 tree_upgraded t p old mid new result fitting opened upgraded ran count =
     let either = λ (image : List ℕ). old.crash_images image ⊎ RepresentsEither t p image in
     let writes = writes_behind p.version (slots_upgraded p t) in
@@ -196,15 +256,21 @@ tree_upgraded t p old mid new result fitting opened upgraded ran count =
     record {
       upgraded = λ e. when_done result e upgraded.stands;
       crash = LeavesOnly-trans old mid new either
-          (LeavesOnly-weaken old mid (λ image. old.crash_images image ⊎ Represents image t p) either (λ image one. ⊎_elim (λ left. inl left) (λ represents. inr (inl represents)) one) opened.crash)
+          (LeavesOnly-weaken old mid (λ image. old.crash_images image ⊎ Represents image t p) either
+          (λ image one. ⊎_elim (λ left. inl left) (λ represents. inr (inl represents)) one) opened.crash)
           (LeavesOnly-weaken mid new (RepresentsEither t p) either (λ image represents. inr represents) upgraded.crash);
       reads = upgraded.reads;
       no_memory = λ e. version_kept t p old mid new fitting opened (upgraded.no_memory (when_no_memory result e));
       counts = record {
-        done = λ e. made_then old mid new (opening_writes p.slots old.bytes) (opening_syncs p.slots old.bytes) writes syncs opened.counts (when_done result e upgraded.made);
-        no_memory = λ e. inl (made_as old new (opening_writes p.slots old.bytes + 0) (opening_writes p.slots old.bytes) (opening_syncs p.slots old.bytes + 0) (opening_syncs p.slots old.bytes) (omega arith) (omega arith)
-            (made_then old mid new (opening_writes p.slots old.bytes) (opening_syncs p.slots old.bytes) 0 0 opened.counts (made_reading mid new (upgraded.no_memory (when_no_memory result e)))));
-        limit = at_most_then old mid new (opening_writes p.slots old.bytes) (opening_syncs p.slots old.bytes) writes syncs opened.counts upgraded.limit;
+        done = λ e. made_then old mid new (opening_writes p.slots old.bytes)
+            (opening_syncs p.slots old.bytes) writes syncs opened.counts (when_done result e upgraded.made);
+        no_memory = λ e. inl (made_as old new (opening_writes p.slots old.bytes + 0) (opening_writes p.slots old.bytes)
+            (opening_syncs p.slots old.bytes + 0) (opening_syncs p.slots old.bytes) (omega arith) (omega arith)
+            (made_then old mid new (opening_writes p.slots old.bytes)
+            (opening_syncs p.slots old.bytes) 0 0
+            opened.counts (made_reading mid new (upgraded.no_memory (when_no_memory result e)))));
+        limit = at_most_then old mid new (opening_writes p.slots old.bytes)
+            (opening_syncs p.slots old.bytes) writes syncs opened.counts upgraded.limit;
       };
       quiet = λ two empty whole.
           let opening = opened.unwritten empty in
@@ -213,7 +279,8 @@ tree_upgraded t p old mid new result fitting opened upgraded ran count =
       complete = done_or_lacks result old.faults new.faults ran count;
     }
 
-module _ {D R W : Type 0} (disk_of : D → DiskState) (sound : (disk : D) → disks.IsObservable (disk_of disk) → IsSound (disk_of disk))
+module _ {D R W : Type 0} (disk_of : D → DiskState) (sound : (disk : D) → disks.IsObservable (disk_of disk)
+    → IsSound (disk_of disk))
     (disk : D) (store store_new : StoreState D) (source : R) (sink : W) (result : Result (Unit {0}) ApplyFault)
     (attached : IsAttached disk_of (disk_of disk) store) (upgrades : Upgrades disk_of store store_new result) where
   -- the store was not stopped
@@ -223,22 +290,38 @@ module _ {D R W : Type 0} (disk_of : D → DiskState) (sound : (disk : D) → di
   count : (disk_of store_new.disk).faults ≡ apply_faults_after (disk_of disk).faults result
   count = upgrades.faults ∙ ap (λ (n : ℕ). apply_faults_after n result) attached.faults
 
-  pub upgrade_outside : (left : SourceState) (written : SinkState) → KeepsOutside (status_of apply_status result) (disk_of disk) (disk_of store_new.disk) left left written written
-  upgrade_outside left written = outside_by result (disk_of disk) (disk_of store_new.disk) left written ran (keeps_then (disk_of disk) (disk_of store.disk) (disk_of store_new.disk) attached.kept upgrades.kept) count
+  pub upgrade_outside : (left : SourceState) (written : SinkState)
+      → KeepsOutside (status_of apply_status result) (disk_of disk) (disk_of store_new.disk) left left written written
+  upgrade_outside left written = outside_by result (disk_of disk) (disk_of store_new.disk) left written ran
+      (keeps_then (disk_of disk) (disk_of store.disk) (disk_of store_new.disk) attached.kept upgrades.kept) count
 
-  standing : disks.IsObservable (disk_of disk) → UpgradesStanding store.tree store.params (disk_of store.disk) (disk_of store_new.disk) result
+  standing : disks.IsObservable (disk_of disk)
+      → UpgradesStanding store.tree store.params (disk_of store.disk) (disk_of store_new.disk) result
   standing o = by store.params.version refl
     where
-      by : (version : Version) → store.params.version ≡ version → UpgradesStanding store.tree store.params (disk_of store.disk) (disk_of store_new.disk) result
-      by One one = standing_one store.tree store.params (disk_of store.disk) (disk_of store_new.disk) store_new.is_stopped result one (upgrades.observed (attached.kept.observable ∙ o) attached.runs one)
+      by : (version : Version) → store.params.version ≡ version
+          → UpgradesStanding store.tree store.params (disk_of store.disk) (disk_of store_new.disk) result
+      by One one = standing_one store.tree store.params (disk_of store.disk)
+          (disk_of store_new.disk) store_new.is_stopped result one
+          (upgrades.observed (attached.kept.observable ∙ o) attached.runs one)
       by Two two =
           let idle = upgrades.idle attached.runs two in
-          let there = standing_two store.tree store.params (disk_of store.disk) (sound store.disk (attached.kept.observable ∙ o)) attached.fitting (attached.observed o).stands two in
-          subst (λ (r : Result (Unit {0}) ApplyFault). UpgradesStanding store.tree store.params (disk_of store.disk) (disk_of store_new.disk) r) (sym idle.0)
-          (subst (λ (s : StoreState D). UpgradesStanding store.tree store.params (disk_of store.disk) (disk_of s.disk) (Ok tt)) (sym idle.1) there)
+          let there = standing_two store.tree store.params (disk_of store.disk)
+          (sound store.disk (attached.kept.observable ∙ o)) attached.fitting (attached.observed o).stands two in
+          subst (λ (r : Result (Unit {0}) ApplyFault). UpgradesStanding store.tree store.params (disk_of store.disk)
+          (disk_of store_new.disk) r) (sym idle.0)
+          (subst (λ (s : StoreState D). UpgradesStanding store.tree store.params (disk_of store.disk) (disk_of s.disk)
+          (Ok tt)) (sym idle.1) there)
 
   -- The call upgraded a store.
-  pub upgrade_answered : IsUpgrade disk_of (outside_of disk source sink) (record { status = status_of apply_status result; done = done_of_work (status_of apply_status result); disk = store_new.disk; source = source; sink = sink })
+  pub upgrade_answered : IsUpgrade disk_of (outside_of disk source sink)
+      (record {
+        status = status_of apply_status result;
+        done = done_of_work (status_of apply_status result);
+        disk = store_new.disk;
+        source = source;
+        sink = sink;
+      })
   upgrade_answered =
       let old = disk_of disk in
       let mid = disk_of store.disk in
@@ -259,12 +342,18 @@ module _ {D R W : Type 0} (disk_of : D → DiskState) (sound : (disk : D) → di
             only = λ e. absurd (image_kept result (subst IsRefusedImage (sym e) refl));
             always = λ damaged. absurd (damaged.no_tree o store.tree store.params (attached.observed o).represents);
           };
-          represented = λ e. record { tree = store.tree; params = store.params; represents = (attached.observed o).represents };
+          represented = λ e. record {
+            tree = store.tree;
+            params = store.params;
+            represents = (attached.observed o).represents;
+          };
           nothing = λ none. absurd (none store.tree store.params (attached.observed o).represents);
           upgrades = λ t p represents.
               let opened = attached.observed o in
               let same = images_tell old.bytes store.tree t store.params p opened.represents represents in
-              let there = tree_upgraded store.tree store.params old mid new result attached.fitting opened (standing o) ran count in
-              subst (λ (q : Parameters). UpgradesTree t q status old new) same.1 (subst (λ (u : Tree). UpgradesTree u store.params status old new) same.0 there);
+              let there = tree_upgraded store.tree store.params old mid new result attached.fitting opened
+              (standing o) ran count in
+              subst (λ (q : Parameters). UpgradesTree t q status old new)
+              same.1 (subst (λ (u : Tree). UpgradesTree u store.params status old new) same.0 there);
         };
       }

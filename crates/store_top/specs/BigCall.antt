@@ -21,19 +21,25 @@ use Rattle.image_subcommands.specs.Outside.{Outside, IsIdle}
 use Rattle.image_check.specs.Standing.{RepresentsSome}
 use Rattle.store_top.specs.Promises.{PromisesImage, PromisesCrashes}
 use Rattle.store_top.specs.Runs.{IsUnchanged}
-use Rattle.image_subcommands.specs.Statuses.{Subcommand as words, IsStatusOf, IsSummed, IsRefusedImage, IsPastHeader, IsBetweenLines, MayComeFirst, ComesExactly}
+use Rattle.image_subcommands.specs.Statuses.{Subcommand as words, IsStatusOf, IsSummed, IsRefusedImage, IsPastHeader}
+use Rattle.image_subcommands.specs.Statuses.{IsBetweenLines, MayComeFirst, ComesExactly}
 
 module _ {D R W : Type 0} (disk_of : D → DiskState) (sink_of : W → SinkState) where
   -- Commands over an image that represents the tree t.
-  pub record GeneratesFrom (number count : ℕ) (t : Tree) (p : Parameters) (before : Outside D R W) (after : Outcome D R W) : Type 0 where
-    pub image : PromisesImage after.status after.done (generated_trees t number count p) (disk_of before.disk) (disk_of after.disk) p
+  pub record GeneratesFrom (number count : ℕ) (t : Tree) (p : Parameters) (before : Outside D R W)
+      (after : Outcome D R W) : Type 0 where
+    pub image : PromisesImage after.status after.done (generated_trees t number count p)
+        (disk_of before.disk) (disk_of after.disk) p
     -- the writes and syncs are those of a run whose lines ask for these commands
-    pub counts : CountsRun after.status after.done (generated_trees t number count p) p (disk_of before.disk) (disk_of after.disk)
+    pub counts : CountsRun after.status after.done (generated_trees t number count p) p
+        (disk_of before.disk) (disk_of after.disk)
     pub quiet : HasEmptyJournal p.slots (disk_of before.disk).bytes → (after.status ≡ statuses.DiskFault → ⊥)
-        → IsUnchanged (generated_trees t number count p) after.done → IsUnwritten (disk_of before.disk) (disk_of after.disk)
+        → IsUnchanged (generated_trees t number count p) after.done
+        → IsUnwritten (disk_of before.disk) (disk_of after.disk)
     -- the four lines are those of the replies to all commands, and of the tree after the last
     pub summary : IsSummed after.status → sinks.IsObservable (sink_of before.sink)
-        → PrintsSummary after.status (summary_text (generated_replies t number count p) (generated_trees t number count p count) p) (sink_of before.sink) (sink_of after.sink)
+        → PrintsSummary after.status (summary_text (generated_replies t number count p)
+        (generated_trees t number count p count) p) (sink_of before.sink) (sink_of after.sink)
     -- all is done where no call failed and memory was there
     pub complete : (Rose (disk_of before.disk).faults (disk_of after.disk).faults → ⊥)
         → (Rose (sink_of before.sink).faults (sink_of after.sink).faults → ⊥)
@@ -51,11 +57,14 @@ module _ {D R W : Type 0} (disk_of : D → DiskState) (sink_of : W → SinkState
     pub damaged : ComesExactly statuses.Damaged (IsDamaged (disk_of before.disk)) MayComeFirst after.status
     pub represented : IsBetweenLines after.status → RepresentsSome (disk_of before.disk)
     -- what stands then, where the image is none or damaged
-    pub nothing : ((t : Tree) (p : Parameters) → Represents (disk_of before.disk).bytes t p → ⊥) → GeneratesNothing before after
+    pub nothing : ((t : Tree) (p : Parameters) → Represents (disk_of before.disk).bytes t p → ⊥)
+        → GeneratesNothing before after
     -- and where it represents a tree
-    pub runs : (t : Tree) (p : Parameters) → Represents (disk_of before.disk).bytes t p → GeneratesFrom number count t p before after
+    pub runs : (t : Tree) (p : Parameters) → Represents (disk_of before.disk).bytes t p
+        → GeneratesFrom number count t p before after
     pub crashes : (t : Tree) (p : Parameters) → MayLeaveOnly (disk_of before.disk) (λ image. Represents image t p)
-        → PromisesCrashes after.status after.done (generated_trees t number count p) (disk_of before.disk) (disk_of after.disk) p
+        → PromisesCrashes after.status after.done (generated_trees t number count p)
+        (disk_of before.disk) (disk_of after.disk) p
 
   pub record IsBig (number count : ℕ) (before : Outside D R W) (after : Outcome D R W) : Type 0 where
     -- how it ends

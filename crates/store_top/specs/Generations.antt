@@ -1,12 +1,15 @@
--- Commands that a number gives: the trees and replies that they make one after another, and the four lines that sum them up.
-use Rattle.std.specs.Prelude.{◌≡◌, ◌≤◌, ◌<◌, ◌^◌, ◌+◌, ℕ, IsTrue, Result, Ok, zero, suc, Bool, true, false, not, List, [], ◌∷◌, ◌++◌, length, take, codes}
+-- Commands that a number gives: the trees and replies that they make one after another, and the four lines that sum
+-- them up.
+use Rattle.std.specs.Prelude.{◌≡◌, ◌≤◌, ◌<◌, ◌^◌, ◌+◌, ℕ, IsTrue, Result, Ok, zero, suc, Bool, true, false, not, List}
+use Rattle.std.specs.Prelude.{[], ◌∷◌, ◌++◌, length, take, codes}
 use Rattle.std.specs.List.{filter}
 use Rattle.std.specs.Fmt.{decimal}
 use Rattle.store_model.specs.Parameters.{Parameters}
 use Rattle.store_model.specs.Trees.{Tree}
 use Rattle.store_model.specs.Commands.{Command, Reply, line, reply_text}
 use Rattle.store_model.specs.Commands.Command.{Space, Digest}
-use Rattle.store_model.specs.Commands.Reply.{Acknowledged, Content, Listing, AttributeListing, PagesUsed, ImageDigest, Refused}
+use Rattle.store_model.specs.Commands.Reply.{Acknowledged, Content, Listing, AttributeListing, PagesUsed, ImageDigest}
+use Rattle.store_model.specs.Commands.Reply.{Refused}
 use Rattle.store_model.specs.Steps.{step}
 use Rattle.store_model.specs.Scripts.{replies_by, tree_by}
 use Rattle.store_model.specs.declared.refusal.Refusal.{Refusal}
@@ -65,7 +68,8 @@ counts_text answered refused = line (codes "ok " ++ decimal answered) ++ line (c
 
 -- the four lines: these counts, and what `space` and `digest` answer of the tree that is left
 abbrev pub summary_text : List Reply → Tree → Parameters → List ℕ
-summary_text replies t p = counts_text (count_answered replies) (count_refused replies) ++ reply_text (step t Space p).reply ++ reply_text (step t Digest p).reply
+summary_text replies t p = counts_text (count_answered replies) (count_refused replies)
+    ++ reply_text (step t Space p).reply ++ reply_text (step t Digest p).reply
 
 -- The summary was printed, or where the sink failed a front of it.
 pub record PrintsSummary (status : Status) (text : List ℕ) (old new : SinkState) : Type 0 where
@@ -74,8 +78,10 @@ pub record PrintsSummary (status : Status) (text : List ℕ) (old new : SinkStat
 
 -- ---- commands from a store on
 
--- Commands of a number were carried out from a store on, so many of them, and summed up where all were; the call ended so.
-pub record AnswersGenerated {D W : Type 0} (disk_of : D → DiskState) (sink_of : W → SinkState) (number count : ℕ) (status : Status) (done : ℕ)
+-- Commands of a number were carried out from a store on, so many of them, and summed up where all were; the call
+-- ended so.
+pub record AnswersGenerated {D W : Type 0} (disk_of : D → DiskState) (sink_of : W → SinkState) (number count : ℕ)
+    (status : Status) (done : ℕ)
     (store store_new : StoreState D) (sink sink_new : W) : Type 0 where
   pub ends : IsEndOf words.Big status
   pub all_done : IsSummed status → done ≡ count
@@ -86,8 +92,11 @@ pub record AnswersGenerated {D W : Type 0} (disk_of : D → DiskState) (sink_of 
   pub sink_faults : (sink_of sink_new).faults ≡ sink_faults_by status (sink_of sink).faults
   pub silent : (IsSummed status → ⊥) → sink_new ≡ sink
   pub summary : IsSummed status → sinks.IsObservable (sink_of sink) → disks.IsObservable (disk_of store.disk)
-      → PrintsSummary status (summary_text (generated_replies store.tree number count store.params) (generated_trees store.tree number count store.params count) store.params) (sink_of sink) (sink_of sink_new)
-  pub changes : disks.IsObservable (disk_of store.disk) → ChangesByLines status done (generated_trees store.tree number count store.params) store.params (disk_of store.disk) (disk_of store_new.disk)
+      → PrintsSummary status (summary_text (generated_replies store.tree number count store.params)
+      (generated_trees store.tree number count store.params count) store.params) (sink_of sink) (sink_of sink_new)
+  pub changes : disks.IsObservable (disk_of store.disk)
+      → ChangesByLines status done (generated_trees store.tree number count store.params)
+      store.params (disk_of store.disk) (disk_of store_new.disk)
 
 -- ---- such commands as a work
 
@@ -102,7 +111,8 @@ module _ (start : Start) where
     pub left_is : done + now.left ≡ first.left
     pub state_is : now.generator ≡ state_after first.generator done
     pub bounded : now.refused ≤ done
-    pub refused_is : IsTrue start.tells → now.refused ≡ count_refused (generated_replies start.tree first.generator done start.params)
+    pub refused_is : IsTrue start.tells → now.refused
+        ≡ count_refused (generated_replies start.tree first.generator done start.params)
 
   -- A command was drawn, and is not answered yet.
   pub record GeneratedDue (first now : Generated) (done : ℕ) (asked : Result orders.Command Refusal) : Type 0 where
@@ -110,7 +120,8 @@ module _ (start : Start) where
     pub left_is : done + 1 + now.left ≡ first.left
     pub state_is : now.generator ≡ state_after first.generator (done + 1)
     pub bounded : now.refused ≤ done
-    pub refused_is : IsTrue start.tells → now.refused ≡ count_refused (generated_replies start.tree first.generator done start.params)
+    pub refused_is : IsTrue start.tells → now.refused
+        ≡ count_refused (generated_replies start.tree first.generator done start.params)
     pub asked_is : reading_of asked ≡ Ok (generated first.generator done)
 
   -- The commands ended so, with so many carried out: with the last of them, or by a fault.

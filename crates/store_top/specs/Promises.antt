@@ -38,8 +38,8 @@ pub record PromisesReplies (status : Status) (done : ℕ) (texts : List (List �
   -- so they were but for the last of them, and of its reply there is a part
   pub in_part : status ≡ statuses.SinkFault → WroteInPart done texts written
 
--- The lines that were carried out, whatever the sink tells. `taken` is what was taken from the source and `left` what is left
--- there.
+-- The lines that were carried out, whatever the sink tells. `taken` is what was taken from the source and `left` what
+-- is left there.
 pub record CountsReplies (status : Status) (done : ℕ) (texts : List (List ℕ)) (taken left : List ℕ) : Type 0 where
   -- the source is at its end, and each line was carried out
   pub all : status ≡ statuses.Done → (left ≡ []) × (done ≡ length texts)
@@ -52,25 +52,30 @@ pub record CountsReplies (status : Status) (done : ℕ) (texts : List (List ℕ)
   pub some_line : status ≡ statuses.SinkFault → 1 ≤ done
 
 -- The image, on a disk that was in one state before the call and is in another after it.
-pub record PromisesImage (status : Status) (done : ℕ) (trees : ℕ → Tree) (old new : DiskState) (p : Parameters) : Type 0 where
+pub record PromisesImage (status : Status) (done : ℕ) (trees : ℕ → Tree) (old new : DiskState)
+    (p : Parameters) : Type 0 where
   -- between two lines it is the layout of the tree after the lines carried out, and durable
   pub between : IsBetweenLines status → Stands new (trees done) p
   -- for want of memory it is so too, or nothing was done
   pub no_memory : status ≡ statuses.NoMemory → Stands new (trees done) p ⊎ ((done ≡ 0) × IsOnlySynced old new)
   -- where the disk failed the image represents the tree before or after the line in progress
-  pub fault : status ≡ statuses.DiskFault → Represents new.bytes (trees done) p ⊎ Represents new.bytes (trees (done + 1)) p
+  pub fault : status ≡ statuses.DiskFault → Represents new.bytes (trees done) p
+      ⊎ Represents new.bytes (trees (done + 1)) p
 
 -- the image represents one of the trees up to a number
 abbrev pub RepresentsOneOf : (ℕ → Tree) → ℕ → Parameters → List ℕ → Type 0
 RepresentsOneOf trees last p image = (k : ℕ) × (k ≤ last) × Represents image (trees k) p
 
 -- What a crash at a moment of the call leaves, or at its return.
-pub record PromisesCrashes (status : Status) (done : ℕ) (trees : ℕ → Tree) (old new : DiskState) (p : Parameters) : Type 0 where
+pub record PromisesCrashes (status : Status) (done : ℕ) (trees : ℕ → Tree) (old new : DiskState)
+    (p : Parameters) : Type 0 where
   -- the image represents a tree after some of the lines carried out; where the disk failed, the line in progress may
   -- be among them
   pub during : (status ≡ statuses.DiskFault → ⊥) → LeavesOnly old new (RepresentsOneOf trees done p)
   pub during_fault : status ≡ statuses.DiskFault → LeavesOnly old new (RepresentsOneOf trees (done + 1) p)
   -- at the return it is the very layout that a read gives, where that is promised
   pub between : IsBetweenLines status → IsDurable new
-  pub fault : status ≡ statuses.DiskFault → MayLeaveOnly new (λ image. Represents image (trees done) p ⊎ Represents image (trees (done + 1)) p)
-  pub no_memory : status ≡ statuses.NoMemory → Stands new (trees done) p ⊎ MayLeaveOnly new (λ image. Represents image (trees 0) p)
+  pub fault : status ≡ statuses.DiskFault
+      → MayLeaveOnly new (λ image. Represents image (trees done) p ⊎ Represents image (trees (done + 1)) p)
+  pub no_memory : status ≡ statuses.NoMemory → Stands new (trees done) p
+      ⊎ MayLeaveOnly new (λ image. Represents image (trees 0) p)

@@ -9,5 +9,7 @@ use Rattle.store_top.specs.Runs.{run_texts, run_trees}
 use Rattle.store_top.specs.ScriptCall.{AnswersScript}
 
 -- the lines of a script are answered, each as a command
-abbrev pub IsRun : {D R W : Type 0} → (D → DiskState) → (R → SourceState) → (W → SinkState) → Outside D R W → Outcome D R W → Type 0
-IsRun disk_of source_of sink_of before after = AnswersScript words.Run run_texts run_trees disk_of source_of sink_of before after
+abbrev pub IsRun : {D R W : Type 0} → (D → DiskState) → (R → SourceState) → (W → SinkState) → Outside D R W
+    → Outcome D R W → Type 0
+IsRun disk_of source_of sink_of before after =
+    AnswersScript words.Run run_texts run_trees disk_of source_of sink_of before after

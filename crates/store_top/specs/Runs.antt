@@ -1,5 +1,6 @@
 -- What answering a script does: the replies, their texts and the trees of its lines, and what a loop over them leaves.
-use Rattle.std.specs.Prelude.{◌≡◌, ◌⊎◌, ℕ, ◌+◌, ◌≤◌, true, false, List, [], ◌++◌, length, take, map, Result, Ok, Err, IfOk, nat_lt, if◌then◌else◌, Option, Some, None, ◌<◌, IsTrue, ◌↔◌, IsOk, IsOkAnd, ◌∷◌}
+use Rattle.std.specs.Prelude.{◌≡◌, ◌⊎◌, ℕ, ◌+◌, ◌≤◌, true, false, List, [], ◌++◌, length, take, map, Result, Ok, Err}
+use Rattle.std.specs.Prelude.{IfOk, nat_lt, if◌then◌else◌, Option, Some, None, ◌<◌, IsTrue, ◌↔◌, IsOk, IsOkAnd, ◌∷◌}
 use Rattle.store_model.specs.declared.refusal.Refusal.{Refusal}
 use Rattle.store_model.specs.Parameters.{Parameters}
 use Rattle.store_model.specs.Trees.{Tree}
@@ -57,8 +58,10 @@ pub record WritesReplies (status : Status) (done : ℕ) (texts : List (List ℕ)
   pub written_is : new.written ≡ old.written ++ written
   pub promised : PromisesReplies status done texts written
 
--- It took these bytes from the source and carried out so many lines, and these texts were written to a sink that tells it.
-pub record RepliesKept (status : Status) (done : ℕ) (texts : List (List ℕ)) (source_old source_new : SourceState) (sink_old sink_new : SinkState) : Type 0 where
+-- It took these bytes from the source and carried out so many lines, and these texts were written to a sink that
+-- tells it.
+pub record RepliesKept (status : Status) (done : ℕ) (texts : List (List ℕ)) (source_old source_new : SourceState)
+    (sink_old sink_new : SinkState) : Type 0 where
   pub taken : List ℕ
   pub taken_is : source_old.left ≡ taken ++ source_new.left
   pub counted : CountsReplies status done texts taken source_new.left
@@ -93,23 +96,27 @@ module _ {R Q : Type 0} (source_of : R → SourceState) (IsAsked : Q → List �
     pub next : sources.IsObservable (source_of old.source) → NextReading old new result
 
 -- A line was refused: the refusal is the reply, nothing was called, and nothing changed.
-pub record IsRefusedLine {S A : Type 0} (IsReply : A → Type 0) (old new : S) (result : Result A ApplyFault) : Type 0 where
+pub record IsRefusedLine {S A : Type 0} (IsReply : A → Type 0) (old new : S)
+    (result : Result A ApplyFault) : Type 0 where
   pub reply : IsOkAnd result IsReply
   pub same : new ≡ old
 
 module _ {D : Type 0} (disk_of : D → DiskState) where
   -- What a line asks for is answered: a command is carried out, and a refusal is the reply.
-  abbrev pub AnswersReading : Result model.Command Refusal → StoreState D → StoreState D → Result Reply ApplyFault → Type 0
+  abbrev pub AnswersReading : Result model.Command Refusal → StoreState D → StoreState D
+      → Result Reply ApplyFault → Type 0
   AnswersReading (Ok command) old new result = Applies disk_of command old new result
   AnswersReading (Err refusal) old new result = IsRefusedLine (λ reply. reply_of reply ≡ Refused refusal) old new result
 
 -- ---- all lines
 
 -- What so many lines did to an observable disk, over the trees of the run.
-pub record ChangesByLines (status : Status) (done : ℕ) (trees : ℕ → Tree) (p : Parameters) (old new : DiskState) : Type 0 where
+pub record ChangesByLines (status : Status) (done : ℕ) (trees : ℕ → Tree) (p : Parameters)
+    (old new : DiskState) : Type 0 where
   -- it stands at the tree after them; where the disk failed it represents that or the tree after the next line
   pub stands : (status ≡ statuses.DiskFault → ⊥) → Stands new (trees done) p
-  pub fault : status ≡ statuses.DiskFault → Represents new.bytes (trees done) p ⊎ Represents new.bytes (trees (done + 1)) p
+  pub fault : status ≡ statuses.DiskFault → Represents new.bytes (trees done) p
+      ⊎ Represents new.bytes (trees (done + 1)) p
   pub crashes : PromisesCrashes status done trees old new p
   -- lines that change nothing only read it; the others write and sync just the commits of the slots that differ
   pub quiet : (status ≡ statuses.DiskFault → ⊥) → IsUnchanged trees done → ReadsOnly old new

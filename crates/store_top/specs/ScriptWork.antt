@@ -33,14 +33,18 @@ module _ {R W : Type 0} (source_of : R → SourceState) (sink_of : W → SinkSta
 
   -- Between two lines: those before were answered.
   abbrev pub ScriptKept : Start → Script R W → Script R W → ℕ → Type 0
-  ScriptKept start first now done = LinesKept source_of sink_of (script_texts first start) (IsTrue start.tells) first.reader now.reader first.sink now.sink done
+  ScriptKept start first now done = LinesKept source_of sink_of (script_texts first start)
+      (IsTrue start.tells) first.reader now.reader first.sink now.sink done
 
   -- A line was read, and is not answered yet.
-  pub record ScriptDue (start : Start) (first now : Script R W) (done : ℕ) (asked : Result Command Refusal) : Type 0 where
+  pub record ScriptDue (start : Start) (first now : Script R W) (done : ℕ)
+      (asked : Result Command Refusal) : Type 0 where
     pub before : LineState R
     pub kept : ScriptKept start first (record { reader = before; sink = now.sink }) done
     pub reads : ReadsLine source_of IsAskedIn before now.reader (Ok (Some asked))
 
   -- The lines ended so, with so many carried out.
   abbrev pub ScriptEnds : Start → Script R W → Script R W → ℕ → Status → Type 0
-  ScriptEnds start first new done status = LinesEnd source_of sink_of words.Run (script_texts first start) (IsTrue start.tells) first.reader new.reader first.sink new.sink done status
+  ScriptEnds start first new done status =
+      LinesEnd source_of sink_of words.Run (script_texts first start)
+      (IsTrue start.tells) first.reader new.reader first.sink new.sink done status

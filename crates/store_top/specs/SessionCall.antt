@@ -9,5 +9,7 @@ use Rattle.store_top.specs.SessionRuns.{session_texts, session_trees}
 use Rattle.store_top.specs.ScriptCall.{AnswersScript}
 
 -- the lines of a script are answered, each as a call on sessions
-abbrev pub IsSession : {D R W : Type 0} → (D → DiskState) → (R → SourceState) → (W → SinkState) → Outside D R W → Outcome D R W → Type 0
-IsSession disk_of source_of sink_of before after = AnswersScript words.Session session_texts session_trees disk_of source_of sink_of before after
+abbrev pub IsSession : {D R W : Type 0} → (D → DiskState) → (R → SourceState) → (W → SinkState) → Outside D R W
+    → Outcome D R W → Type 0
+IsSession disk_of source_of sink_of before after =
+    AnswersScript words.Session session_texts session_trees disk_of source_of sink_of before after

@@ -40,16 +40,20 @@ told_in result = result_map_both session_answer_of (λ fault. fault) result
 
 module _ {D : Type 0} (state : D → DiskState) where
   -- A call on sessions is made, and what it answers is told; a call that is turned away is answered too.
-  pub record AnswersCall (call : SessionCall) (old new : SessionsState D) (result : Result SessionReply ApplyFault) : Type 0 where
+  pub record AnswersCall (call : SessionCall) (old new : SessionsState D)
+      (result : Result SessionReply ApplyFault) : Type 0 where
     pub ended : Result SessionReply SessionFault
     pub calls : CallsSessions state call session_answer_of old new ended
     pub told : told_in result ≡ told_of ended
 
   -- What a line asks for is answered: a call is made, and a refusal is the reply.
-  abbrev pub AnswersReadCall : Result SessionCall Refusal → SessionsState D → SessionsState D → Result SessionReply ApplyFault → Type 0
+  abbrev pub AnswersReadCall : Result SessionCall Refusal → SessionsState D → SessionsState D
+      → Result SessionReply ApplyFault → Type 0
   AnswersReadCall (Ok call) old new result = AnswersCall call old new result
-  AnswersReadCall (Err refusal) old new result = IsRefusedLine (λ reply. session_answer_of reply ≡ NotRead refusal) old new result
+  AnswersReadCall (Err refusal) old new result =
+      IsRefusedLine (λ reply. session_answer_of reply ≡ NotRead refusal) old new result
 
   -- so it is where a line was read
-  abbrev pub AnswersSessionLine : Result SessionLine Refusal → SessionsState D → SessionsState D → Result SessionReply ApplyFault → Type 0
+  abbrev pub AnswersSessionLine : Result SessionLine Refusal → SessionsState D → SessionsState D
+      → Result SessionReply ApplyFault → Type 0
   AnswersSessionLine asked old new result = AnswersReadCall (session_reading_of asked) old new result

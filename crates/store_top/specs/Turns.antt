@@ -1,8 +1,10 @@
 -- The turns of a loop over any work: what is asked for, what the work keeps, and what stands of the store.
 --
--- A work asks for one thing after another. What it tells, keeps and ends with are relations of its own, each over the work as it
--- was at first and as it is, and over how many turns were made; what the store does is said here, once for every work.
-use Rattle.std.specs.Prelude.{◌≡◌, ℕ, ◌+◌, ◌≤◌, ◌<◌, ◌^◌, Bool, true, false, IsTrue, Result, Ok, Err, Option, Some, None, IsOk}
+-- A work asks for one thing after another. What it tells, keeps and ends with are relations of its own, each over the
+-- work as it was at first and as it is, and over how many turns were made; what the store does is said here, once for
+-- every work.
+use Rattle.std.specs.Prelude.{◌≡◌, ℕ, ◌+◌, ◌≤◌, ◌<◌, ◌^◌, Bool, true, false, IsTrue, Result, Ok, Err, Option, Some}
+use Rattle.std.specs.Prelude.{None, IsOk}
 use Rattle.store_model.specs.Parameters.{Parameters}
 use Rattle.store_model.specs.Trees.{Tree}
 use Rattle.store_model.specs.Scripts.{answer_by}
@@ -68,7 +70,8 @@ pub record SparesDisk (status : Status) : Type 0 where
 module _ {M : Type 0} (Told : M → Type 0) (trees : M → Start → ℕ → Tree) where
   -- the reply is that of what was asked for, in the tree that stands there
   abbrev pub RepliesTo : Start → M → ℕ → Result Command Refusal → Reply → Type 0
-  RepliesTo start first done asked reply = Told first → IsTrue start.tells → reply_of reply ≡ (answer_by (trees first start done) (reading_of asked) start.params).reply
+  RepliesTo start first done asked reply = Told first → IsTrue start.tells
+      → reply_of reply ≡ (answer_by (trees first start done) (reading_of asked) start.params).reply
 
   module _ (Ends : Start → M → M → ℕ → Status → Type 0) where
     -- the work itself ends the turns
@@ -83,9 +86,11 @@ module _ {M : Type 0} (Told : M → Type 0) (trees : M → Start → ℕ → Tre
     IsTurn Kept start first new done (Err status) = Stops start first new done status
 
     module _ (Due : Start → M → M → ℕ → Result Command Refusal → Type 0) where
-      -- Something is asked for: the tree behind it is its step, its reply is due, and a fault of the store may end the turns here.
+      -- Something is asked for: the tree behind it is its step, its reply is due, and a fault of the store may end
+      -- the turns here.
       pub record Asks (start : Start) (first new : M) (done : ℕ) (asked : Result Command Refusal) : Type 0 where
-        pub after : Told first → IsTrue start.tells → trees first start (done + 1) ≡ (answer_by (trees first start done) (reading_of asked) start.params).tree
+        pub after : Told first → IsTrue start.tells
+            → trees first start (done + 1) ≡ (answer_by (trees first start done) (reading_of asked) start.params).tree
         pub due : Due start first new done asked
         pub cut : (fault : ApplyFault) → Ends start first new done (apply_status fault)
 
@@ -112,39 +117,47 @@ module _ {D : Type 0} (disk_of : D → DiskState) (Told : Type 0) (trees : ℕ �
     pub kept : KeepsDisk (disk_of first.disk) (disk_of now.disk)
     pub faults : (disk_of now.disk).faults ≡ (disk_of first.disk).faults
     pub tree : Told → disks.IsObservable (disk_of first.disk) → now.tree ≡ trees done
-    pub disk : Told → disks.IsObservable (disk_of first.disk) → DiskSoFar trees first.params done (disk_of first.disk) (disk_of now.disk)
+    pub disk : Told → disks.IsObservable (disk_of first.disk)
+        → DiskSoFar trees first.params done (disk_of first.disk) (disk_of now.disk)
 
   -- The turns ended so.
   pub record StoreEnds (status : Status) (done : ℕ) (first new : StoreState D) : Type 0 where
     pub kept : KeepsDisk (disk_of first.disk) (disk_of new.disk)
     pub faults : (disk_of new.disk).faults ≡ disk_faults_by status (disk_of first.disk).faults
-    pub changes : Told → disks.IsObservable (disk_of first.disk) → ChangesByLines status done trees first.params (disk_of first.disk) (disk_of new.disk)
+    pub changes : Told → disks.IsObservable (disk_of first.disk)
+        → ChangesByLines status done trees first.params (disk_of first.disk) (disk_of new.disk)
 
 -- ---- all turns
 
 module _ {Q S A : Type 0} (Answers : Q → S → S → Result A ApplyFault → Type 0) where
-  -- What is asked for is answered, in the place of a reply. Where nothing is, nothing is done, and that is told by `false`.
+  -- What is asked for is answered, in the place of a reply. Where nothing is, nothing is done, and that is told by
+  -- `false`.
   abbrev pub AnswersAsked : Option Q → S → S → A → Result Bool ApplyFault → Type 0
   AnswersAsked (Some asked) old new reply (Ok answered) = (answered ≡ true) × Answers asked old new (Ok reply)
   AnswersAsked (Some asked) old new reply (Err fault) = Answers asked old new (Err fault)
   AnswersAsked None old new reply result = (result ≡ Ok false) × (new ≡ old)
 
 -- a command that was read is carried out, and what was read as none is refused
-abbrev pub AnswersCommand : {D : Type 0} → (D → DiskState) → Result Command Refusal → StoreState D → StoreState D → Result Reply ApplyFault → Type 0
+abbrev pub AnswersCommand : {D : Type 0} → (D → DiskState) → Result Command Refusal → StoreState D → StoreState D
+    → Result Reply ApplyFault → Type 0
 AnswersCommand disk_of asked old new result = AnswersReading disk_of (reading_of asked) old new result
 
 module _ {D M : Type 0} (disk_of : D → DiskState) where
   -- A work of which nothing was asked yet, for this store.
-  pub record Begins (trees : M → Start → ℕ → Tree) (left : M → ℕ) (Live : M → Type 0) (Kept : Start → M → M → ℕ → Type 0) (store : StoreState D) (work : M) : Type 0 where
+  pub record Begins (trees : M → Start → ℕ → Tree) (left : M → ℕ) (Live : M → Type 0)
+      (Kept : Start → M → M → ℕ → Type 0) (store : StoreState D) (work : M) : Type 0 where
     pub tree : trees work (start_of disk_of store) 0 ≡ store.tree
     pub kept : Kept (start_of disk_of store) work work 0
     pub live : Live work
     pub fits : left work < 2 ^ 64
 
   -- All that a work asks for was answered, from a store on, or the call ended before, with so many turns made.
-  pub record AnswersAll (Told : M → Type 0) (trees : M → Start → ℕ → Tree) (Ends : Start → M → M → ℕ → Status → Type 0) (ended : Result (Unit {0}) Status) (done : ℕ)
+  pub record AnswersAll (Told : M → Type 0) (trees : M → Start → ℕ → Tree) (Ends : Start → M → M → ℕ → Status → Type 0)
+      (ended : Result (Unit {0}) Status) (done : ℕ)
       (store_old store_new : StoreState D) (work_old work_new : M) : Type 0 where
     pub work : Ends (start_of disk_of store_old) work_old work_new done (ended_status ended)
-    pub store : StoreEnds disk_of (Told work_old) (trees work_old (start_of disk_of store_old)) (ended_status ended) done store_old store_new
-    pub whole : IsOk ended → StoreSoFar disk_of (Told work_old) (trees work_old (start_of disk_of store_old)) store_old store_new done
+    pub store : StoreEnds disk_of (Told work_old) (trees work_old (start_of disk_of store_old))
+        (ended_status ended) done store_old store_new
+    pub whole : IsOk ended → StoreSoFar disk_of (Told work_old)
+        (trees work_old (start_of disk_of store_old)) store_old store_new done
     pub cut_short : ended_status ended ≡ statuses.Done → IsOk ended

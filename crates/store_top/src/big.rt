@@ -40,7 +40,8 @@ fn print_summary<W: Sink>(
     space: &Reply,
     digest: &Reply,
 ) -> Result<(), SinkFault>
-    ensures { IsPut (W.state sink.old) (W.state sink.new) (counts.now ++ reply_text (reply_of space.now) ++ reply_text (reply_of digest.now)) result }
+    ensures { IsPut (W.state sink.old) (W.state sink.new)
+        (counts.now ++ reply_text (reply_of space.now) ++ reply_text (reply_of digest.now)) result }
 {
     sink.put(counts.as_slice())?;
     write_reply(sink, space)?;
@@ -59,7 +60,8 @@ fn answer_generated<D: Disk, W: Sink>(
 ) -> Result<(), Status>
     requires ready { IsReady D.state store.old }
     requires none { done.old ≡ 0 }
-    ensures { AnswersGenerated D.state W.state number count (ended_status result) done.new store.old store.new sink.old sink.new }
+    ensures { AnswersGenerated D.state W.state number count
+        (ended_status result) done.new store.old store.new sink.old sink.new }
 {
     let mut work = Generated {
         generator: Generator::new(number),
@@ -88,7 +90,8 @@ pub fn big<D: Disk, R: Source, W: Sink>(
     sink: W,
 ) -> Outcome<D, R, W>
     ensures big { IsBig D.state W.state number count (outside_of disk source sink) result }
-    ensures outside { KeepsOutside result.status (D.state disk) (D.state result.disk) (R.state source) (R.state result.source) (W.state sink) (W.state result.sink) }
+    ensures outside { KeepsOutside result.status (D.state disk) (D.state result.disk)
+        (R.state source) (R.state result.source) (W.state sink) (W.state result.sink) }
 {
     let mut store = match Store::attach(alloc, disk) {
         Ok(store) => store,

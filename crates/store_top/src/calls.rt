@@ -18,15 +18,16 @@ use session_core::{Committed, SessionFault, Sessions};
 use store_core::ApplyFault;
 use store_model::Refusal;
 
-/// Answers what is asked for, in the place of a reply: a call is made on the sessions, and a refusal is the reply. `false`:
-/// nothing was asked for, and nothing is done.
+/// Answers what is asked for, in the place of a reply: a call is made on the sessions, and a refusal is the reply.
+/// `false`: nothing was asked for, and nothing is done.
 pub(crate) fn answer_asked<D: Disk>(
     sessions: &mut Sessions<D>,
     asked: Asked,
     line: &SessionLine,
     reply: &mut SessionReply,
 ) -> Result<bool, ApplyFault>
-    ensures { AnswersAsked (AnswersSessionLine D.state) (asked_for line.now asked) sessions.old sessions.new reply.new result }
+    ensures { AnswersAsked (AnswersSessionLine D.state)
+        (asked_for line.now asked) sessions.old sessions.new reply.new result }
 {
     match asked {
         Asked::Placed => {
@@ -41,14 +42,15 @@ pub(crate) fn answer_asked<D: Disk>(
     }
 }
 
-/// Makes the call that a line asks for, and puts its answer in the place of a reply, also where it is turned away. A fault
-/// of the store is the error.
+/// Makes the call that a line asks for, and puts its answer in the place of a reply, also where it is turned away. A
+/// fault of the store is the error.
 fn answer_line<D: Disk>(
     sessions: &mut Sessions<D>,
     line: &SessionLine,
     reply: &mut SessionReply,
 ) -> Result<(), ApplyFault>
-    ensures { AnswersCall D.state (call_of line.now) sessions.old sessions.new (in_place reply.new result) }
+    ensures { AnswersCall D.state (call_of line.now)
+        sessions.old sessions.new (in_place reply.new result) }
 {
     match call(sessions, line, reply) {
         Ok(()) => Ok(()),
@@ -56,13 +58,15 @@ fn answer_line<D: Disk>(
     }
 }
 
-/// Makes the call that a line asks for, and puts its answer in the place of a reply. After a fault some reply stands there.
+/// Makes the call that a line asks for, and puts its answer in the place of a reply. After a fault some reply stands
+/// there.
 fn call<D: Disk>(
     sessions: &mut Sessions<D>,
     line: &SessionLine,
     reply: &mut SessionReply,
 ) -> Result<(), SessionFault>
-    ensures { CallsSessions D.state (call_of line.now) session_answer_of sessions.old sessions.new (in_place reply.new result) }
+    ensures { CallsSessions D.state (call_of line.now) session_answer_of
+        sessions.old sessions.new (in_place reply.new result) }
 {
     match line {
         SessionLine::Begin => begin(sessions, reply),
@@ -76,7 +80,8 @@ fn call<D: Disk>(
 /// Begins a session. The reply is its number.
 #[inline(never)]
 fn begin<D: Disk>(sessions: &mut Sessions<D>, reply: &mut SessionReply) -> Result<(), SessionFault>
-    ensures { CallsSessions D.state Begin session_answer_of sessions.old sessions.new (in_place reply.new result) }
+    ensures { CallsSessions D.state Begin session_answer_of
+        sessions.old sessions.new (in_place reply.new result) }
 {
     *reply = SessionReply::Began(sessions.begin()?);
     Ok(())
@@ -89,7 +94,8 @@ fn ask<D: Disk>(
     question: &Question,
     reply: &mut SessionReply,
 ) -> Result<(), SessionFault>
-    ensures { CallsSessions D.state (Ask id (question_of question.now)) session_answer_of sessions.old sessions.new (in_place reply.new result) }
+    ensures { CallsSessions D.state (Ask id (question_of question.now)) session_answer_of
+        sessions.old sessions.new (in_place reply.new result) }
 {
     if let SessionReply::Answer(place) = reply {
         return sessions.ask_into(id, question, place);
@@ -105,7 +111,8 @@ fn ask_anew<D: Disk>(
     question: &Question,
     reply: &mut SessionReply,
 ) -> Result<(), SessionFault>
-    ensures { CallsSessions D.state (Ask id (question_of question.now)) session_answer_of sessions.old sessions.new (in_place reply.new result) }
+    ensures { CallsSessions D.state (Ask id (question_of question.now)) session_answer_of
+        sessions.old sessions.new (in_place reply.new result) }
 {
     *reply = SessionReply::Answer(sessions.ask(id, question)?);
     Ok(())
@@ -118,7 +125,8 @@ fn stage<D: Disk>(
     change: &Change,
     reply: &mut SessionReply,
 ) -> Result<(), SessionFault>
-    ensures { CallsSessions D.state (Stage id (change_of change.now)) session_answer_of sessions.old sessions.new (in_place reply.new result) }
+    ensures { CallsSessions D.state (Stage id (change_of change.now)) session_answer_of
+        sessions.old sessions.new (in_place reply.new result) }
 {
     sessions.stage(id, change)?;
     put_done(reply);
@@ -132,7 +140,8 @@ fn commit<D: Disk>(
     id: u32,
     reply: &mut SessionReply,
 ) -> Result<(), SessionFault>
-    ensures { CallsSessions D.state (Commit id) session_answer_of sessions.old sessions.new (in_place reply.new result) }
+    ensures { CallsSessions D.state (Commit id) session_answer_of
+        sessions.old sessions.new (in_place reply.new result) }
 {
     *reply = commit_reply(sessions.commit(id)?);
     Ok(())
@@ -144,7 +153,8 @@ fn leave<D: Disk>(
     id: u32,
     reply: &mut SessionReply,
 ) -> Result<(), SessionFault>
-    ensures { CallsSessions D.state (Leave id) session_answer_of sessions.old sessions.new (in_place reply.new result) }
+    ensures { CallsSessions D.state (Leave id) session_answer_of
+        sessions.old sessions.new (in_place reply.new result) }
 {
     sessions.drop_group(id)?;
     put_done(reply);

@@ -16,7 +16,8 @@ pub struct Script<R: Source, W> {
 
 impl<R: Source, W: Sink> Work for Script<R, W> {
     ghost use Rattle.script_lines.specs.LineState.{unread};
-    ghost use Rattle.store_top.specs.ScriptWork.{ScriptTold, ScriptLive, script_trees, ScriptKept, ScriptDue, ScriptEnds};
+    ghost use Rattle.store_top.specs.ScriptWork.{ScriptTold, ScriptLive, script_trees, ScriptKept, ScriptDue};
+    ghost use Rattle.store_top.specs.ScriptWork.{ScriptEnds};
 
     ghost told = { λ script. ScriptTold R.state W.state script };
 
@@ -28,9 +29,11 @@ impl<R: Source, W: Sink> Work for Script<R, W> {
 
     ghost kept = { λ start first now done. ScriptKept R.state W.state start first now done };
 
-    ghost due = { λ start first now done asked. ScriptDue R.state W.state start first now done asked };
+    ghost due = { λ start first now done asked.
+        ScriptDue R.state W.state start first now done asked };
 
-    ghost ends = { λ start first new done status. ScriptEnds R.state W.state start first new done status };
+    ghost ends = { λ start first new done status.
+        ScriptEnds R.state W.state start first new done status };
 
     fn next(&mut self, command: &mut Command) -> Result<Asked, Status> {
         match self.reader.next_line()? {

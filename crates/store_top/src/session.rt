@@ -27,9 +27,8 @@ use std::alloc::Global;
 use store_core::Store;
 use store_model::Refusal;
 
-/// Reads the next line, and says what it asks for. A call is put in the place of a line, and a command in it is read in a
-/// place of its own.
-/// `Source` and `TooLong`, as of `LineReader::next_line`: nothing is asked for behind them.
+/// Reads the next line, and says what it asks for. A call is put in the place of a line, and a command in it is read
+/// in a place of its own. `Source` and `TooLong`, as of `LineReader::next_line`: nothing is asked for behind them.
 fn next_asked<R: Source>(
     reader: &mut LineReader<R>,
     command: &mut Command,
@@ -45,8 +44,8 @@ fn next_asked<R: Source>(
     }
 }
 
-/// Answers each line of a script, before the next is read, and counts in `done` those that were carried out. `Err` has the
-/// status of a call that a fault ended.
+/// Answers each line of a script, before the next is read, and counts in `done` those that were carried out. `Err`
+/// has the status of a call that a fault ended.
 fn answer_lines<D: Disk, R: Source, W: Sink>(
     sessions: &mut Sessions<D>,
     script: &mut Script<R, W>,
@@ -56,7 +55,10 @@ fn answer_lines<D: Disk, R: Source, W: Sink>(
     requires begins { sessions.old.places ≡ no_places }
     requires unread { IsUnread script.old.reader }
     requires none { done.old ≡ 0 }
-    ensures { AnswersLines words.Session session_texts session_trees D.state R.state W.state (ended_status result) done.new sessions.old.store sessions.new.store script.old.reader script.new.reader script.old.sink script.new.sink }
+    ensures { AnswersLines words.Session session_texts session_trees
+        D.state R.state W.state (ended_status result)
+        done.new sessions.old.store sessions.new.store script.old.reader script.new.reader
+        script.old.sink script.new.sink }
 {
     let (mut command, mut line) = (Command::Space, SessionLine::Begin);
     let mut reply = SessionReply::Done;
@@ -76,7 +78,10 @@ fn answer_each<D: Disk, R: Source, W: Sink>(
     requires begins { sessions.old.places ≡ no_places }
     requires unread { IsUnread script.old.reader }
     requires none { done.old ≡ 0 }
-    ensures { AnswersLines words.Session session_texts session_trees D.state R.state W.state (ended_status result) done.new sessions.old.store sessions.new.store script.old.reader script.new.reader script.old.sink script.new.sink }
+    ensures { AnswersLines words.Session session_texts session_trees
+        D.state R.state W.state (ended_status result)
+        done.new sessions.old.store sessions.new.store script.old.reader script.new.reader
+        script.old.sink script.new.sink }
 {
     'lines: while answer_asked(
         sessions,
@@ -100,7 +105,8 @@ pub fn session<D: Disk, R: Source, W: Sink>(
     sink: W,
 ) -> Outcome<D, R, W>
     ensures session { IsSession D.state R.state W.state (outside_of disk source sink) result }
-    ensures outside { KeepsOutside result.status (D.state disk) (D.state result.disk) (R.state source) (R.state result.source) (W.state sink) (W.state result.sink) }
+    ensures outside { KeepsOutside result.status (D.state disk) (D.state result.disk)
+        (R.state source) (R.state result.source) (W.state sink) (W.state result.sink) }
 {
     let reader = match LineReader::new(alloc, source) {
         Ok(reader) => reader,

@@ -30,7 +30,8 @@ pub fn upgrade<D: Disk, R: Source, W: Sink>(
     sink: W,
 ) -> Outcome<D, R, W>
     ensures upgrade { IsUpgrade D.state (outside_of disk source sink) result }
-    ensures outside { KeepsOutside result.status (D.state disk) (D.state result.disk) (R.state source) (R.state result.source) (W.state sink) (W.state result.sink) }
+    ensures outside { KeepsOutside result.status (D.state disk) (D.state result.disk)
+        (R.state source) (R.state result.source) (W.state sink) (W.state result.sink) }
 {
     let mut store = match Store::attach(alloc, disk) {
         Ok(store) => store,

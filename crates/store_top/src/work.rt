@@ -73,15 +73,19 @@ pub trait Work {
     fn next(&mut self, command: &mut Command) -> Result<Asked, Status>
         requires { live self.old }
         ensures live { OnOk result (live self.new) }
-        ensures falls { IfOk (asked_in command.new result) (LeavesLess (left self.old) (left self.new)) }
-        ensures turn { (start : Start) (first : Self) (done : ℕ) → kept start first self.old done → IsNext told trees ends due start first self.new done (asked_in command.new result) };
+        ensures falls { IfOk (asked_in command.new result)
+            (LeavesLess (left self.old) (left self.new)) }
+        ensures turn { (start : Start) (first : Self) (done : ℕ) → kept start first self.old done
+            → IsNext told trees ends due start first self.new done (asked_in command.new result) };
 
     /// Takes the reply to what was asked for. `Err` has the status of a call that a fault of the work ended.
     fn answered(&mut self, reply: &Reply) -> Result<(), Status>
         requires { live self.old }
         ensures live { live self.new }
         ensures falls { left self.new ≤ left self.old }
-        ensures turn { (start : Start) (first : Self) (done : ℕ) (asked : Result Command Refusal) → due start first self.old done asked → RepliesTo told trees start first done asked reply.now
+        ensures turn { (start : Start) (first : Self) (done : ℕ) (asked : Result Command Refusal)
+            → due start first self.old done asked
+            → RepliesTo told trees start first done asked reply.now
             → IsTurn told trees ends kept start first self.new (done + 1) result };
 }
 
@@ -93,7 +97,8 @@ fn answer_asked<D: Disk>(
     command: &Command,
     reply: &mut Reply,
 ) -> Result<bool, ApplyFault>
-    ensures { AnswersAsked (AnswersCommand D.state) (asked_for command.now asked) store.old store.new reply.new result }
+    ensures { AnswersAsked (AnswersCommand D.state)
+        (asked_for command.now asked) store.old store.new reply.new result }
 {
     match asked {
         Asked::Placed => {
@@ -118,7 +123,8 @@ pub fn answer_all<J: Work, D: Disk>(
     requires ready { IsReady D.state store.old }
     requires begins { Begins D.state J.trees J.left J.live J.kept store.old work.old }
     requires none { done.old ≡ 0 }
-    ensures { AnswersAll D.state J.told J.trees J.ends result done.new store.old store.new work.old work.new }
+    ensures { AnswersAll D.state J.told J.trees J.ends result
+        done.new store.old store.new work.old work.new }
 {
     let (mut command, mut reply) = (Command::Space, Reply::Ok);
     answer_each(work, store, done, &mut command, &mut reply)
@@ -135,7 +141,8 @@ fn answer_each<J: Work, D: Disk>(
     requires ready { IsReady D.state store.old }
     requires begins { Begins D.state J.trees J.left J.live J.kept store.old work.old }
     requires none { done.old ≡ 0 }
-    ensures { AnswersAll D.state J.told J.trees J.ends result done.new store.old store.new work.old work.new }
+    ensures { AnswersAll D.state J.told J.trees J.ends result
+        done.new store.old store.new work.old work.new }
 {
     'turns: while answer_asked(store, work.next(command)?, command, reply)? {
         *done += 1;

@@ -16,13 +16,16 @@ use Rattle.tree_pairs.specs.TreeCalls.{HoldsTree, KeepsPairs}
 pub record TellsGrowth (from to : Path) (old new : PairsState) (result : Result Bool Fault) : Type 0 where
   pub faults : new.faults ≡ disk_faults_after old.faults result
   pub keeps : KeepsPairs old new
-  pub told : IsObservable old → (t : Tree) (p : Parameters) → HoldsTree old t p → IfOk result (λ grows. grows ≡ outgrows t from to)
+  pub told : IsObservable old → (t : Tree) (p : Parameters) → HoldsTree old t p
+      → IfOk result (λ grows. grows ≡ outgrows t from to)
 
 -- a call that moves one pair of a subtree
-pub record MovesPair {T : Type 0} (k : List ℕ) (from to : Path) (old new : PairsState) (result : Result T Fault) : Type 0 where
+pub record MovesPair {T : Type 0} (k : List ℕ) (from to : Path) (old new : PairsState)
+    (result : Result T Fault) : Type 0 where
   pub faults : new.faults ≡ disk_faults_after old.faults result
   pub observable : IsObservable old → OnOk result (IsObservable new)
-  pub moved : IsObservable old → (place : Path) (block : ℕ) (value : List ℕ) → IsTrue (is_place place) → is_at_or_inside place from ≡ true → block < 2 ^ 32 → k ≡ key place block
+  pub moved : IsObservable old → (place : Path) (block : ℕ) (value : List ℕ) → IsTrue (is_place place)
+      → is_at_or_inside place from ≡ true → block < 2 ^ 32 → k ≡ key place block
       → find key_cmp k old.pairs ≡ Some value → fits_field (replanted from to place) ≡ true
       → OnOk result (new.pairs ≡ put key_cmp (key (replanted from to place) block) value (without k old.pairs))
 
@@ -30,4 +33,5 @@ pub record MovesPair {T : Type 0} (k : List ℕ) (from to : Path) (old new : Pai
 pub record MovesSubtree {T : Type 0} (from to : Path) (old new : PairsState) (result : Result T Fault) : Type 0 where
   pub faults : new.faults ≡ disk_faults_after old.faults result
   pub observable : IsObservable old → OnOk result (IsObservable new)
-  pub moved : IsObservable old → IsTrue (is_path to) → (t : Tree) (p : Parameters) → HoldsTree old t p → refusal_of t (Rename from to) ≡ None → OnOk result (new.pairs ≡ pairs (next_tree t (Rename from to)) p)
+  pub moved : IsObservable old → IsTrue (is_path to) → (t : Tree) (p : Parameters) → HoldsTree old t p
+      → refusal_of t (Rename from to) ≡ None → OnOk result (new.pairs ≡ pairs (next_tree t (Rename from to)) p)

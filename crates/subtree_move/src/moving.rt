@@ -18,12 +18,13 @@ use tree_pairs::kind_of;
 /// Moves what stands at `from`, and all that lies below it, to `to`. Attributes move with their paths.
 ///
 /// It is refused, in this order: `Root` where either is the root, `Missing` where nothing stands at `from`, `Inside`
-/// where `to` lies below `from`, `Parent` where the parent of `to` is neither the root nor a directory, `Exists` where
-/// something stands at `to`, `Path` where a moved path, or an attribute of one, would have a field of more than 120
-/// bytes. Each is tested before a pair changes, so a refusal changes nothing. A fault of the pairs is handed on; nothing
-/// is promised of the pairs after it.
+/// where `to` lies below `from`, `Parent` where the parent of `to` is neither the root nor a directory, `Exists`
+/// where something stands at `to`, `Path` where a moved path, or an attribute of one, would have a field of more than
+/// 120 bytes. Each is tested before a pair changes, so a refusal changes nothing. A fault of the pairs is handed on;
+/// nothing is promised of the pairs after it.
 pub fn rename<P: OrderedPairs>(pairs: &mut P, from: &Path, to: &Path) -> Result<Answer<()>, Fault>
-    ensures call { CarriesOut (λ _. Acknowledged) (Rename from.now to.now) (P.state pairs.old) (P.state pairs.new) result }
+    ensures call { CarriesOut (λ _. Acknowledged) (Rename from.now to.now) (P.state pairs.old)
+        (P.state pairs.new) result }
     ensures follows { P.follows pairs.old pairs.new }
 {
     if let Some(refusal) = refusal_to_rename(pairs, from, to)? {
@@ -39,7 +40,8 @@ fn refusal_to_rename<P: OrderedPairs>(
     from: &Path,
     to: &Path,
 ) -> Result<Option<Refusal>, Fault>
-    ensures call { TellsRefusal (Rename from.now to.now) (P.state pairs.old) (P.state pairs.new) result }
+    ensures call { TellsRefusal (Rename from.now to.now) (P.state pairs.old)
+        (P.state pairs.new) result }
     ensures valid { IsTrue (is_path to.now) }
     ensures follows { P.follows pairs.old pairs.new }
 {
@@ -94,7 +96,8 @@ fn move_subtree<P: OrderedPairs>(pairs: &mut P, from: &Path, to: &Path) -> Resul
 
 /// Moves one pair at `from` or below it.
 fn move_pair<P: OrderedPairs>(pairs: &mut P, key: &Key, from: &Path, to: &Path) -> Result<(), Fault>
-    ensures call { MovesPair key.now from.now to.now (P.state pairs.old) (P.state pairs.new) result }
+    ensures call { MovesPair key.now from.now to.now (P.state pairs.old)
+        (P.state pairs.new) result }
     ensures follows { P.follows pairs.old pairs.new }
 {
     let Some(moved) = replant(key, from, to) else {

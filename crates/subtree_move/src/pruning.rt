@@ -17,7 +17,8 @@ use tree_pairs::kind_of;
 /// It is refused, in this order: `Root` for the root, `Missing` where nothing stands there. A refusal changes nothing.
 /// A fault of the pairs is handed on; nothing is promised of the pairs after it.
 pub fn prune<P: OrderedPairs>(pairs: &mut P, path: &Path) -> Result<Answer<()>, Fault>
-    ensures call { CarriesOut (λ _. Acknowledged) (Prune path.now) (P.state pairs.old) (P.state pairs.new) result }
+    ensures call { CarriesOut (λ _. Acknowledged) (Prune path.now) (P.state pairs.old)
+        (P.state pairs.new) result }
     ensures follows { P.follows pairs.old pairs.new }
 {
     if let Some(refusal) = refusal_to_prune(pairs, path)? {

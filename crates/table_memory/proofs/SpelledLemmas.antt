@@ -20,8 +20,12 @@ label_with level lead index = record { level = level; lead = lead; index = index
 pub label_in-label_bytes : (l : Label) → IsLabel l → label_in (label_bytes l) ≡ l
 unfolding label_bytes label_with
 label_in-label_bytes l valid =
-    let lead : lead_in_label (take 125 (drop 1 (label_bytes l))) ≡ l.lead = ap lead_in_label (sym (lead_bytes-spelled l (label_bytes l) valid refl)) ∙ lead_in-lead_bytes l.lead in
+    let lead : lead_in_label (take 125 (drop 1 (label_bytes l))) ≡ l.lead =
+    ap lead_in_label (sym (lead_bytes-spelled l (label_bytes l) valid refl)) ∙ lead_in-lead_bytes l.lead in
     let few : length (to_be_bytes w32 l.index) ≤ 4 = omega arith in
-    let behind : take 4 (drop 126 (label_bytes l)) ≡ to_be_bytes w32 l.index = ap (take 4) (drop_at (lead_bytes l.lead) (to_be_bytes w32 l.index) 125 (length-lead_bytes l.lead valid.lead)) ∙ take_all 4 (to_be_bytes w32 l.index) few in
-    let index : from_be_bytes w32 (take 4 (drop 126 (label_bytes l))) ≡ l.index = ap (from_be_bytes w32) behind ∙ from_be_bytes-to_be_bytes_4 l.index valid.index in
+    let behind : take 4 (drop 126 (label_bytes l)) ≡ to_be_bytes w32 l.index =
+    ap (take 4) (drop_at (lead_bytes l.lead) (to_be_bytes w32 l.index) 125 (length-lead_bytes l.lead valid.lead))
+    ∙ take_all 4 (to_be_bytes w32 l.index) few in
+    let index : from_be_bytes w32 (take 4 (drop 126 (label_bytes l))) ≡ l.index =
+    ap (from_be_bytes w32) behind ∙ from_be_bytes-to_be_bytes_4 l.index valid.index in
     ap₂ (label_with l.level) lead index

@@ -22,13 +22,16 @@ abbrev pub lead_code : Coded Lead
 lead_code = code_by (Option (List ℕ)) (coded_option (coded_list coded_ℕ)) key_of_lead lead_of_key lead_again
 
 abbrev pub label_code : Coded Label
-label_code = code_by (ℕ × (Lead × ℕ)) (coded× coded_ℕ (coded× lead_code coded_ℕ)) (λ l. (l.level, (l.lead, l.index))) (λ p. record { level = p.0; lead = p.1.0; index = p.1.1 }) (λ _. refl)
+label_code = code_by (ℕ × (Lead × ℕ)) (coded× coded_ℕ (coded× lead_code coded_ℕ)) (λ l. (l.level, (l.lead, l.index)))
+    (λ p. record { level = p.0; lead = p.1.0; index = p.1.1 }) (λ _. refl)
 
 abbrev pub cell_code : Coded Cell
-cell_code = code_by (List ℕ × Option (List ℕ)) (coded× (coded_list coded_ℕ) (coded_option (coded_list coded_ℕ))) (λ c. (c.key, c.value)) (λ p. record { key = p.0; value = p.1 }) (λ _. refl)
+cell_code = code_by (List ℕ × Option (List ℕ)) (coded× (coded_list coded_ℕ) (coded_option (coded_list coded_ℕ)))
+    (λ c. (c.key, c.value)) (λ p. record { key = p.0; value = p.1 }) (λ _. refl)
 
 abbrev pub page_code : Coded Page
-page_code = code_by (Label × List Cell) (coded× label_code (coded_list cell_code)) (λ page. (page.label, page.cells)) (λ p. record { label = p.0; cells = p.1 }) (λ _. refl)
+page_code = code_by (Label × List Cell) (coded× label_code (coded_list cell_code)) (λ page. (page.label, page.cells))
+    (λ p. record { label = p.0; cells = p.1 }) (λ _. refl)
 
 abbrev pub remembered_code : Coded Remembered
 remembered_code = coded_list (coded_option (coded× label_code (coded_option page_code)))

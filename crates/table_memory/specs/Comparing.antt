@@ -13,10 +13,13 @@ use Rattle.table_memory.specs.declared.changed.ChangedSlots.{ChangedSlots}
 use Rattle.table_memory.specs.Differences.{AreDifferences}
 
 -- Slots that were written are compared with the table of a disk, and with what is kept of it.
-pub record FindsChanges (slots : ℕ) (written : List (ℕ × List ℕ)) (old new : DiskState) (cache : Kept) (result : Result ChangedSlots Fault) : Type 0 where
+pub record FindsChanges (slots : ℕ) (written : List (ℕ × List ℕ)) (old new : DiskState) (cache : Kept)
+    (result : Result ChangedSlots Fault) : Type 0 where
   pub kept : KeepsDisk old new
   pub cached : IsSlotCacheOf slots new cache
   pub faults : new.faults ≡ disk_faults_after old.faults result
   pub reads : IsObservable old → ReadsOnly old new
   pub rise : IfOk result (λ found. AreChanges slots (changes_of found.slots.items))
-  pub differ : IsObservable old → IfOk result (λ found. AreDifferences (table_slot slots old.bytes) (slot_over slots written old.bytes) slots (changes_of found.slots.items))
+  pub differ : IsObservable old
+      → IfOk result (λ found. AreDifferences (table_slot slots old.bytes) (slot_over slots written old.bytes) slots
+      (changes_of found.slots.items))

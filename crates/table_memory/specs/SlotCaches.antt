@@ -1,5 +1,6 @@
 -- Slots of a table that are kept in memory.
-use Rattle.std.specs.Prelude.{◌≡◌, ◌≢◌, ◌⊎◌, ℕ, ◌<◌, ◌≤◌, List, [], length, slice_index_or, Option, Some, Result, OnOk, IfOk, nat_eq}
+use Rattle.std.specs.Prelude.{◌≡◌, ◌≢◌, ◌⊎◌, ℕ, ◌<◌, ◌≤◌, List, [], length, slice_index_or, Option, Some, Result, OnOk}
+use Rattle.std.specs.Prelude.{IfOk, nat_eq}
 use Rattle.std.specs.Map.{lookup}
 use Rattle.store_base.specs.declared.fault.DiskFault.{DiskFault}
 use Rattle.store_model.specs.Parameters.{block_len}
@@ -46,23 +47,31 @@ KeepsNoMore old new = (i : ℕ) (slot : List ℕ) → kept_at new i ≡ Some slo
 
 -- no slot is kept but this one and those that were
 abbrev pub KeepsOne : Kept → Kept → ℕ → List ℕ → Type 0
-KeepsOne old new at slot = (i : ℕ) (other : List ℕ) → kept_at new i ≡ Some other → (kept_at old i ≡ Some other) ⊎ ((i ≡ at) × (other ≡ slot))
+KeepsOne old new at slot = (i : ℕ) (other : List ℕ) → kept_at new i ≡ Some other
+    → (kept_at old i ≡ Some other) ⊎ ((i ≡ at) × (other ≡ slot))
 
 -- what is kept of this slot are these bytes, and of each other slot what was
 abbrev pub Rewrites : Kept → Kept → ℕ → List ℕ → Type 0
-Rewrites old new at slot = (i : ℕ) (other : List ℕ) → kept_at new i ≡ Some other → ((i ≢ at) × (kept_at old i ≡ Some other)) ⊎ ((i ≡ at) × (other ≡ slot))
+Rewrites old new at slot = (i : ℕ) (other : List ℕ) → kept_at new i ≡ Some other
+    → ((i ≢ at) × (kept_at old i ≡ Some other)) ⊎ ((i ≡ at) × (other ≡ slot))
 
 -- slots with their new bytes, as a commit takes them
 abbrev pub changes_of : List (ℕ × List ℕ) → journal.Changes
-changes_of items = record { count = length items; slot = λ k. (slice_index_or items k (0, [])).0; bytes = λ k. (slice_index_or items k (0, [])).1 }
+changes_of items = record {
+  count = length items;
+  slot = λ k. (slice_index_or items k (0, [])).0;
+  bytes = λ k. (slice_index_or items k (0, [])).1;
+}
 
 -- The first n of the changed slots are kept with their new bytes, if they are, and of each other slot what was.
 abbrev pub RewritesFirst : ℕ → journal.Changes → Kept → Kept → Type 0
 RewritesFirst n changes old new = (i : ℕ) (other : List ℕ) → kept_at new i ≡ Some other
-    → (((k : ℕ) → k < n → changes.slot k ≢ i) × (kept_at old i ≡ Some other)) ⊎ ((k : ℕ) × (k < n) × (changes.slot k ≡ i) × (other ≡ changes.bytes k))
+    → (((k : ℕ) → k < n → changes.slot k ≢ i) × (kept_at old i ≡ Some other))
+    ⊎ ((k : ℕ) × (k < n) × (changes.slot k ≡ i) × (other ≡ changes.bytes k))
 
 -- A slot of the table of a disk is read into a buffer, from what is kept of it or else from the disk.
-pub record ReadsSlot (slots at : ℕ) (old new : DiskState) (kept : Kept) (buffer : List ℕ) {T : Type 0} (result : Result T DiskFault) : Type 0 where
+pub record ReadsSlot (slots at : ℕ) (old new : DiskState) (kept : Kept) (buffer : List ℕ) {T : Type 0}
+    (result : Result T DiskFault) : Type 0 where
   pub calls : AreCalls old new result
   pub reads : IsObservable old → ReadsOnly old new
   pub cached : IsSlotCacheOf slots new kept
@@ -75,7 +84,8 @@ pub record IsOfKept {T : Type 0} (kept : Kept) (at : ℕ) (IsOf : List ℕ → T
   pub is : IsOf slot told
 
 -- Something is told of a slot of the table of a disk, from what is kept of it or else from the disk.
-pub record TellsOfSlot {T : Type 0} (slots at : ℕ) (old new : DiskState) (kept : Kept) (IsOf : List ℕ → T → Type 0) (result : Result T DiskFault) : Type 0 where
+pub record TellsOfSlot {T : Type 0} (slots at : ℕ) (old new : DiskState) (kept : Kept) (IsOf : List ℕ → T → Type 0)
+    (result : Result T DiskFault) : Type 0 where
   pub calls : AreCalls old new result
   pub reads : IsObservable old → ReadsOnly old new
   pub cached : IsSlotCacheOf slots new kept

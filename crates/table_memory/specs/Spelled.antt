@@ -10,4 +10,8 @@ lead_in_label bytes = if slice_index bytes 0 == 0 then Start else Leader (drop 1
 
 -- the label that 130 bytes spell
 abbrev pub label_in : List ℕ → Label
-label_in bytes = record { level = slice_index bytes 0; lead = lead_in_label (take 125 (drop 1 bytes)); index = from_be_bytes w32 (take 4 (drop 126 bytes)) }
+label_in bytes = record {
+  level = slice_index bytes 0;
+  lead = lead_in_label (take 125 (drop 1 bytes));
+  index = from_be_bytes w32 (take 4 (drop 126 bytes));
+}

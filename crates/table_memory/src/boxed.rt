@@ -72,8 +72,14 @@ impl Boxed<Page> {
     /// Makes it the page of a label and so many cells, whose bytes are given. It takes no memory.
     pub fn refill(&mut self, label: &Label, count: u8, run: &[u8])
         requires packed { ArePacked label.now.level count run.now }
-        requires page { IsPage (record { label = label.now; cells = cells_in label.now.level count run.now }) }
-        ensures { self.new ≡ record { label = label.now; cells = cells_in label.now.level count run.now } }
+        requires page { IsPage (record {
+          label = label.now;
+          cells = cells_in label.now.level count run.now;
+        }) }
+        ensures { self.new ≡ record {
+          label = label.now;
+          cells = cells_in label.now.level count run.now;
+        } }
     {
         self.inside.refill(label, count, run);
     }

@@ -27,11 +27,15 @@ pub fn find_changes<D: Disk>(
 ) -> Result<ChangedSlots, Fault>
     requires in_range { slots ≤ slots_limit }
     requires size { (D.state disk.old).size ≡ image_len slots }
-    requires within { (i : ℕ) (slot : List ℕ) → touched_at written.old.entries i ≡ Some slot → i < slots }
-    requires filled { (i : ℕ) (slot : List ℕ) → touched_at written.old.entries i ≡ Some slot → length slot ≡ block_len }
+    requires within { (i : ℕ) (slot : List ℕ)
+        → touched_at written.old.entries i ≡ Some slot → i < slots }
+    requires filled { (i : ℕ) (slot : List ℕ) → touched_at written.old.entries i ≡ Some slot
+        → length slot ≡ block_len }
     requires cached { IsSlotCacheOf slots (D.state disk.old) cache.old }
-    ensures call { FindsChanges slots written.old.entries (D.state disk.old) (D.state disk.new) cache.new result }
-    ensures left { (i : ℕ) (slot : List ℕ) → touched_at written.new.entries i ≡ Some slot → touched_at written.old.entries i ≡ Some slot }
+    ensures call { FindsChanges slots written.old.entries (D.state disk.old)
+        (D.state disk.new) cache.new result }
+    ensures left { (i : ℕ) (slot : List ℕ) → touched_at written.new.entries i ≡ Some slot
+        → touched_at written.old.entries i ≡ Some slot }
 {
     let mut changed = Vec::with_capacity(alloc, written.len())?;
     while let Some((at, kept)) = written.pop_first() {

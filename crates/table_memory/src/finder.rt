@@ -96,7 +96,8 @@ impl<W: Draw> Finder<W> {
     /// Forgets the starts, where as many are kept as may be. It takes no memory.
     fn make_room(&mut self)
         ensures draw { self.new.draw ≡ self.old.draw }
-        ensures starts { (self.new.starts.items ≡ self.old.starts.items) ⊎ (self.new.starts.items ≡ []) }
+        ensures starts { (self.new.starts.items ≡ self.old.starts.items)
+            ⊎ (self.new.starts.items ≡ []) }
     {
         if self.starts.len() >= STARTS {
             self.starts.clear();

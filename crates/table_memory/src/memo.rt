@@ -4,7 +4,8 @@ ghost use Rattle.std.specs.Prelude.{◌≡◌, ◌<◌, ◌≤◌, [], Option, I
 ghost use Rattle.store_model.specs.Labels.{label_bytes};
 ghost use Rattle.store_model.specs.Labels.Lead.{Leader};
 ghost use Rattle.store_model.specs.Pages as model;
-ghost use Rattle.table_memory.specs.Memos.{checksum_from, checksum, memo_place, IsRemembered, KeepsPlaces, Remembers, RemembersMore, Renews};
+ghost use Rattle.table_memory.specs.Memos.{checksum_from, checksum, memo_place, IsRemembered, KeepsPlaces, Remembers};
+ghost use Rattle.table_memory.specs.Memos.{RemembersMore, Renews};
 
 use crate::boxed::{Boxed, on_heap};
 use crate::spares::Spares;
@@ -109,7 +110,8 @@ impl PageMemo {
     pub fn recall(&self, place: usize, label: &Label) -> Option<&Option<Boxed<Page>>>
         requires { place ≡ memo_place (label_bytes label.now) }
         ensures found { IfSome result (λ found. IsRemembered self.now label.now found.now) }
-        ensures all { (found : Option model.Page) → IsRemembered self.now label.now found → IsSome result }
+        ensures all { (found : Option model.Page)
+            → IsRemembered self.now label.now found → IsSome result }
     {
         let Some((kept, found)) = self.places.get(place)? else {
             return None;

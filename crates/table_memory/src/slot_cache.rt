@@ -3,7 +3,9 @@
 ghost use Rattle.std.specs.Prelude.{◌≡◌, ◌<◌, ◌≤◌, ℕ, List, [], Some, IfOk, IfSome, length};
 ghost use Rattle.std.specs.Bool.{OnTrue};
 ghost use Rattle.store_model.specs.Parameters.{image_len, slots_limit};
-ghost use Rattle.table_memory.specs.SlotCaches.{kept_at, KeepsAll, KeepsNoMore, KeepsOne, Rewrites, changes_of, RewritesFirst, most_kept, IsSlotCacheOf, ReadsSlot, IsOfKept, TellsOfSlot};
+ghost use Rattle.table_memory.specs.SlotCaches.{kept_at, KeepsAll, KeepsNoMore, KeepsOne, Rewrites, changes_of};
+ghost use Rattle.table_memory.specs.SlotCaches.{RewritesFirst, most_kept, IsSlotCacheOf, ReadsSlot, IsOfKept};
+ghost use Rattle.table_memory.specs.SlotCaches.{TellsOfSlot};
 
 use crate::boxed::Boxed;
 use crate::spares::Spares;
@@ -74,7 +76,8 @@ impl SlotCache {
 
     /// What is told of the slot by these bytes, where it is kept. It takes no memory.
     fn tell<T: Told>(&mut self, at: u32, wanted: &[u8]) -> Option<T>
-        ensures told { IfSome result (IsOfKept self.old at (λ slot told. T.of slot wanted.now told)) }
+        ensures told { IfSome result
+            (IsOfKept self.old at (λ slot told. T.of slot wanted.now told)) }
         ensures kept { KeepsAll self.old self.new }
     {
         let slot = self.slots.get(&at)?;
@@ -124,7 +127,8 @@ impl SlotCache {
     /// Gives the slots that are kept their new bytes; boxes that are left over are spared. It takes no memory but for
     /// these.
     pub fn rewrite_all(&mut self, changed: Vec<(u32, Boxed<Slot>)>, spares: &mut Spares<Slot>)
-        ensures { RewritesFirst (length changed.items) (changes_of changed.items) self.old self.new }
+        ensures { RewritesFirst (length changed.items)
+            (changes_of changed.items) self.old self.new }
     {
         for (at, slot) in changed {
             spares.take(self.rewrite(at, slot));
@@ -152,7 +156,8 @@ pub fn read_slot<D: Disk>(
     requires below { at < slots }
     requires size { (D.state disk.old).size ≡ image_len slots }
     requires cached { IsSlotCacheOf slots (D.state disk.old) cache.old }
-    ensures call { ReadsSlot slots at (D.state disk.old) (D.state disk.new) cache.new into.new result }
+    ensures call { ReadsSlot slots at (D.state disk.old)
+        (D.state disk.new) cache.new into.new result }
 {
     if cache.fetch(at, into) {
         return Ok(());
@@ -175,7 +180,8 @@ pub fn tell_slot<D: Disk, T: Told>(
     requires below { at < slots }
     requires size { (D.state disk.old).size ≡ image_len slots }
     requires cached { IsSlotCacheOf slots (D.state disk.old) cache.old }
-    ensures call { TellsOfSlot slots at (D.state disk.old) (D.state disk.new) cache.new (λ slot told. T.of slot wanted.now told) result }
+    ensures call { TellsOfSlot slots at (D.state disk.old)
+        (D.state disk.new) cache.new (λ slot told. T.of slot wanted.now told) result }
 {
     match cache.tell(at, wanted) {
         Some(told) => Ok(told),
@@ -195,7 +201,8 @@ fn load_and_tell<D: Disk, T: Told>(
     requires below { at < slots }
     requires size { (D.state disk.old).size ≡ image_len slots }
     requires cached { IsSlotCacheOf slots (D.state disk.old) cache.old }
-    ensures call { TellsOfSlot slots at (D.state disk.old) (D.state disk.new) cache.new (λ slot told. T.of slot wanted.now told) result }
+    ensures call { TellsOfSlot slots at (D.state disk.old)
+        (D.state disk.new) cache.new (λ slot told. T.of slot wanted.now told) result }
 {
     let Some(mut slot) = cache.give_up() else {
         return read_and_tell(disk, cache, slots, at, wanted);
@@ -220,7 +227,8 @@ fn read_and_tell<D: Disk, T: Told>(
     requires below { at < slots }
     requires size { (D.state disk.old).size ≡ image_len slots }
     requires cached { IsSlotCacheOf slots (D.state disk.old) cache.old }
-    ensures call { TellsOfSlot slots at (D.state disk.old) (D.state disk.new) cache.new (λ slot told. T.of slot wanted.now told) result }
+    ensures call { TellsOfSlot slots at (D.state disk.old)
+        (D.state disk.new) cache.new (λ slot told. T.of slot wanted.now told) result }
 {
     let mut there = [0; BLOCK];
     read_slot(disk, cache, slots, at, &mut there)?;

@@ -55,8 +55,14 @@ impl Spares<Page> {
     /// The page of a label and so many cells, whose bytes are given, in a box.
     pub fn page(&mut self, label: &Label, count: u8, run: &[u8]) -> Result<Boxed<Page>, NoMemory>
         requires packed { ArePacked label.now.level count run.now }
-        requires page { IsPage (record { label = label.now; cells = cells_in label.now.level count run.now }) }
-        ensures { IfOk result (λ boxed. boxed ≡ record { label = label.now; cells = cells_in label.now.level count run.now }) }
+        requires page { IsPage (record {
+          label = label.now;
+          cells = cells_in label.now.level count run.now;
+        }) }
+        ensures { IfOk result (λ boxed. boxed ≡ record {
+          label = label.now;
+          cells = cells_in label.now.level count run.now;
+        }) }
     {
         let Some(mut boxed) = self.boxes.pop() else {
             return Boxed::new(self.alloc, Page::of_run(*label, count, run));

@@ -25,7 +25,8 @@ Checks d height slots found = MatchOption found
     (λ used. (table : Table) × IsOrderedBelow d height slots table × (used ≡ length (pages_in table)))
 
 -- what the check of the order does, with a step for each slot that is read and for each start that is drawn
-pub record ChecksOrder (d : Draw) (height : ℕ) (old new : SlotsState) (before after : ℕ) (result : Result (Option ℕ) Fault) : Type 0 where
+pub record ChecksOrder (d : Draw) (height : ℕ) (old new : SlotsState) (before after : ℕ)
+    (result : Result (Option ℕ) Fault) : Type 0 where
   pub calls : AreSlotCalls old new result
   pub reads : IsObservable old → new.slots ≡ old.slots
   pub within : IfOk result (λ found. IfSome found (λ used. used ≤ old.count))

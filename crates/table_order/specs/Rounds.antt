@@ -1,5 +1,6 @@
 -- Tables that are gone round from a slot on, and the ways of their pages.
-use Rattle.std.specs.Prelude.{◌≡◌, ◌↔◌, ℕ, zero, suc, ◌+◌, ◌-◌, ◌*◌, ◌<◌, ◌≤◌, List, Bool, IsTrue, Option, Some, None, Result, IfOk, IfSome, MatchOption, length, slice_index}
+use Rattle.std.specs.Prelude.{◌≡◌, ◌↔◌, ℕ, zero, suc, ◌+◌, ◌-◌, ◌*◌, ◌<◌, ◌≤◌, List, Bool, IsTrue, Option, Some, None}
+use Rattle.std.specs.Prelude.{Result, IfOk, IfSome, MatchOption, length, slice_index}
 use Rattle.std.specs.List.{AllByRecursion}
 use Rattle.std.specs.declared.cmp.Ordering.TheVariants.{Less}
 use Rattle.std.specs.Ordering.{nat_cmp}
@@ -44,7 +45,8 @@ pub record FindsBar (old new : SlotsState) (before after : ℕ) (result : Result
 -- whether a slot of a table holds a page of smaller label than the one of these bytes
 pub record HoldsLess (slot wanted : List ℕ) (holds : Bool) : Type 0 where
   pub free : slot ≡ slot_bytes None → IsTrue holds → ⊥
-  pub page : (page : Page) → IsPage page → slot ≡ slot_bytes (Some page) → IsTrue holds ↔ (slice_cmp nat_cmp (label_bytes page.label) wanted ≡ Less)
+  pub page : (page : Page) → IsPage page → slot ≡ slot_bytes (Some page) → IsTrue holds
+      ↔ (slice_cmp nat_cmp (label_bytes page.label) wanted ≡ Less)
 
 -- the slots from this place on, up to another one, hold pages of smaller label
 abbrev pub AreSmaller : Table → Round → Label → ℕ → ℕ → Type 0
@@ -59,7 +61,8 @@ pub record IsOneGreater (table : Table) (round : Round) (l : Label) (from place 
 
 -- the number kept of each of the first places that holds a page is one from which on the labels before it are smaller
 abbrev pub AreReaches : Table → Round → List ℕ → ℕ → Type 0
-AreReaches table round reach place = (at : ℕ) (page : Page) → at < place → HoldsPage table (slot_at round at) page → AreSmaller table round page.label (slice_index reach at) at
+AreReaches table round reach place = (at : ℕ) (page : Page) → at < place → HoldsPage table (slot_at round at) page
+    → AreSmaller table round page.label (slice_index reach at) at
 
 -- so many jumps lead from a place back to where the run of pages begins
 abbrev pub LeadsBack : List ℕ → ℕ → ℕ → ℕ → Type 0
@@ -73,19 +76,26 @@ pub record JumpsLeft (reach : List ℕ) (run from steps most : ℕ) : Type 0 whe
   pub counted : steps + jumps ≤ most
 
 -- what going back over the way of a page does, with a step for each read
-pub record Passes (round : Round) (old new : SlotsState) (page : Standing) (reach : List ℕ) (before after : ℕ) (result : Result (Option ℕ) Fault) : Type 0 where
+pub record Passes (round : Round) (old new : SlotsState) (page : Standing) (reach : List ℕ) (before after : ℕ)
+    (result : Result (Option ℕ) Fault) : Type 0 where
   pub calls : AreSlotCalls old new result
   pub reads : IsObservable old → new.slots ≡ old.slots
   pub within : IfOk result (λ found. IfSome found (λ from. from + page.way ≤ page.place))
   pub most : (run most : ℕ) → JumpsLeft reach run page.place before most → run + page.way ≤ page.place → after ≤ most
-  pub left : (run most : ℕ) → JumpsLeft reach run page.place before most → run + page.way ≤ page.place → IfOk result (λ found. IfSome found (λ from. JumpsLeft reach run from after most))
-  pub way : (table : Table) → IsObservable old → IsTable round.count old.slots table → AreReaches table round reach page.place
-      → IfOk result (λ found. MatchOption found (IsOneGreater table round page.label (page.place - page.way) page.place) (λ from. AreSmaller table round page.label from page.place))
+  pub left : (run most : ℕ) → JumpsLeft reach run page.place before most → run + page.way ≤ page.place
+      → IfOk result (λ found. IfSome found (λ from. JumpsLeft reach run from after most))
+  pub way : (table : Table) → IsObservable old → IsTable round.count old.slots table
+      → AreReaches table round reach page.place
+      → IfOk result (λ found. MatchOption found (IsOneGreater table round page.label (page.place - page.way) page.place)
+      (λ from. AreSmaller table round page.label from page.place))
 
 -- what the check does on a round behind a slot that no page passes
-pub record ChecksRound (d : Draw) (height : ℕ) (round : Round) (old new : SlotsState) (before after : ℕ) (result : Result (Option ℕ) Fault) : Type 0 where
+pub record ChecksRound (d : Draw) (height : ℕ) (round : Round) (old new : SlotsState) (before after : ℕ)
+    (result : Result (Option ℕ) Fault) : Type 0 where
   pub calls : AreSlotCalls old new result
   pub reads : IsObservable old → new.slots ≡ old.slots
   pub within : IfOk result (λ found. IfSome found (λ used. used ≤ old.count))
   pub most : after ≤ before + 3 * old.count
-  pub checked : IsObservable old → ((table : Table) → IsTable round.count old.slots table → IsBar table (slot_at round (round.count - 1))) → IfOk result (Checks d height old.slots)
+  pub checked : IsObservable old
+      → ((table : Table) → IsTable round.count old.slots table → IsBar table (slot_at round (round.count - 1)))
+      → IfOk result (Checks d height old.slots)

@@ -29,8 +29,11 @@ fn check_round<S: ReadSlots, W: Draw, L: Ledger>(
     requires round { round.now.count ≡ (W.drawn draw.now).slots }
     requires most { (W.drawn draw.now).slots ≤ MAX_SLOTS }
     requires room { (W.drawn draw.now).slots ≤ length entries.old }
-    ensures call { ChecksRound (W.drawn draw.now) height round.now (S.state slots.old) (S.state slots.new) steps.old steps.new result }
-    ensures noted { IfOk result (λ found. IfSome found (λ used. AreNoted (W.digests draw.now) (S.state slots.old) (take used entries.new))) }
+    ensures call { ChecksRound (W.drawn draw.now) height round.now (S.state slots.old)
+        (S.state slots.new) steps.old steps.new result }
+    ensures noted { IfOk result
+        (λ found. IfSome found
+        (λ used. AreNoted (W.digests draw.now) (S.state slots.old) (take used entries.new))) }
     ensures follows { S.follows slots.old slots.new }
 {
     let mut there = [0; BLOCK];
@@ -72,7 +75,8 @@ fn check_round<S: ReadSlots, W: Draw, L: Ledger>(
 /// Sorts the entries that a check noted, if it counted some.
 fn sort_noted(entries: &mut [Entry], found: &Result<Option<u32>, Fault>)
     requires { IfOk found.now (λ found. IfSome found (λ used. used ≤ length entries.old)) }
-    ensures { IfOk found.now (λ found. IfSome found (λ used. IsSortOf (take used entries.old) (take used entries.new))) }
+    ensures { IfOk found.now (λ found. IfSome found
+        (λ used. IsSortOf (take used entries.old) (take used entries.new))) }
 {
     if let Ok(Some(used)) = found {
         sort_entries(&mut entries[..*used as usize]);
@@ -87,8 +91,9 @@ fn sort_noted(entries: &mut [Entry], found: &Result<Option<u32>, Fault>)
 ///
 /// Each slot that is read and each start that is drawn counts as a step: they are at most four for each slot.
 ///
-/// There have to be as many slots as the draw's, at most `MAX_SLOTS`, and an entry for each at least. A fault of the slots ends the call, and the slots
-/// are as they were. The call takes no memory, so want of memory comes from slots alone that may take some.
+/// There have to be as many slots as the draw's, at most `MAX_SLOTS`, and an entry for each at least. A fault of the
+/// slots ends the call, and the slots are as they were. The call takes no memory, so want of memory comes from slots
+/// alone that may take some.
 pub fn check_order<S: ReadSlots, W: Draw, L: Ledger>(
     slots: &mut S,
     draw: &W,
@@ -99,8 +104,11 @@ pub fn check_order<S: ReadSlots, W: Draw, L: Ledger>(
     requires count { (S.state slots.old).count ≡ (W.drawn draw.now).slots }
     requires most { (W.drawn draw.now).slots ≤ MAX_SLOTS }
     requires room { (W.drawn draw.now).slots ≤ length entries.old }
-    ensures call { ChecksOrder (W.drawn draw.now) height (S.state slots.old) (S.state slots.new) steps.old steps.new result }
-    ensures index { IfOk result (λ found. IfSome found (λ used. IsIndexOf (W.digests draw.now) (S.state slots.old) (take used entries.new))) }
+    ensures call { ChecksOrder (W.drawn draw.now) height (S.state slots.old)
+        (S.state slots.new) steps.old steps.new result }
+    ensures index { IfOk result
+        (λ found. IfSome found
+        (λ used. IsIndexOf (W.digests draw.now) (S.state slots.old) (take used entries.new))) }
     ensures follows { S.follows slots.old slots.new }
 {
     let count = draw.slots();

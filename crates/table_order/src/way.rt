@@ -53,7 +53,8 @@ pub(crate) fn passed_from<S: ReadSlots, L: Ledger>(
     requires way { page.now.way ≤ page.now.place }
     requires room { page.now.place ≤ length reach.now }
     requires back { (place : ℕ) → place < page.now.place → slice_index reach.now place ≤ place }
-    ensures call { Passes round.now (S.state slots.old) (S.state slots.new) page.now reach.now steps.old steps.new result }
+    ensures call { Passes round.now (S.state slots.old)
+        (S.state slots.new) page.now reach.now steps.old steps.new result }
     ensures follows { S.follows slots.old slots.new }
 {
     let wanted = page.label.to_bytes();

@@ -55,7 +55,14 @@ impl CountedPages {
 impl Pages for CountedPages {
     ghost use Rattle.std.specs.FinMap as maps;
 
-    ghost state = { λ p. record { is_observable = ⊥; pages = maps.empty; faults = 0; lookups = p.lookups; at_hand = λ _. Unit {0} } };
+    ghost state = { λ p. record {
+      is_observable = ⊥;
+      pages = maps.empty;
+      faults = 0;
+      lookups =
+          p.lookups;
+      at_hand = λ _. Unit {0};
+    } };
 
     ghost follows = { λ _ _. Unit {0} };
 

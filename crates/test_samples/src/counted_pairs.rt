@@ -6,8 +6,8 @@ use ordered_pairs::OrderedPairs;
 use std::alloc::Global;
 use store_base::{Fault, Key, Value};
 
-/// Pairs in memory by rising key, found by halving as in `MapPairs`, that count the calls on them. Contracts know nothing of
-/// them, so that every call may be made.
+/// Pairs in memory by rising key, found by halving as in `MapPairs`, that count the calls on them. Contracts know
+/// nothing of them, so that every call may be made.
 #[derive(Drop)]
 pub struct CountedPairs {
     pairs: Vec<(Key, Value)>,

@@ -18,8 +18,8 @@ fn is_there(pairs: &PairList, key: &Key) -> bool
     pairs.as_slice().iter().any(|pair| key.cmp(&pair.0).is_eq())
 }
 
-/// Adds the pair of a directory with the key, and says so. Where a pair has the key already, and without the memory for it,
-/// all stays as it was.
+/// Adds the pair of a directory with the key, and says so. Where a pair has the key already, and without the memory
+/// for it, all stays as it was.
 fn make(pairs: &mut PairList, key: Key) -> Result<bool, NoMemory>
     requires { HasDistinctKeys pairs.old }
     ensures { HasDistinctKeys pairs.new }
@@ -31,8 +31,8 @@ fn make(pairs: &mut PairList, key: Key) -> Result<bool, NoMemory>
     Ok(true)
 }
 
-/// The layout of directories with these keys, or why they have none; nothing for more than 16,384 keys, for two equal ones,
-/// and without the memory for their pairs.
+/// The layout of directories with these keys, or why they have none; nothing for more than 16,384 keys, for two equal
+/// ones, and without the memory for their pairs.
 pub fn layout(alloc: Global, params: &Params, keys: &[Key]) -> Option<Result<Layout, ScratchFault>>
     ensures { IfSome result (λ answer. IfOk answer (λ layout. length layout ≡ params.now.slots)) }
 {

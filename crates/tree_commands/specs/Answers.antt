@@ -5,7 +5,8 @@ use Rattle.store_model.specs.Parameters.{Parameters}
 use Rattle.store_model.specs.Trees.{Tree}
 use Rattle.store_model.specs.Pairs.{pairs}
 use Rattle.store_model.specs.Commands.{Command}
-use Rattle.store_model.specs.Commands.Command.{Make, Write, Cut, Rename, Remove, Prune, ListChildren, Read, Space, Digest, SetAttribute, UnsetAttribute, GetAttribute, ListAttributes}
+use Rattle.store_model.specs.Commands.Command.{Make, Write, Cut, Rename, Remove, Prune, ListChildren, Read, Space}
+use Rattle.store_model.specs.Commands.Command.{Digest, SetAttribute, UnsetAttribute, GetAttribute, ListAttributes}
 use Rattle.store_model.specs.Steps.{Step}
 use Rattle.store_base.specs.declared.store_fault.Fault.{Fault}
 use Rattle.store_base.specs.Faults.{disk_faults_after}
@@ -48,4 +49,5 @@ pub record IsReplyOf (to : Step) (p : Parameters) (new : PairsState) (reply : Re
 pub record AnswersBy (command : Command) (old new : PairsState) (result : Result Reply Fault) : Type 0 where
   pub faults : new.faults ≡ disk_faults_after old.faults result
   pub observable : IsObservable old → OnOk result (IsObservable new)
-  pub answered : IsObservable old → (t : Tree) (p : Parameters) → HoldsTree old t p → IfOk result (IsReplyOf (uncounted_step t command p) p new)
+  pub answered : IsObservable old → (t : Tree) (p : Parameters) → HoldsTree old t p
+      → IfOk result (IsReplyOf (uncounted_step t command p) p new)

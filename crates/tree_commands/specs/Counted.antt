@@ -10,4 +10,8 @@ use Rattle.store_model.specs.Steps.{Step}
 -- from a tree to the next one, unless that has more pages than there are slots
 abbrev pub counted_step : Tree → Tree → Parameters → Step
 counted_step t next p =
-    if nat_lt p.slots (page_count next p) then (record { reply = Refused (refusals.Full (page_count next p) p.slots); tree = t }) else (record { reply = Acknowledged; tree = next })
+    if nat_lt p.slots (page_count next p) then (record {
+      reply = Refused (refusals.Full (page_count next p) p.slots);
+      tree = t;
+    }) else
+    (record { reply = Acknowledged; tree = next })

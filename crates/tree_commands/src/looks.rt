@@ -23,7 +23,8 @@ pub fn answer<P: OrderedPairs>(
     reply: &mut Reply,
 ) -> Result<(), Fault>
     requires { is_look (command_of command.now) ≡ true }
-    ensures call { AnswersBy (command_of command.now) (P.state pairs.old) (P.state pairs.new) (in_place reply.new result) }
+    ensures call { AnswersBy (command_of command.now) (P.state pairs.old) (P.state pairs.new)
+        (in_place reply.new result) }
     ensures follows { P.follows pairs.old pairs.new }
 {
     match command {
@@ -44,7 +45,8 @@ fn answer_list<P: OrderedPairs>(
     path: &Path,
     reply: &mut Reply,
 ) -> Result<(), Fault>
-    ensures call { AnswersBy (ListChildren path.now) (P.state pairs.old) (P.state pairs.new) (in_place reply.new result) }
+    ensures call { AnswersBy (ListChildren path.now) (P.state pairs.old) (P.state pairs.new)
+        (in_place reply.new result) }
     ensures follows { P.follows pairs.old pairs.new }
 {
     *reply = match list(alloc, pairs, path)? {
@@ -64,7 +66,8 @@ fn answer_read<P: OrderedPairs>(
     len: u32,
     reply: &mut Reply,
 ) -> Result<(), Fault>
-    ensures call { AnswersBy (Read path.now at len) (P.state pairs.old) (P.state pairs.new) (in_place reply.new result) }
+    ensures call { AnswersBy (Read path.now at len) (P.state pairs.old) (P.state pairs.new)
+        (in_place reply.new result) }
     ensures follows { P.follows pairs.old pairs.new }
 {
     *reply = match read_at(pairs, path, at, len)? {
@@ -83,7 +86,8 @@ fn answer_get<P: OrderedPairs>(
     name: &AttrName,
     reply: &mut Reply,
 ) -> Result<(), Fault>
-    ensures call { AnswersBy (GetAttribute path.now name.now) (P.state pairs.old) (P.state pairs.new) (in_place reply.new result) }
+    ensures call { AnswersBy (GetAttribute path.now name.now) (P.state pairs.old)
+        (P.state pairs.new) (in_place reply.new result) }
     ensures follows { P.follows pairs.old pairs.new }
 {
     *reply = match attr(pairs, path, name)? {
@@ -102,7 +106,8 @@ fn answer_attrs<P: OrderedPairs>(
     path: &Path,
     reply: &mut Reply,
 ) -> Result<(), Fault>
-    ensures call { AnswersBy (ListAttributes path.now) (P.state pairs.old) (P.state pairs.new) (in_place reply.new result) }
+    ensures call { AnswersBy (ListAttributes path.now) (P.state pairs.old) (P.state pairs.new)
+        (in_place reply.new result) }
     ensures follows { P.follows pairs.old pairs.new }
 {
     *reply = match attrs(alloc, pairs, path)? {

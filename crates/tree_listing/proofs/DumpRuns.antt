@@ -1,5 +1,7 @@
 -- What a dump is as a script: how long it is, that it is a listing, and what `run` makes of a listing.
-use Rattle.std.proofs.Common.{◌≡◌, ℕ, ◌+◌, ◌*◌, ◌≤◌, List, [], ◌∷◌, ◌++◌, map, length, take, Bool, true, false, ◌&&◌, cond, Result, Ok, Err, nat_lt, ◌==◌, refl, sym, ap, subst, ◌∙◌, arith, append_assoc, length-append}
+use Rattle.std.proofs.Common.{◌≡◌, ℕ, ◌+◌, ◌*◌, ◌≤◌, List, [], ◌∷◌, ◌++◌, map, length, take, Bool, true, false, ◌&&◌}
+use Rattle.std.proofs.Common.{cond, Result, Ok, Err, nat_lt, ◌==◌, refl, sym, ap, subst, ◌∙◌, arith, append_assoc}
+use Rattle.std.proofs.Common.{length-append}
 use Rattle.std.specs.List.{AllByRecursion, filter}
 use Rattle.std.proofs.lemmas.Bool.{le-ltb, lt-ltb}
 use Rattle.std.proofs.lemmas.List.{append-nil, length-map}
@@ -15,9 +17,11 @@ use Rattle.store_model.specs.Commands.{Command, IsCommand, Reply, command_text, 
 use Rattle.store_model.specs.Commands.Reply.{Acknowledged, Refused}
 use Rattle.store_model.specs.Steps.{Step, next_tree, reply_of, may_fill, step, step_by}
 use Rattle.store_model.specs.Grammar.{parse}
-use Rattle.store_model.specs.Scripts.{line_limit, script_limit, lines, reading, answer, answer_by, answers_by, state_by, replies_by, tree_by, replies, tree_after}
+use Rattle.store_model.specs.Scripts.{line_limit, script_limit, lines, reading, answer, answer_by, answers_by, state_by}
+use Rattle.store_model.specs.Scripts.{replies_by, tree_by, replies, tree_after}
 use Rattle.store_model.proofs.PagesLemmasSizes.{pairs_per_page}
-use Rattle.store_model.proofs.TreesLemmasFewer.{IsThinned, thinned_self, thinned_nil, thinned_append, keys_of, pages_of_thinned}
+use Rattle.store_model.proofs.TreesLemmasFewer.{IsThinned, thinned_self, thinned_nil, thinned_append, keys_of}
+use Rattle.store_model.proofs.TreesLemmasFewer.{pages_of_thinned}
 use Rattle.store_model.proofs.TreesLemmasSteps.{step_by_refusal}
 use Rattle.store_model.proofs.TreesLemmasFits.{IsTree-empty, Fits-empty, Fits-tree_after}
 use Rattle.model_laws.proofs.CommandsLemmasTexts.{reading-command_text, no_line_end, some_text}
@@ -31,21 +35,39 @@ use Rattle.tree_listing.proofs.NextTrees.{goes_on}
 -- ---- how long the text of a dump is
 
 -- what pairs more allow the text
-added : (old new : List Pair) (text : List ℕ) → AddsPairs old new text → length text + 1 + pair_text * length old ≤ pair_text * length new
+added : (old new : List Pair) (text : List ℕ) → AddsPairs old new text
+    → length text + 1 + pair_text * length old ≤ pair_text * length new
 added old new text adds =
-    omega (arith, adds.enough, ap length adds.keys_are, length-append (keys_of old) adds.more, length-map old (λ (pair : Pair). pair.0), length-map new (λ (pair : Pair). pair.0))
+    omega (
+      arith,
+      adds.enough,
+      ap length adds.keys_are,
+      length-append (keys_of old) adds.more,
+      length-map old
+          (λ (pair : Pair). pair.0),
+      length-map new (λ (pair : Pair). pair.0),
+    )
 
-chain_text : (cs : List Command) (u t : Tree) (p : Parameters) → IsTreeUnder u p → Chain u cs t p → length (commands_text cs) + pair_text * length (pairs u p) ≤ pair_text * length (pairs t p)
+chain_text : (cs : List Command) (u t : Tree) (p : Parameters) → IsTreeUnder u p → Chain u cs t p
+    → length (commands_text cs) + pair_text * length (pairs u p) ≤ pair_text * length (pairs t p)
 unfolding commands_text
 chain_text [] u t p under chain = let same = ap (λ (v : Tree). length (pairs v p)) chain in omega (arith, same)
 chain_text (c ∷ cs) u t p under chain =
     let text = command_text c in
     let rest = chain_text cs (next_tree u c) t p (goes_on u c p under chain.0).under chain.1 in
     let step = step_of_next u c p under chain.0 in
-    omega (arith, rest, added (pairs u p) (pairs (next_tree u c) p) text step.adds, length-append (line text) (commands_text cs), length-append text (10 ∷ []))
+    omega (
+      arith,
+      rest,
+      added (pairs u p) (pairs (next_tree u c) p) text step.adds,
+      length-append (line text)
+          (commands_text cs),
+      length-append text (10 ∷ []),
+    )
 
 -- the dump of a tree that fits keeps the limit of a script
-pub dump_is_short : (t : Tree) (p : Parameters) → IsParameters p → IsTreeUnder t p → Fits t p → length (dump_text t) ≤ script_limit
+pub dump_is_short : (t : Tree) (p : Parameters) → IsParameters p → IsTreeUnder t p → Fits t p
+    → length (dump_text t) ≤ script_limit
 unfolding pages draw_of
 dump_is_short t p are under fits =
     let text = chain_text (dump t) [] t p (empty_under p) (dump_chain t p under) in
@@ -58,7 +80,8 @@ dump_is_short t p are under fits =
 abbrev IsReadBack : Command → Type 0
 IsReadBack c = IsCommand c × (length (command_text c) ≤ line_limit)
 
-chain_read : (cs : List Command) (u t : Tree) (p : Parameters) → IsTreeUnder u p → Chain u cs t p → AllByRecursion IsReadBack cs
+chain_read : (cs : List Command) (u t : Tree) (p : Parameters) → IsTreeUnder u p → Chain u cs t p
+    → AllByRecursion IsReadBack cs
 chain_read [] u t p under chain = tt
 chain_read (c ∷ cs) u t p under chain =
     let step = step_of_next u c p under chain.0 in
@@ -71,14 +94,17 @@ lines_of [] are = refl
 lines_of (c ∷ cs) are =
     let text = command_text c in
     ap lines (append_assoc text (10 ∷ []) (commands_text cs))
-    ∙ ap (filter (λ text. nat_lt 0 (length text))) (slice_split_at (λ b. b == 10) text 10 (commands_text cs) (no_line_end c are.0.0) refl)
-    ∙ ap (λ b. cond b (text ∷ lines (commands_text cs)) (lines (commands_text cs))) (lt-ltb 0 (length text) (some_text c))
+    ∙ ap (filter (λ text. nat_lt 0 (length text)))
+    (slice_split_at (λ b. b == 10) text 10 (commands_text cs) (no_line_end c are.0.0) refl)
+    ∙ ap (λ b. cond b (text ∷ lines (commands_text cs)) (lines (commands_text cs)))
+    (lt-ltb 0 (length text) (some_text c))
     ∙ ap (λ (texts : List (List ℕ)). text ∷ texts) (lines_of cs are.1)
 
 read_back : (cs : List Command) → AllByRecursion IsReadBack cs → map reading (map command_text cs) ≡ map Ok cs
 read_back [] are = refl
 read_back (c ∷ cs) are =
-    ap (λ (first : Result Command Refusal). first ∷ map reading (map command_text cs)) (reading-command_text c are.0.0 are.0.1)
+    ap (λ (first : Result Command Refusal). first ∷ map reading (map command_text cs))
+    (reading-command_text c are.0.0 are.0.1)
     ∙ ap (λ (rest : List (Result Command Refusal)). Ok c ∷ rest) (read_back cs are.1)
 
 pub dump_is_listing : (t : Tree) (p : Parameters) → IsTreeUnder t p → IsListing t (dump_text t)
@@ -89,15 +115,19 @@ dump_is_listing t p under =
 -- ---- trees on the way need no more pages than the last one
 
 thinned_front : (xs more : List (List ℕ)) → IsThinned xs (xs ++ more)
-thinned_front xs more = subst (λ (ys : List (List ℕ)). IsThinned ys (xs ++ more)) (append-nil xs) (thinned_append xs [] xs more (thinned_self xs) (thinned_nil more))
+thinned_front xs more = subst (λ (ys : List (List ℕ)). IsThinned ys (xs ++ more)) (append-nil xs)
+    (thinned_append xs [] xs more (thinned_self xs) (thinned_nil more))
 
-pages_added : (u : Tree) (c : Command) (p : Parameters) → IsDumpStep u c p → page_count u p ≤ page_count (next_tree u c) p
+pages_added : (u : Tree) (c : Command) (p : Parameters) → IsDumpStep u c p
+    → page_count u p ≤ page_count (next_tree u c) p
 unfolding pages
 pages_added u c p step =
     let adds = step.adds in
-    pages_of_thinned (draw_of p) (pairs u p) (pairs (next_tree u c) p) (subst (IsThinned (keys_of (pairs u p))) (sym adds.keys_are) (thinned_front (keys_of (pairs u p)) adds.more))
+    pages_of_thinned (draw_of p) (pairs u p) (pairs (next_tree u c) p)
+    (subst (IsThinned (keys_of (pairs u p))) (sym adds.keys_are) (thinned_front (keys_of (pairs u p)) adds.more))
 
-chain_pages : (cs : List Command) (u t : Tree) (p : Parameters) → IsTreeUnder u p → Chain u cs t p → page_count u p ≤ page_count t p
+chain_pages : (cs : List Command) (u t : Tree) (p : Parameters) → IsTreeUnder u p → Chain u cs t p
+    → page_count u p ≤ page_count t p
 chain_pages [] u t p under chain = let same = ap (λ (v : Tree). page_count v p) chain in omega (arith, same)
 chain_pages (c ∷ cs) u t p under chain =
     let rest = chain_pages cs (next_tree u c) t p (goes_on u c p under chain.0).under chain.1 in
@@ -110,25 +140,30 @@ both_false true = refl
 both_false false = refl
 
 -- the step of a command of a dump, where the next tree has room
-step_is : (u : Tree) (c : Command) (p : Parameters) → IsDumpStep u c p → page_count (next_tree u c) p ≤ p.slots → step u c p ≡ record { reply = Acknowledged; tree = next_tree u c }
+step_is : (u : Tree) (c : Command) (p : Parameters) → IsDumpStep u c p → page_count (next_tree u c) p ≤ p.slots
+    → step u c p ≡ record { reply = Acknowledged; tree = next_tree u c }
 step_is u c p is room =
     let next = next_tree u c in
     let full : Step = record { reply = Refused (refusals.Full (page_count next p) p.slots); tree = u } in
     step_by_refusal u c p is.version ∙ ap (step_by u c p) is.allowed
-    ∙ ap (λ b. cond (may_fill c && b) full (record { reply = reply_of u c p; tree = next })) (le-ltb p.slots (page_count next p) room)
+    ∙ ap (λ b. cond (may_fill c && b) full (record { reply = reply_of u c p; tree = next }))
+    (le-ltb p.slots (page_count next p) room)
     ∙ ap (λ b. cond b full (record { reply = reply_of u c p; tree = next })) (both_false (may_fill c))
     ∙ ap (λ (reply : Reply). record { reply = reply; tree = next }) is.acknowledged
 
 -- a line that reads as a command is answered by its step
-answer_of_reading : (u : Tree) (text : List ℕ) (c : Command) (p : Parameters) → reading text ≡ Ok c → answer u text p ≡ step u c p
+answer_of_reading : (u : Tree) (text : List ℕ) (c : Command) (p : Parameters) → reading text ≡ Ok c
+    → answer u text p ≡ step u c p
 unfolding reading answer
 answer_of_reading u text c p e = by_test (nat_lt line_limit (length text)) (parse text) e
   where
-    by_test : (b : Bool) (r : Result Command Refusal) → cond b (Err refusals.Long) r ≡ Ok c → cond b (record { reply = Refused refusals.Long; tree = u }) (answer_by u r p) ≡ step u c p
+    by_test : (b : Bool) (r : Result Command Refusal) → cond b (Err refusals.Long) r ≡ Ok c
+        → cond b (record { reply = Refused refusals.Long; tree = u }) (answer_by u r p) ≡ step u c p
     by_test true r e = cc
     by_test false r e = ap (λ (r : Result Command Refusal). answer_by u r p) e
 
-run_chain : (cs : List Command) (texts : List (List ℕ)) (u t : Tree) (p : Parameters) → map reading texts ≡ map Ok cs → IsTreeUnder u p → Chain u cs t p → page_count t p ≤ p.slots
+run_chain : (cs : List Command) (texts : List (List ℕ)) (u t : Tree) (p : Parameters) → map reading texts ≡ map Ok cs
+    → IsTreeUnder u p → Chain u cs t p → page_count t p ≤ p.slots
     → AllByRecursion (λ reply. reply ≡ Acknowledged) (replies u texts p) × (tree_after u texts p ≡ t)
 unfolding replies replies_by answers_by tree_after tree_by state_by
 run_chain [] [] u t p e under chain room = (tt, chain)
@@ -142,11 +177,13 @@ run_chain (c ∷ cs) (text ∷ texts) u t p e under chain room =
     let later = (goes_on u c p under chain.0).under in
     let fits : page_count next p ≤ p.slots = omega (arith, chain_pages cs next t p later chain.1, room) in
     let rest = run_chain cs texts next t p others later chain.1 room in
-    subst (λ (s : Step). AllByRecursion (λ reply. reply ≡ Acknowledged) (s.reply ∷ replies s.tree texts p) × (tree_after s.tree texts p ≡ t))
+    subst (λ (s : Step). AllByRecursion (λ reply. reply ≡ Acknowledged) (s.reply ∷ replies s.tree texts p)
+    × (tree_after s.tree texts p ≡ t))
     (sym (answer_of_reading u text c p first ∙ step_is u c p is fits)) ((refl, rest.0), rest.1)
 
 -- each line of a listing is carried out
-pub listing_runs : (t : Tree) (p : Parameters) (script : List ℕ) → IsTreeUnder t p → Fits t p → IsListing t script → RunsListing t p script
+pub listing_runs : (t : Tree) (p : Parameters) (script : List ℕ) → IsTreeUnder t p → Fits t p → IsListing t script
+    → RunsListing t p script
 listing_runs t p script under fits listing =
     let done = run_chain (dump t) (lines script) [] t p listing (empty_under p) (dump_chain t p under) fits.room in
     record {

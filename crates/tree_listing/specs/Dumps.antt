@@ -15,11 +15,12 @@ use Rattle.store_model.specs.Scripts.{lines, reading}
 abbrev pub dump_piece : ℕ
 dump_piece = 2048
 
--- the commands that write a file: one for each piece of its bytes, the last one shorter, and one that writes nothing for an
--- empty file
+-- the commands that write a file: one for each piece of its bytes, the last one shorter, and one that writes nothing
+-- for an empty file
 unfoldable pub file_commands : Path → List ℕ → List Command
 file_commands path [] = Write path 0 [] ∷ []
-file_commands path (b ∷ bytes) = map (λ piece. Write path (dump_piece * piece.0) piece.1) (enumerate_from 0 (runs dump_piece (b ∷ bytes)))
+file_commands path (b ∷ bytes) = map (λ piece. Write path (dump_piece * piece.0) piece.1)
+    (enumerate_from 0 (runs dump_piece (b ∷ bytes)))
 
 abbrev pub node_commands : Path → Node → List Command
 node_commands path Directory = Make path ∷ []
@@ -45,8 +46,8 @@ commands_text commands = flat_map (λ c. line (command_text c)) commands
 abbrev pub dump_text : Tree → List ℕ
 dump_text t = commands_text (dump t)
 
--- The lines of a script are a listing of the tree: what they ask for are the commands of its dump, one after another. So
--- digits may be of either case, empty lines may stand between, and the last LF may be missing.
+-- The lines of a script are a listing of the tree: what they ask for are the commands of its dump, one after another.
+-- So digits may be of either case, empty lines may stand between, and the last LF may be missing.
 abbrev pub IsListing : Tree → List ℕ → Type 0
 IsListing t script = map reading (lines script) ≡ map Ok (dump t)
 

@@ -1,5 +1,6 @@
 -- Which pairs are kept of a listing.
-use Rattle.std.specs.Prelude.{◌≡◌, ℕ, ◌+◌, ◌/◌, ◌≤◌, ◌<◌, List, [], ◌∷◌, ◌++◌, map, length, slice_set, Option, MatchOption, Result, OnOk, false}
+use Rattle.std.specs.Prelude.{◌≡◌, ℕ, ◌+◌, ◌/◌, ◌≤◌, ◌<◌, List, [], ◌∷◌, ◌++◌, map, length, slice_set, Option}
+use Rattle.std.specs.Prelude.{MatchOption, Result, OnOk, false}
 use Rattle.std.specs.List.{enumerate_from}
 use Rattle.store_base.specs.declared.fault.NoMemory.{NoMemory}
 use Rattle.store_model.specs.Lists.{runs}
@@ -25,8 +26,8 @@ keys_of s = map (λ pair. pair.0) s
 abbrev pub IsFirstOfLast : Tree → Parameters → ℕ → Type 0
 IsFirstOfLast t p first = (front : Tree) (last : Path × Entry) → t ≡ front ++ last ∷ [] → first ≡ length (pairs front p)
 
--- The pages of the tree are counted; where they are no more than the slots, its pairs are kept, and it is known which is the
--- first one of its last path.
+-- The pages of the tree are counted; where they are no more than the slots, its pairs are kept, and it is known which
+-- is the first one of its last path.
 pub record HoldsListed (listed : ListedPairs) (t : Tree) (p : Parameters) : Type 0 where
   pub params_are : listed.params ≡ p
   pub counted : HasCounted (draw_of p) (keys_of (pairs t p)) listed.counter
@@ -36,12 +37,14 @@ pub record HoldsListed (listed : ListedPairs) (t : Tree) (p : Parameters) : Type
 
 -- the pairs of a command are taken that goes on with the dump of a tree
 pub record TakesPairs (old new : ListedPairs) (c : Command) (result : Result (Unit {0}) NoMemory) : Type 0 where
-  pub taken : (t : Tree) (p : Parameters) → HoldsListed old t p → IsTreeUnder t p → GoesOn t c p → OnOk result (HoldsListed new (next_tree t c) p)
+  pub taken : (t : Tree) (p : Parameters) → HoldsListed old t p → IsTreeUnder t p → GoesOn t c p
+      → OnOk result (HoldsListed new (next_tree t c) p)
 
 -- these pairs stand behind those that there were, and are counted behind them
 pub record AddsPairs (d : Draw) (before added : List Pair) (old new : ListedPairs) : Type 0 where
   pub pairs_are : new.pairs ≡ before ++ added
-  pub counted : (keys : List (List ℕ)) → HasCounted d keys old.counter → HasCounted d (keys ++ keys_of added) new.counter
+  pub counted : (keys : List (List ℕ)) → HasCounted d keys old.counter
+      → HasCounted d (keys ++ keys_of added) new.counter
   pub few : old.counter.keys ≤ sorted_limit → new.counter.keys ≤ sorted_limit
   pub grows : old.counter.pages ≤ new.counter.pages
 
@@ -56,12 +59,14 @@ with_length s first path len = slice_set s first (key path 0, file_value len)
 -- the blocks of more bytes of a file are added, which had so many bytes, and its length is set
 abbrev pub AddsPiece : Draw → Path → ℕ → List ℕ → ListedPairs → ListedPairs → Type 0
 AddsPiece d path at bytes old new =
-    at + length bytes ≤ file_limit → AddsPairs d (with_length old.pairs old.first path (at + length bytes)) (blocks_from path (at / file_block + 1) bytes) old new
+    at + length bytes ≤ file_limit → AddsPairs d (with_length old.pairs old.first path (at + length bytes))
+    (blocks_from path (at / file_block + 1) bytes) old new
 
 -- the pair of an attribute is added, which a path may have
 abbrev pub AddsAttribute : Draw → Path → Name → List ℕ → ListedPairs → ListedPairs → Type 0
 AddsAttribute d path name bytes old new =
-    is_root path ≡ false → IsAttribute path (name, bytes) → AddsPairs d old.pairs ((attribute_key path name, attribute_value bytes) ∷ []) old new
+    is_root path ≡ false → IsAttribute path (name, bytes)
+    → AddsPairs d old.pairs ((attribute_key path name, attribute_value bytes) ∷ []) old new
 
 -- the pages of the tree are more than the slots
 abbrev pub IsTooLarge : Tree → Parameters → Type 0

@@ -15,9 +15,10 @@ pub record IsListed (listing : Listing) (t : Tree) (p : Parameters) : Type 0 whe
   pub read : HasRead listing.reader t p
   pub held : HoldsListed listing.listed t p
 
--- A command behind the dump of a tree. It is taken where some tree's dump begins so, and just there; then the commands are the
--- dump of the tree that it leads to.
+-- A command behind the dump of a tree. It is taken where some tree's dump begins so, and just there; then the
+-- commands are the dump of the tree that it leads to.
 pub record TakesCommand (old new : Listing) (c : Command) (result : Result Bool NoMemory) : Type 0 where
-  pub listed : (t : Tree) (p : Parameters) → IsListed old t p → IfOk result (λ taken. OnTrue taken (IsListed new (next_tree t c) p))
+  pub listed : (t : Tree) (p : Parameters) → IsListed old t p
+      → IfOk result (λ taken. OnTrue taken (IsListed new (next_tree t c) p))
   pub goes_on : (t : Tree) (p : Parameters) → IsListed old t p → IfOk result (λ taken. OnTrue taken (GoesOn t c p))
   pub refused : (t : Tree) (p : Parameters) → IsListed old t p → IfOk result (λ taken. OnFalse taken (BreaksOff t c p))

@@ -13,9 +13,9 @@ use Rattle.tree_listing.specs.Dumps.{dump, dump_piece}
 use Rattle.tree_reader.specs.Seen.{IsLast, IsLastName, MayFollow, MayBeNext}
 use Rattle.tree_listing.specs.declared.reader.ListingReader.{ListingReader}
 
--- The reader has taken the dump of the tree and no other command: it knows the last entry, and the name of its last attribute.
--- A caller needs no more of this than that a new reader has taken that of the empty tree, and one that took a command the dump
--- with it.
+-- The reader has taken the dump of the tree and no other command: it knows the last entry, and the name of its last
+-- attribute. A caller needs no more of this than that a new reader has taken that of the empty tree, and one that
+-- took a command the dump with it.
 pub record HasRead (reader : ListingReader) (t : Tree) (p : Parameters) : Type 0 where
   pub version_is : p.version ≡ reader.version
   pub under : IsTreeUnder t p
@@ -46,10 +46,15 @@ IsNextPath reader path = (is_root path ≡ false) × MayFollow reader.last.path 
 -- what a reader does at the first command of an entry: it takes the entry where it may stand next, and just there
 pub record AddsEntry (old new : ListingReader) (path : Path) (kind : Kind) (result : Bool) : Type 0 where
   pub next : IsTrue result ↔ IsNextPath old path
-  pub taken : OnTrue result (new ≡ record { version = old.version; last = record { path = path; kind = kind }; attribute = None })
+  pub taken : OnTrue result (new ≡ record {
+    version = old.version;
+    last = record { path = path; kind = kind };
+    attribute = None;
+  })
   pub unchanged : OnFalse result (new ≡ old)
 
--- a write adds a piece to the last file: it begins where the file ends, which is full of whole pieces and has no attribute yet
+-- a write adds a piece to the last file: it begins where the file ends, which is full of whole pieces and has no
+-- attribute yet
 pub record IsNextPiece (reader : ListingReader) (path : Path) (at : ℕ) (bytes : List ℕ) : Type 0 where
   pub path_is : path ≡ reader.last.path
   pub kind_is : reader.last.kind ≡ kinds.File at

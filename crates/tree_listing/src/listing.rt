@@ -59,7 +59,8 @@ impl Listing {
 
     /// The pairs of the tree, by rising key; nothing where its pages are more than the slots.
     pub fn pairs(&self) -> Option<&PairList>
-        ensures { (t : Tree) (p : Parameters) → IsListed self.now t p → TellsPairs t p (option_map (λ pairs. pairs.now) result) }
+        ensures { (t : Tree) (p : Parameters) → IsListed self.now t p
+            → TellsPairs t p (option_map (λ pairs. pairs.now) result) }
     {
         self.listed.kept()
     }

@@ -11,7 +11,8 @@ ghost use Rattle.store_model.specs.Draws.{draw_of};
 ghost use Rattle.store_model.specs.Pages.{page_count};
 ghost use Rattle.seeded_draw.specs.AnyDrawn.{any_draw};
 ghost use Rattle.script_lines.specs.Parsing.{command_of};
-ghost use Rattle.tree_listing.specs.Listed.{HoldsListed, TakesPairs, AddsPairs, AddsPiece, AddsAttribute, TellsPairs, blocks_from, with_length};
+ghost use Rattle.tree_listing.specs.Listed.{HoldsListed, TakesPairs, AddsPairs, AddsPiece, AddsAttribute, TellsPairs};
+ghost use Rattle.tree_listing.specs.Listed.{blocks_from, with_length};
 
 use layout_scratch::PageCounter;
 use node_pages::PairList;
@@ -78,7 +79,8 @@ impl ListedPairs {
     pub fn take(&mut self, command: &Command) -> Result<(), NoMemory>
         ensures params { self.new.params ≡ self.old.params }
         ensures taken { TakesPairs self.old self.new (command_of command.now) result }
-        ensures emptied { OnOk result (self.new.params.slots < self.new.counter.pages → self.new.pairs ≡ []) }
+        ensures emptied { OnOk result (self.new.params.slots < self.new.counter.pages
+            → self.new.pairs ≡ []) }
     {
         self.push_pairs(command)?;
         self.let_go();
@@ -88,7 +90,8 @@ impl ListedPairs {
     /// Keeps no pair once the pages are more than the slots.
     fn let_go(&mut self)
         ensures params { self.new.params ≡ self.old.params }
-        ensures held { (t : Tree) (p : Parameters) → HoldsListed self.old t p → HoldsListed self.new t p }
+        ensures held { (t : Tree) (p : Parameters) → HoldsListed self.old t p
+            → HoldsListed self.new t p }
         ensures emptied { self.new.params.slots < self.new.counter.pages → self.new.pairs ≡ [] }
     {
         if self.counter.pages() > self.params.slots() {
@@ -134,7 +137,11 @@ impl ListedPairs {
         requires { (any_draw draw.now).height ≤ height_limit }
         ensures params { self.new.params ≡ self.old.params }
         ensures first { self.new.first ≡ length self.old.pairs }
-        ensures added { OnOk result (AddsPairs (any_draw draw.now) self.old.pairs (model.file_pairs (model.is_inline self.old.params.version (length bytes.now)) path.now bytes.now) self.old self.new) }
+        ensures added { OnOk result
+            (AddsPairs (any_draw draw.now)
+            self.old.pairs
+            (model.file_pairs (model.is_inline self.old.params.version (length bytes.now))
+            path.now bytes.now) self.old self.new) }
     {
         let bytes = bytes.as_slice();
         let len = bytes.len() as u32;
@@ -156,7 +163,8 @@ impl ListedPairs {
         requires { (any_draw draw.now).height ≤ height_limit }
         ensures params { self.new.params ≡ self.old.params }
         ensures first { self.new.first ≡ self.old.first }
-        ensures added { OnOk result (AddsPiece (any_draw draw.now) path.now at bytes.now self.old self.new) }
+        ensures added { OnOk result
+            (AddsPiece (any_draw draw.now) path.now at bytes.now self.old self.new) }
     {
         let bytes = bytes.as_slice();
         self.set_length(path, at.saturating_add(bytes.len() as u32));
@@ -186,7 +194,8 @@ impl ListedPairs {
         requires { (any_draw draw.now).height ≤ height_limit }
         ensures params { self.new.params ≡ self.old.params }
         ensures first { self.new.first ≡ self.old.first }
-        ensures added { OnOk result (AddsAttribute (any_draw draw.now) path.now name.now bytes.now self.old self.new) }
+        ensures added { OnOk result
+            (AddsAttribute (any_draw draw.now) path.now name.now bytes.now self.old self.new) }
     {
         let bytes = bytes.as_slice();
         if bytes.len() > ATTRIBUTE_LIMIT {
@@ -210,7 +219,9 @@ impl ListedPairs {
         requires few { first + length bytes.now < 4294967296 }
         ensures params { self.new.params ≡ self.old.params }
         ensures first { self.new.first ≡ self.old.first }
-        ensures added { OnOk result (AddsPairs (any_draw draw.now) self.old.pairs (blocks_from path.now first bytes.now) self.old self.new) }
+        ensures added { OnOk result
+            (AddsPairs (any_draw draw.now)
+            self.old.pairs (blocks_from path.now first bytes.now) self.old self.new) }
     {
         let mut number = first;
         let mut rest = bytes;
@@ -228,7 +239,9 @@ impl ListedPairs {
         requires { (any_draw draw.now).height ≤ height_limit }
         ensures params { self.new.params ≡ self.old.params }
         ensures first { self.new.first ≡ length self.old.pairs }
-        ensures added { OnOk result (AddsPairs (any_draw draw.now) self.old.pairs ((paths.key path.now 0, value) ∷ []) self.old self.new) }
+        ensures added { OnOk result
+            (AddsPairs (any_draw draw.now)
+            self.old.pairs ((paths.key path.now 0, value) ∷ []) self.old self.new) }
     {
         self.first = self.pairs.len();
         self.push(draw, path.key(0), value)
@@ -239,7 +252,8 @@ impl ListedPairs {
         requires { (any_draw draw.now).height ≤ height_limit }
         ensures params { self.new.params ≡ self.old.params }
         ensures first { self.new.first ≡ self.old.first }
-        ensures added { OnOk result (AddsPairs (any_draw draw.now) self.old.pairs ((key, value) ∷ []) self.old self.new) }
+        ensures added { OnOk result
+            (AddsPairs (any_draw draw.now) self.old.pairs ((key, value) ∷ []) self.old self.new) }
     {
         if self.counter.keys() >= MAX_PAIRS {
             return Err(too_many());
@@ -257,7 +271,8 @@ impl ListedPairs {
 
     /// The pairs of the tree, if its pages are no more than the slots.
     pub fn kept(&self) -> Option<&PairList>
-        ensures { (t : Tree) (p : Parameters) → HoldsListed self.now t p → TellsPairs t p (option_map (λ pairs. pairs.now) result) }
+        ensures { (t : Tree) (p : Parameters) → HoldsListed self.now t p
+            → TellsPairs t p (option_map (λ pairs. pairs.now) result) }
     {
         if self.counter.pages() > self.params.slots() {
             return None;

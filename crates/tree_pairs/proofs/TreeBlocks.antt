@@ -29,12 +29,15 @@ block_value (Some (File bytes)) version block = file_block_value (is_inline vers
 -- that is named behind the mark
 abbrev pub attribute_block : Attributes → Name → ℕ → Option (List ℕ)
 attribute_block attributes [] block = None
-attribute_block attributes (c ∷ a) zero = cond (c == attribute_mark) (option_map attribute_value (find name_cmp a attributes)) None
+attribute_block attributes (c ∷ a) zero =
+    cond (c == attribute_mark) (option_map attribute_value (find name_cmp a attributes)) None
 attribute_block attributes (c ∷ a) (suc i) = None
 
 -- the blocks that a tree has under a version: those of what stands at a path, and those of its attributes
 abbrev pub version_blocks : Tree → Version → BlockMap
-version_blocks t version place block = option_or (block_value (node_of (find path_cmp place t)) version block) (attribute_block (attributes_at t (parent place)) (last_name place) block)
+version_blocks t version place block =
+    option_or (block_value (node_of (find path_cmp place t)) version block)
+    (attribute_block (attributes_at t (parent place)) (last_name place) block)
 
 -- the blocks of a tree
 abbrev pub tree_blocks : Tree → Parameters → BlockMap

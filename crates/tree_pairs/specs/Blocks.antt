@@ -29,5 +29,6 @@ pub record IsBlockPair (pair : Pair) : Type 0 where
 -- the list has these blocks and no other pair
 pub record HasBlocks (blocks : BlockMap) (s : List Pair) : Type 0 where
   pub sorted : IsTrue (is_sorted key_cmp s)
-  pub each : (path : Path) (block : ℕ) → IsTrue (is_place path) → block < 2 ^ 32 → find key_cmp (key path block) s ≡ blocks path block
+  pub each : (path : Path) (block : ℕ) → IsTrue (is_place path) → block < 2 ^ 32
+      → find key_cmp (key path block) s ≡ blocks path block
   pub only : AllByRecursion IsBlockPair s

@@ -30,10 +30,11 @@ HasRoom state = IsObservable state → length state.pairs < pairs_limit
 
 -- in each tree that an observable list holds, the parent of the path is the root or a directory
 abbrev pub HasParent : PairsState → Path → Type 0
-HasParent state path = IsObservable state → (t : Tree) (p : Parameters) → HoldsTree state t p → is_directory t (parent path) ≡ true
+HasParent state path = IsObservable state → (t : Tree) (p : Parameters) → HoldsTree state t p
+    → is_directory t (parent path) ≡ true
 
--- a command's reply and the tree after it, where neither the pages of that tree nor the image's version count: no command
--- is refused as `full` or `version`
+-- a command's reply and the tree after it, where neither the pages of that tree nor the image's version count: no
+-- command is refused as `full` or `version`
 abbrev pub uncounted_by : Tree → Command → Parameters → Option Refusal → Step
 uncounted_by t command p (Some refusal) = record { reply = Refused refusal; tree = t }
 uncounted_by t command p None = record { reply = reply_of t command p; tree = next_tree t command }
@@ -47,26 +48,32 @@ reply_seen see (Ok value) = see value
 reply_seen see (Err refusal) = Refused refusal
 
 -- the answer is the step's reply, and the pairs are those of its tree
-pub record IsStepOf {T : Type 0} (see : T → Reply) (step : Step) (p : Parameters) (new : PairsState) (answer : Result T Refusal) : Type 0 where
+pub record IsStepOf {T : Type 0} (see : T → Reply) (step : Step) (p : Parameters) (new : PairsState)
+    (answer : Result T Refusal) : Type 0 where
   pub reply : reply_seen see answer ≡ step.reply
   pub pairs_are : new.pairs ≡ pairs step.tree p
 
 -- the answer to a command on the tree that the list held, and the pairs after it
-abbrev pub IsCarriedOut : {T : Type 0} → (T → Reply) → Command → PairsState → Result (Result T Refusal) Fault → Tree → Parameters → Type 0
+abbrev pub IsCarriedOut : {T : Type 0} → (T → Reply) → Command → PairsState → Result (Result T Refusal) Fault
+    → Tree → Parameters → Type 0
 IsCarriedOut see command new result t p = IfOk result (λ answer. IsStepOf see (uncounted_step t command p) p new answer)
 
 -- A call that carries out a command on the tree that the list holds, `version` and `full` apart; a refusal changes
 -- nothing. After a fault nothing is promised of the pairs.
-pub record CarriesOut {T : Type 0} (see : T → Reply) (command : Command) (old new : PairsState) (result : Result (Result T Refusal) Fault) : Type 0 where
+pub record CarriesOut {T : Type 0} (see : T → Reply) (command : Command) (old new : PairsState)
+    (result : Result (Result T Refusal) Fault) : Type 0 where
   pub faults : new.faults ≡ disk_faults_after old.faults result
   pub observable : IsObservable old → OnOk result (IsObservable new)
-  pub carried : IsObservable old → (t : Tree) (p : Parameters) → HoldsTree old t p → IsCarriedOut see command new result t p
+  pub carried : IsObservable old → (t : Tree) (p : Parameters) → HoldsTree old t p
+      → IsCarriedOut see command new result t p
 
 -- the same of a call that works under one version of the format
-pub record CarriesOutUnder {T : Type 0} (version : Version) (see : T → Reply) (command : Command) (old new : PairsState) (result : Result (Result T Refusal) Fault) : Type 0 where
+pub record CarriesOutUnder {T : Type 0} (version : Version) (see : T → Reply) (command : Command) (old new : PairsState)
+    (result : Result (Result T Refusal) Fault) : Type 0 where
   pub faults : new.faults ≡ disk_faults_after old.faults result
   pub observable : IsObservable old → OnOk result (IsObservable new)
-  pub carried : IsObservable old → (t : Tree) (p : Parameters) → p.version ≡ version → HoldsTree old t p → IsCarriedOut see command new result t p
+  pub carried : IsObservable old → (t : Tree) (p : Parameters) → p.version ≡ version → HoldsTree old t p
+      → IsCarriedOut see command new result t p
 
 -- a call that leaves an observable list as it was, also where it fails
 pub record KeepsPairs (old new : PairsState) : Type 0 where
@@ -77,10 +84,12 @@ pub record KeepsPairs (old new : PairsState) : Type 0 where
 pub record TellsKind (path : Path) (old new : PairsState) (result : Result (Option Kind) Fault) : Type 0 where
   pub faults : new.faults ≡ disk_faults_after old.faults result
   pub keeps : KeepsPairs old new
-  pub told : IsObservable old → (t : Tree) (p : Parameters) → HoldsTree old t p → IfOk result (λ kind. kind ≡ kind_of_node (node_at t path))
+  pub told : IsObservable old → (t : Tree) (p : Parameters) → HoldsTree old t p
+      → IfOk result (λ kind. kind ≡ kind_of_node (node_at t path))
 
 -- a call that gives the value of the first pair of what stands at a path; the root has a directory's
 pub record TellsFirst (path : Path) (old new : PairsState) (result : Result (Option (List ℕ)) Fault) : Type 0 where
   pub faults : new.faults ≡ disk_faults_after old.faults result
   pub keeps : KeepsPairs old new
-  pub told : IsObservable old → (t : Tree) (p : Parameters) → HoldsTree old t p → IfOk result (λ first. first ≡ first_value (node_at t path) p.version)
+  pub told : IsObservable old → (t : Tree) (p : Parameters) → HoldsTree old t p
+      → IfOk result (λ first. first ≡ first_value (node_at t path) p.version)

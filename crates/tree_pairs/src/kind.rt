@@ -97,7 +97,8 @@ fn value_behind(first: u8, bytes: &[u8]) -> Value
 
 /// The bytes of the attribute that has this value; `None` exactly where it is no attribute's.
 pub fn attribute_in(value: &[u8]) -> Option<&[u8]>
-    ensures bytes { MatchOption result (IsNoAttribute value.now) (λ bytes. value.now ≡ model.attribute_value bytes.now) }
+    ensures bytes { MatchOption result (IsNoAttribute value.now)
+        (λ bytes. value.now ≡ model.attribute_value bytes.now) }
     ensures fits { IfSome result (λ bytes. length bytes.now ≤ attribute_limit) }
 {
     match value {
@@ -137,7 +138,8 @@ pub fn kind_in(value: &[u8]) -> Option<Kind>
 /// What the first value of a path says under one version; `None` exactly where the version has no such value.
 pub fn kind_under(value: &[u8], version: Version) -> Option<Kind>
     ensures found { IfSome result (λ kind. IsKind kind × IsValueOf version kind value.now) }
-    ensures only { (kind : Kind) → IsKind kind → IsValueOf version kind value.now → result ≡ Some kind }
+    ensures only { (kind : Kind) → IsKind kind
+        → IsValueOf version kind value.now → result ≡ Some kind }
 {
     match kind_in(value)? {
         Kind::Directory => Some(Kind::Directory),
@@ -150,7 +152,8 @@ pub fn kind_under(value: &[u8], version: Version) -> Option<Kind>
 
 /// The bytes of a file that stand in its first pair; `None` where the first pair has none, or there is no such pair.
 pub fn inline_in(first: &Option<Value>) -> Option<&[u8]>
-    ensures first { MatchOption result (LacksBytes first.now) (λ bytes. first.now ≡ Some (model.inline_value bytes.now)) }
+    ensures first { MatchOption result (LacksBytes first.now)
+        (λ bytes. first.now ≡ Some (model.inline_value bytes.now)) }
     ensures fits { IfSome result (λ bytes. length bytes.now < Value.MAX_LEN) }
 {
     match first.as_ref()?.as_slice() {
@@ -161,7 +164,8 @@ pub fn inline_in(first: &Option<Value>) -> Option<&[u8]>
 
 /// What the first pair of a path says of it: nothing stands there where there is no such pair.
 pub fn kind_told(first: &Option<Value>) -> Option<Kind>
-    ensures { (o : Option Node) (version : Version) → length (contents_of o) ≤ file_limit → first.now ≡ first_value o version → result ≡ kind_of_node o }
+    ensures { (o : Option Node) (version : Version) → length (contents_of o) ≤ file_limit
+        → first.now ≡ first_value o version → result ≡ kind_of_node o }
 {
     match first {
         Some(value) => kind_in(value.as_slice()),

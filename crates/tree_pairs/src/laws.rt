@@ -14,7 +14,9 @@ ghost use Rattle.tree_pairs.specs.TreeCalls.{uncounted_step};
 /// full: its tree has too many pages, and no other refusal holds.
 pub fn calls_are_steps_but_for_full()
     ensures fits { (t : Tree) (command : Command) (p : Parameters) → lacks_version command p ≡ false
-        → (may_fill command && nat_lt p.slots (page_count (next_tree t command) p)) ≡ false → step t command p ≡ uncounted_step t command p }
-    ensures refused { (t : Tree) (command : Command) (p : Parameters) (refusal : Refusal) → lacks_version command p ≡ false
+        → (may_fill command && nat_lt p.slots (page_count (next_tree t command) p)) ≡ false
+        → step t command p ≡ uncounted_step t command p }
+    ensures refused { (t : Tree) (command : Command) (p : Parameters) (refusal : Refusal)
+        → lacks_version command p ≡ false
         → refusal_of t command ≡ Some refusal → step t command p ≡ uncounted_step t command p }
 {}

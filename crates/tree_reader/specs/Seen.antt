@@ -1,6 +1,7 @@
 -- Which pairs a reader has seen: what its fields say of them. A caller needs no more of this than that a new reader has
 -- seen nothing, and one that took a pair has seen it behind the others.
-use Rattle.std.specs.Prelude.{◌≡◌, ℕ, ◌+◌, ◌-◌, ◌*◌, ◌/◌, ◌<◌, ◌≤◌, min, IsTrue, List, ◌∷◌, ◌++◌, length, [], Option, Some, None, cond, true, false, ◌⊎◌}
+use Rattle.std.specs.Prelude.{◌≡◌, ℕ, ◌+◌, ◌-◌, ◌*◌, ◌/◌, ◌<◌, ◌≤◌, min, IsTrue, List, ◌∷◌, ◌++◌, length, [], Option}
+use Rattle.std.specs.Prelude.{Some, None, cond, true, false, ◌⊎◌}
 use Rattle.std.specs.List.{AllByRecursion}
 use Rattle.std.specs.Ordering.{is_le}
 use Rattle.std.specs.declared.cmp.Ordering.TheVariants.{Less}
@@ -10,7 +11,8 @@ use Rattle.store_model.specs.Parameters.{Parameters}
 use Rattle.store_model.specs.Paths.{Path, Name, is_path, is_root, is_inside, name_cmp, path_cmp, parent, key}
 use Rattle.store_model.specs.Pairs.{Pair, file_block, file_value, is_inline, has_attributes, pairs}
 use Rattle.store_model.specs.Pages.{IsBare}
-use Rattle.store_model.specs.Trees.{Tree, Node, Entry, Attributes, IsTree, node_at, attributes_at, is_directory, file_limit}
+use Rattle.store_model.specs.Trees.{Tree, Node, Entry, Attributes, IsTree, node_at, attributes_at, is_directory}
+use Rattle.store_model.specs.Trees.{file_limit}
 use Rattle.store_model.specs.Trees.Node.{File}
 use Rattle.tree_pairs.specs.declared.kind.Kind.{Kind}
 use Rattle.tree_pairs.specs.declared.kind.Kind.TheVariants as kinds
@@ -47,8 +49,8 @@ abbrev pub IsAbove : Option Name → Name → Type 0
 IsAbove None name = Unit {0}
 IsAbove (Some last) name = name_cmp last name ≡ Less
 
--- an attribute may stand next: the version has attributes, the path is that of the last entry, and the name is above those
--- of its attributes so far
+-- an attribute may stand next: the version has attributes, the path is that of the last entry, and the name is above
+-- those of its attributes so far
 abbrev pub MayBeNext : Version → Path → Option Name → Path → Name → Type 0
 MayBeNext version last so_far path name = IsTrue (has_attributes version) × (path ≡ last) × IsAbove so_far name
 

@@ -22,7 +22,8 @@ pub struct Counts {
 pub fn counted(counts: Counts, kind: Kind) -> Option<Counts>
     requires { IsKind kind }
     ensures more { IfSome result (λ more. CountsMore counts kind more) }
-    ensures fits { counts.dirs + counts.files < u32.MAX → counts.bytes + file_limit ≤ u64.MAX → IsSome result }
+    ensures fits { counts.dirs + counts.files < u32.MAX
+        → counts.bytes + file_limit ≤ u64.MAX → IsSome result }
 {
     match kind {
         Kind::Directory => Some(Counts {

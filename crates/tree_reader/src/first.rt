@@ -31,9 +31,9 @@ impl Entry {
         }
     }
 
-    /// Whether an entry may stand at a path, behind this one as the last: its parent is the root, the last path if that is
-    /// a directory, or strictly above it. All paths above the last one are directories, and what stands in any other
-    /// directory has come before.
+    /// Whether an entry may stand at a path, behind this one as the last: its parent is the root, the last path if
+    /// that is a directory, or strictly above it. All paths above the last one are directories, and what stands in
+    /// any other directory has come before.
     pub fn may_precede(&self, path: &Path) -> bool
         requires { paths.is_root path.now ≡ false }
         ensures { IsTrue result ↔ MayFollow self.now.path self.now.kind path.now }
@@ -50,7 +50,8 @@ impl Entry {
 
 /// The entry that a first pair names; `None` exactly where it is no path's first pair under the version.
 pub fn first_in(key: &Key, value: &[u8], version: Version) -> Option<Entry>
-    ensures found { IfSome result (λ entry. IsFirst version entry.path entry.kind key.now value.now) }
+    ensures found { IfSome result
+        (λ entry. IsFirst version entry.path entry.kind key.now value.now) }
     ensures only { (path : paths.Path) (kind : Kind) → IsFirst version path kind key.now value.now
         → result ≡ Some (record { path = path; kind = kind }) }
 {

@@ -50,9 +50,9 @@ impl TreeReader {
         }
     }
 
-    /// Takes the next pair: whether some tree's pairs begin with those that were taken and this one, under the reader's
-    /// version. So its key has to be greater than theirs. Where the answer is no, nothing changed. Behind `pairs_limit` pairs, which are more than
-    /// any image holds, it may be no though such a tree exists.
+    /// Takes the next pair: whether some tree's pairs begin with those that were taken and this one, under the
+    /// reader's version. So its key has to be greater than theirs. Where the answer is no, nothing changed. Behind
+    /// `pairs_limit` pairs, which are more than any image holds, it may be no though such a tree exists.
     pub fn add(&mut self, key: &Key, value: &Value) -> bool
         ensures { AddsPair self.old self.new (key.now, value.now) result }
     {
@@ -82,7 +82,8 @@ impl TreeReader {
     /// the last.
     fn is_next_block(&self, len: u32, key: &Key, value: &Value) -> bool
         requires { self.now.read < len }
-        ensures { IsTrue result ↔ IsNextBlock self.now.last.path self.now.read len key.now value.now }
+        ensures { IsTrue result
+            ↔ IsNextBlock self.now.last.path self.now.read len key.now value.now }
     {
         let number = self.read / FILE_BLOCK + 1;
         let expected = (len - self.read).min(FILE_BLOCK);
@@ -133,7 +134,8 @@ impl TreeReader {
     /// Whether an attribute may stand behind the pairs that were taken: it is one of the last path, and its name is
     /// above those of the path's attributes before it. Version 1 has none.
     fn may_be_next(&self, path: &Path, name: &AttrName) -> bool
-        ensures { IsTrue result ↔ MayBeNext self.now.version self.now.last.path self.now.attribute path.now name.now }
+        ensures { IsTrue result
+            ↔ MayBeNext self.now.version self.now.last.path self.now.attribute path.now name.now }
     {
         has_attributes(self.version) && *path == self.last.path && is_above(&self.attribute, name)
     }

@@ -16,7 +16,8 @@ use store_model::Version;
 pub fn count_tree(pairs: &[(Key, Value)], version: Version) -> Option<Counts>
     requires { length pairs.now ≤ pairs_limit }
     ensures tree { (p : Parameters) → p.version ≡ version → IfSome result (AreCounted pairs.now p) }
-    ensures none { (p : Parameters) → p.version ≡ version → IfNone result (AreOfTree pairs.now p → ⊥) }
+    ensures none { (p : Parameters) → p.version ≡ version
+        → IfNone result (AreOfTree pairs.now p → ⊥) }
 {
     let mut reader = TreeReader::new(version);
     for (key, value) in pairs {

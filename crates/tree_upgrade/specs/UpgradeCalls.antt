@@ -1,10 +1,12 @@
 -- What an upgrade of a tree's pairs to version 2 does, and what its inner calls do.
-use Rattle.std.specs.Prelude.{◌≡◌, ◌⊎◌, ℕ, ◌≤◌, false, List, [], length, take, Option, Some, None, IsTrue, IsSome, IfSome, MatchOption, Result, IfOk, OnOk}
+use Rattle.std.specs.Prelude.{◌≡◌, ◌⊎◌, ℕ, ◌≤◌, false, List, [], length, take, Option, Some, None, IsTrue, IsSome}
+use Rattle.std.specs.Prelude.{IfSome, MatchOption, Result, IfOk, OnOk}
 use Rattle.std.specs.FinMap.{find, put}
 use Rattle.std.specs.declared.cmp.Ordering.TheVariants.{Less}
 use Rattle.store_model.specs.declared.version.Version.TheVariants.{Two}
 use Rattle.store_model.specs.Parameters.{Parameters, with_version}
-use Rattle.store_model.specs.Paths.{Path, Name, is_root, is_path, is_attribute_name, fits_attribute, attribute_place, path_cmp, key, key_cmp}
+use Rattle.store_model.specs.Paths.{Path, Name, is_root, is_path, is_attribute_name, fits_attribute, attribute_place}
+use Rattle.store_model.specs.Paths.{path_cmp, key, key_cmp}
 use Rattle.store_model.specs.Pairs.{Pair, file_value, inline_limit, inline_value}
 use Rattle.store_model.specs.Trees.{Tree}
 use Rattle.store_base.specs.declared.store_fault.Fault.{Fault}
@@ -21,7 +23,8 @@ pub record InlinesShortFiles {T : Type 0} (old new : PairsState) (result : Resul
   pub hidden : IsObservable new → IsObservable old
   pub observable : IsObservable old → OnOk result (IsObservable new)
   pub fewer : IsObservable old → OnOk result (length new.pairs ≤ length old.pairs)
-  pub upgraded : IsObservable old → (t : Tree) (p : Parameters) → HoldsTree old t p → OnOk result (HoldsTree new t (with_version p Two))
+  pub upgraded : IsObservable old → (t : Tree) (p : Parameters) → HoldsTree old t p
+      → OnOk result (HoldsTree new t (with_version p Two))
 
 -- ---- the next entry
 
@@ -54,7 +57,8 @@ LacksBehind last blocks = (path : Path) → IsTrue (is_path path) → path_cmp l
 pub record IsFirstBehind (last : Path) (blocks : BlockMap) (entry : Entry) : Type 0 where
   pub there : blocks entry.path 0 ≡ Some entry.first
   pub behind : path_cmp last entry.path ≡ Less
-  pub next : (other : Path) → IsTrue (is_path other) → path_cmp last other ≡ Less → path_cmp other entry.path ≡ Less → blocks other 0 ≡ None
+  pub next : (other : Path) → IsTrue (is_path other) → path_cmp last other ≡ Less → path_cmp other entry.path ≡ Less
+      → blocks other 0 ≡ None
 
 -- the key is that of no first pair; the root has none
 abbrev pub IsNoFirst : List ℕ → Type 0
@@ -76,7 +80,8 @@ pub record FindsEntry (last : Path) (old new : PairsState) (result : Result (Opt
   pub hidden : IsObservable new → IsObservable old
   pub keeps : KeepsPairs old new
   pub valid : IfOk result (λ found. IfSome found (λ entry. IsTrue (is_path entry.path)))
-  pub there : IsObservable old → IfOk result (λ found. IfSome found (λ entry. find key_cmp (key entry.path 0) old.pairs ≡ Some entry.first))
+  pub there : IsObservable old
+      → IfOk result (λ found. IfSome found (λ entry. find key_cmp (key entry.path 0) old.pairs ≡ Some entry.first))
   pub found : IsObservable old → (blocks : BlockMap) → HasBlocks blocks old.pairs → AreOfEntries blocks
       → IfOk result (λ found. MatchOption found (LacksBehind last blocks) (IsFirstBehind last blocks))
 
@@ -93,11 +98,13 @@ block_bytes (Some bytes) = bytes
 
 -- the pairs with the bytes of a path's block in its first pair, and without the block
 abbrev pub inlined : Path → List Pair → List Pair
-inlined path pairs = put key_cmp (key path 0) (inline_value (take inline_limit (block_bytes (find key_cmp (key path 1) pairs)))) (without (key path 1) pairs)
+inlined path pairs = put key_cmp (key path 0)
+    (inline_value (take inline_limit (block_bytes (find key_cmp (key path 1) pairs)))) (without (key path 1) pairs)
 
 -- the pairs after an entry's file was made inline, or was left as it is
 abbrev pub IsInlined : Entry → List Pair → List Pair → Type 0
-IsInlined entry before after = (IsShortInBlocks entry.first × (after ≡ inlined entry.path before)) ⊎ ((IsShortInBlocks entry.first → ⊥) × (after ≡ before))
+IsInlined entry before after = (IsShortInBlocks entry.first × (after ≡ inlined entry.path before))
+    ⊎ ((IsShortInBlocks entry.first → ⊥) × (after ≡ before))
 
 -- a call that makes an entry's file inline, where it is short and its bytes stand in a block
 pub record InlinesFile {T : Type 0} (entry : Entry) (old new : PairsState) (result : Result T Fault) : Type 0 where

@@ -3,7 +3,8 @@
 ghost use Rattle.std.specs.Prelude.{◌≡◌, ◌≤◌, ◌↔◌, IsTrue, length, take};
 ghost use Rattle.store_model.specs.Pairs.{inline_limit};
 ghost use Rattle.tree_pairs.specs.TreeCalls.{HasRoom};
-ghost use Rattle.tree_upgrade.specs.UpgradeCalls.{InlinesShortFiles, FindsEntry, IsEntryOf, InlinesFile, IsShortInBlocks, block_bytes};
+ghost use Rattle.tree_upgrade.specs.UpgradeCalls.{InlinesShortFiles, FindsEntry, IsEntryOf, InlinesFile};
+ghost use Rattle.tree_upgrade.specs.UpgradeCalls.{IsShortInBlocks, block_bytes};
 
 use ordered_pairs::OrderedPairs;
 use path_keys::Path;

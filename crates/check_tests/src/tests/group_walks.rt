@@ -1,5 +1,5 @@
-//! Small tables that are walked over: the pages of a list that was worked out apart from this program, and tables that are
-//! no list's, each in one way.
+//! Small tables that are walked over: the pages of a list that was worked out apart from this program, and tables
+//! that are no list's, each in one way.
 
 ghost use Rattle.std.specs.Prelude.{◌≡◌, ◌≤◌, ◌<◌};
 ghost use Rattle.ordered_table.specs.MemSlots.{mem_state};
@@ -16,7 +16,8 @@ use std::sync::ledger::{Blank, Ledger};
 use store_base::{DrawKind, Fault, Key, Label, Lead, Params, Value};
 use table_order::check_order;
 
-/// How a key begins; it has zeros behind that. Under the draw `ruler` it stands on as many levels above 0 as it has a `U`.
+/// How a key begins; it has zeros behind that. Under the draw `ruler` it stands on as many levels above 0 as it has a
+/// `U`.
 type Front = [u8; 3];
 
 /// A page: its level, the key that leads it or none for the start, its place in its group, and its keys.
@@ -152,8 +153,8 @@ fn walk(
     walk_in::<Brand>(slots, draw, used, fronts, Blank::new(1))
 }
 
-/// Walks over sixteen slots with the pages of the samples, as if they were so many, and looks what comes of it: whether they
-/// are a list's, and the pairs that were handed on by then.
+/// Walks over sixteen slots with the pages of the samples, as if they were so many, and looks what comes of it:
+/// whether they are a list's, and the pairs that were handed on by then.
 fn walk_over(
     rt: &impl Abort,
     alloc: Global,
@@ -223,9 +224,9 @@ fn lists_are_known(rt: HostRuntime) {
     }
 }
 
-/// Tables of the height 2 that are no list's: a page more or less than is told; a run whose first key is the last of the run
-/// before; a run behind one with room; a group that is not there; one that no key leads; one that begins with another key;
-/// keys on a level below or above their own; and keys of one group that belong into the next.
+/// Tables of the height 2 that are no list's: a page more or less than is told; a run whose first key is the last of
+/// the run before; a run behind one with room; a group that is not there; one that no key leads; one that begins with
+/// another key; keys on a level below or above their own; and keys of one group that belong into the next.
 static OTHERS: [(&[Sample], u32); 10] = [
     (&[(0, None, 0, &TEN)], 0),
     (&[(0, None, 0, &TEN)], 2),

@@ -1,5 +1,5 @@
-//! The check of a table's order: held to what the order says, slot by slot, over all tables of four slots; and on tables of
-//! 1,024 slots, also such as are made to take work, with its reads and the starts that it draws counted.
+//! The check of a table's order: held to what the order says, slot by slot, over all tables of four slots; and on
+//! tables of 1,024 slots, also such as are made to take work, with its reads and the starts that it draws counted.
 
 ghost use Rattle.std.specs.Prelude.{◌≡◌, ◌≤◌, ◌<◌};
 ghost use Rattle.seeded_draw.specs.AnyDrawn.{any_draw, any_digest, any_is_lawful};
@@ -236,9 +236,9 @@ fn all_tables_of_four_slots(rt: HostRuntime) {
 /// How many slots the tables have that are made to take work.
 pub(super) const MANY: u32 = 1024;
 
-/// A table that takes a square of its slots where a check jumps back over pages alone whose own way is known. Half of the
-/// pages stand where they start, and of the others one by turns starts before all and one just behind that half. It is
-/// turned by so many slots; where it is marred, the last two pages stand in each other's place.
+/// A table that takes a square of its slots where a check jumps back over pages alone whose own way is known. Half of
+/// the pages stand where they start, and of the others one by turns starts before all and one just behind that half.
+/// It is turned by so many slots; where it is marred, the last two pages stand in each other's place.
 pub(super) fn jumps(alloc: Global, turn: u32, is_marred: bool) -> Result<Vec<Entry>, AllocError> {
     let mut entries: Vec<Entry> = vec![in alloc; None; 1024]?;
     for rank in 0..MANY {

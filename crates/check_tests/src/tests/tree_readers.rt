@@ -1,4 +1,5 @@
-//! Pairs that are read one after another: those of trees, and others. What each list of pairs is was worked out by hand.
+//! Pairs that are read one after another: those of trees, and others. What each list of pairs is was worked out by
+//! hand.
 
 use path_keys::Path;
 use std::alloc::{AllocError, Global};

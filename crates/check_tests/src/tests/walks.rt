@@ -1,6 +1,6 @@
-//! The check of a table's order, and the walk over its groups behind it: their reads of slots and the starts that they
-//! draw, on full tables of 1,024 slots, also such as are made to take work. The limits are eight reads and four starts for
-//! each slot; what is held here is half of the one and a quarter of the other.
+//! The check of a table's order, and the walk over its groups behind it: their reads of slots and the starts that
+//! they draw, on full tables of 1,024 slots, also such as are made to take work. The limits are eight reads and four
+//! starts for each slot; what is held here is half of the one and a quarter of the other.
 
 ghost use Rattle.std.specs.Prelude.{◌≡◌, ◌≤◌, ◌<◌};
 ghost use Rattle.seeded_draw.specs.AnyDrawn.{any_draw};
@@ -158,9 +158,9 @@ fn groups_by_digests_fill_the_table(rt: HostRuntime) {
     hold_full_table(&rt, rt.alloc(), DrawKind::Sha256, 4, &keys);
 }
 
-/// The keys of 991 groups behind one that the start leads, each of ten, so that its one page is full and has no next one.
-/// With the 32 pages of the leaders above them they fill 1,024 slots. Where the sums are the same, those of the leaders'
-/// bytes are, and so the pages of all groups start in one slot under `ruler`.
+/// The keys of 991 groups behind one that the start leads, each of ten, so that its one page is full and has no next
+/// one. With the 32 pages of the leaders above them they fill 1,024 slots. Where the sums are the same, those of the
+/// leaders' bytes are, and so the pages of all groups start in one slot under `ruler`.
 fn keys_of_full_groups(alloc: Global, have_one_sum: bool) -> Result<Vec<Key>, AllocError> {
     let mut keys = plain_keys(alloc, 10)?;
     for number in 0..991u32 {

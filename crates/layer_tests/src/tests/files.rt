@@ -1,6 +1,6 @@
-//! Files, with the calls on their pairs counted. The counts are worked out by hand: what stands at the path is asked once,
-//! a block that the bytes fill is put, another one is read and put, and the first pair is put where the length changes. A
-//! file in one pair is put as a whole.
+//! Files, with the calls on their pairs counted. The counts are worked out by hand: what stands at the path is asked
+//! once, a block that the bytes fill is put, another one is read and put, and the first pair is put where the length
+//! changes. A file in one pair is put as a whole.
 
 use super::paths::path;
 use file_blocks::{cut, write_at};

@@ -1,7 +1,7 @@
-//! Lists of pairs, and the pages that they have, as another program worked them out. A change is `+KEY`, which puts the
-//! value 1, or `-KEY`, which takes the key out. A key is a path, with `#1` behind it for the block number 1. A page is its
-//! level, what leads its group, its index and its keys; with no key it is gone. A row ends at `;`: its changes stand before
-//! `|`, and its pages behind.
+//! Lists of pairs, and the pages that they have, as another program worked them out. A change is `+KEY`, which puts
+//! the value 1, or `-KEY`, which takes the key out. A key is a path, with `#1` behind it for the block number 1. A
+//! page is its level, what leads its group, its index and its keys; with no key it is gone. A row ends at `;`: its
+//! changes stand before `|`, and its pages behind.
 
 /// Changes under the draw `ruler` with three levels, and the pages that each puts and drops.
 pub(crate) static RULER: &str = "\

@@ -235,8 +235,8 @@ fn is_overwritten_by_four(rt: &impl Abort, alloc: Global, word: &str) -> bool {
 
 #[test]
 fn value_that_is_overwritten(rt: HostRuntime) {
-    // The put asks for the page of each of the three groups of the path. The lowest group is known then, so that the search
-    // behind it asks for the page of that one alone: 3 and 1, and 3 and 3 were it forgotten.
+    // The put asks for the page of each of the three groups of the path. The lowest group is known then, so that the
+    // search behind it asks for the page of that one alone: 3 and 1, and 3 and 3 were it forgotten.
     for word in &KEPT {
         assert!(rt; is_overwritten_by_four(&rt, rt.alloc(), *word), "{word}");
     }
@@ -266,8 +266,8 @@ fn looks_for(rt: &impl Abort, alloc: Global, blocks: &[u32]) -> u64 {
 
 #[test]
 fn searches_in_a_known_group(rt: HostRuntime) {
-    // The way down asks for a page of each of two levels above, and each search for the pages of the group up to that of
-    // its block: of the 25 blocks the first page has 10, and so has the second.
+    // The way down asks for a page of each of two levels above, and each search for the pages of the group up to that
+    // of its block: of the 25 blocks the first page has 10, and so has the second.
     let alloc = rt.alloc();
     assert!(rt; looks_for(&rt, alloc, &[25]) == 5);
     assert!(rt; looks_for(&rt, alloc, &[25, 24]) == 8);

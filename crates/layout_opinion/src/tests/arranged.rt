@@ -7,9 +7,9 @@ use std::alloc::Global;
 use std::process::Abort;
 use store_base::Slot;
 
-/// The parameters of a table of four slots; its tree; and how many tables there are, each of whose slots has the bytes of
-/// one of its slots, whichever, that are a tree's. It is one of them. So are free slots alone; and where pages of two
-/// trees make a third, those of each.
+/// The parameters of a table of four slots; its tree; and how many tables there are, each of whose slots has the
+/// bytes of one of its slots, whichever, that are a tree's. It is one of them. So are free slots alone; and where
+/// pages of two trees make a third, those of each.
 static ORDERS: &str = "\
     4 2 ruler|/0 /AU /U|1#\
     4 2 ruler|/UU /Ua|2#\

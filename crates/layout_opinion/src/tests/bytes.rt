@@ -6,9 +6,9 @@ use std::alloc::Global;
 use std::process::Abort;
 use store_base::BLOCK;
 
-/// The parameters of a table; its tree; and how many of its bytes may be greater by 1, so that it is a tree's table still:
-/// bytes of files, and letters of names below which no other pair stands. The tables have 1, 2 and 4 slots, and a page in
-/// each slot, or in all but one.
+/// The parameters of a table; its tree; and how many of its bytes may be greater by 1, so that it is a tree's table
+/// still: bytes of files, and letters of names below which no other pair stands. The tables have 1, 2 and 4 slots,
+/// and a page in each slot, or in all but one.
 static RULER: &str = "\
     1 1 ruler||0#\
     1 1 ruler|/f=2|2#\

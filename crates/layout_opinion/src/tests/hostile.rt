@@ -2,9 +2,9 @@
 //! one leaves.
 //!
 //! A row says what it shows; the parameters; a tree whose layout is made; pages that are inserted then, each with its
-//! level, its leader (`-` for the start), its index and its keys; slots that are copied to other places, where from and
-//! where to; bytes that are put in their places, counted from the first slot on; and what is to be said. A path alone is
-//! a directory, `PATH=N` a file of N bytes, in a page its first pair, and `PATH@N` the key of its block N.
+//! level, its leader (`-` for the start), its index and its keys; slots that are copied to other places, where from
+//! and where to; bytes that are put in their places, counted from the first slot on; and what is to be said. A path
+//! alone is a directory, `PATH=N` a file of N bytes, in a page its first pair, and `PATH@N` the key of its block N.
 //!
 //! Under `ruler` a label starts at its bytes' sum, round the table, and a key stands on as many levels above 0 as its
 //! path has letters `U`. Inserted pages are in order, so what is wrong with them is something else.

@@ -52,8 +52,8 @@ fn counting() -> [u8; 32] {
     seed
 }
 
-/// The parameters `SLOTS HEIGHT DRAW` of version 1 with a seed of zeros; behind them `counting` says a seed that counts,
-/// and `two` version 2.
+/// The parameters `SLOTS HEIGHT DRAW` of version 1 with a seed of zeros; behind them `counting` says a seed that
+/// counts, and `two` version 2.
 pub fn params(rt: &impl Abort, text: &str) -> Params {
     let kind = match text.split_whitespace().nth(2) {
         Some("ruler") => DrawKind::Ruler,
@@ -119,8 +119,8 @@ fn attribute_key(rt: &impl Abort, text: &str, name: &str) -> Key {
     attr_key(&path(rt, text), &name).expect(rt, "a key")
 }
 
-/// The pair of `KEY`, a directory; of `PATH=BYTES`, a file of so many in blocks; of `PATH:BYTES`, a file of so many in one
-/// pair; of `PATH@BLOCK=BYTES`, a block of so many; or of `PATH~NAME:BYTES`, an attribute of so many.
+/// The pair of `KEY`, a directory; of `PATH=BYTES`, a file of so many in blocks; of `PATH:BYTES`, a file of so many
+/// in one pair; of `PATH@BLOCK=BYTES`, a block of so many; or of `PATH~NAME:BYTES`, an attribute of so many.
 fn pair(rt: &impl Abort, word: &str) -> (Key, Value) {
     if let Some((name, len)) = word.split_once(':') {
         let len = number(rt, len);

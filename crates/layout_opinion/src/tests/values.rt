@@ -37,8 +37,8 @@ static LEFT: &str = "\
         /yyyyyyyyyyyyyyyyyyyyyyyyyyyyyyyyyyyyyyyyyyyyyyyyyyyyyyyyyyyyyyyyyyyyyyyyyyyyyyyyyyyyyyyyyyyyyyyyyyyyyyyyyyyyyyyyyyyyyyy|clean \
         10 5 7 15807";
 
-/// What a line of a script adds to a tree and takes out of it, entry by entry, and what is said of its table then, which
-/// has seven slots and height 3 under `sha256`, with a seed that counts.
+/// What a line of a script adds to a tree and takes out of it, entry by entry, and what is said of its table then,
+/// which has seven slots and height 3 under `sha256`, with a seed that counts.
 static LINES: &str = "\
     +/a|clean 1 1 0 0#\
     +/b|clean 1 2 0 0#\

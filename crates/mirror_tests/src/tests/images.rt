@@ -3,10 +3,10 @@
 use super::support::{Machine, expect, fields, has_digest, number};
 use std::process::Abort;
 
-/// A name; the SHA-256 of the image; the words for the image of the empty tree, or how many zeros there are in its place;
-/// a script; bytes that are written over, one at its place or in so many places from one on; and the name of another
-/// image with blocks that are copied from it, where from and where to, both counted in blocks. `names`, `file` and what
-/// is made of these have three slots that differ: 1, 2 and 4.
+/// A name; the SHA-256 of the image; the words for the image of the empty tree, or how many zeros there are in its
+/// place; a script; bytes that are written over, one at its place or in so many places from one on; and the name of
+/// another image with blocks that are copied from it, where from and where to, both counted in blocks. `names`,
+/// `file` and what is made of these have three slots that differ: 1, 2 and 4.
 static IMAGES: &str = "\
     one|c5f79e5e0daaa71b3e8435c05e875f639453faaadde46980a1d0d07116539273|format 1 1 ruler zeros|#\
     a|07e0cdb4c3d486096eca0e1d5feb2e62eab398ebc34af630a3e3b06a0e6fe95f|format 1 1 ruler zeros|make /a\n#\

@@ -4,9 +4,9 @@ use super::images::{is_named, make_both};
 use super::support::{CALM, Machine, expect, fields, number};
 use std::process::Abort;
 
-/// What a row shows; the two images; the status; the line that is printed; the writes and syncs of the second disk, those
-/// of its recovery included; the image that is left there; and, where they are mirrored, the one that recovery alone
-/// leaves there, or `-` where that holds no tree.
+/// What a row shows; the two images; the status; the line that is printed; the writes and syncs of the second disk,
+/// those of its recovery included; the image that is left there; and, where they are mirrored, the one that recovery
+/// alone leaves there, or `-` where that holds no tree.
 pub static PAIRS: &str = "\
     a page into the one slot|a|one|0|mirror 1\n|7 6|a|one#\
     the same image|a|a|0|mirror 0\n|0 1|a|a#\

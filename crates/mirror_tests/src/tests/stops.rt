@@ -49,8 +49,8 @@ struct Images<'a> {
     new: &'a [u8],
 }
 
-/// Looks whether a run of no line finds one of these images in what is left, or no tree where the old one holds none, and
-/// leaves that. Answers whether it is the new one, which is there only where something was written.
+/// Looks whether a run of no line finds one of these images in what is left, or no tree where the old one holds none,
+/// and leaves that. Answers whether it is the new one, which is there only where something was written.
 fn is_new(rt: &impl Abort, machine: &mut Machine, row: [&str; 9], images: &Images<'_>) -> bool {
     let is_written = machine.ended.calls[0] != 0;
     let left = machine.copy(rt);
@@ -95,8 +95,8 @@ fn expect_stopped(
     }
 }
 
-/// Looks whether the mirror of the row, stopped so at each call in turn, leaves what it may, until no call is left and it
-/// ends by itself.
+/// Looks whether the mirror of the row, stopped so at each call in turn, leaves what it may, until no call is left
+/// and it ends by itself.
 fn expect_stops(
     rt: &impl Abort,
     machine: &mut Machine,

@@ -1,8 +1,8 @@
 //! What the tests share: a machine in memory, on which one image is mirrored onto another, and the fields of a row of a
 //! table.
 //!
-//! Tables are texts, each with rows parted by `#` and fields parted by `|`. What a call comes to stays in the machine, so
-//! that nothing is handed out that owns memory.
+//! Tables are texts, each with rows parted by `#` and fields parted by `|`. What a call comes to stays in the
+//! machine, so that nothing is handed out that owns memory.
 
 use disk_model::{FailingDisk, MemDisk, StopChoice};
 use hex::FromHex;

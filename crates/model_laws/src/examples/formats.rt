@@ -1,7 +1,8 @@
 //! Lengths of images, the header, and the bytes of slots.
 #![tactic(auto, unfolding(crate::specs::Compute::everything))]
 
-ghost use Rattle.std.specs.Prelude.{◌≡◌, ℕ, ◌+◌, ◌-◌, List, [], ◌∷◌, ◌++◌, codes, take, drop, length, replicate, Some, None};
+ghost use Rattle.std.specs.Prelude.{◌≡◌, ℕ, ◌+◌, ◌-◌, List, [], ◌∷◌, ◌++◌, codes, take, drop, length, replicate, Some};
+ghost use Rattle.std.specs.Prelude.{None};
 ghost use Rattle.store_model.specs.declared.draw_kind.DrawKind.TheVariants.{Sha256};
 ghost use Rattle.store_model.specs.declared.version.Version.TheVariants.{One, Two};
 ghost use Rattle.store_model.specs.Lists.{zeros, zero_filled, numbers_below};
@@ -27,8 +28,12 @@ pub fn areas_of_the_second_slot()
     ensures mark { mark_at 1 ≡ 8193 }
     ensures shadow { shadow_at 2 1 ≡ 16384 }
     ensures slot { table_at 2 1 ≡ 24576 }
-    ensures redone { recovered_slot 2 (zeros 4096 ++ 1 ∷ zeros 4095 ++ 0 ∷ 1 ∷ zeros 4094 ++ replicate 4096 5 ++ replicate 4096 6 ++ replicate 4096 7 ++ replicate 4096 8) 1 ≡ replicate 4096 6 }
-    ensures not_redone { recovered_slot 2 (zeros 4096 ++ 1 ∷ zeros 4095 ++ 1 ∷ zeros 4095 ++ replicate 4096 5 ++ replicate 4096 6 ++ replicate 4096 7 ++ replicate 4096 8) 1 ≡ replicate 4096 8 }
+    ensures redone { recovered_slot 2
+        (zeros 4096 ++ 1 ∷ zeros 4095 ++ 0 ∷ 1 ∷ zeros 4094 ++ replicate 4096 5 ++ replicate 4096 6
+        ++ replicate 4096 7 ++ replicate 4096 8) 1 ≡ replicate 4096 6 }
+    ensures not_redone { recovered_slot 2
+        (zeros 4096 ++ 1 ∷ zeros 4095 ++ 1 ∷ zeros 4095 ++ replicate 4096 5 ++ replicate 4096 6
+        ++ replicate 4096 7 ++ replicate 4096 8) 1 ≡ replicate 4096 8 }
 {}
 
 /// The header of `format 1 1 ruler` with a seed of zeros.
@@ -41,7 +46,13 @@ pub fn header_of_one_slot()
 
 /// The header of `format 65536 8 sha256` with a seed of the numbers below 32.
 pub fn header_of_the_largest_table()
-    ensures { header (record { slots = 65536; height = 8; kind = Sha256; seed = numbers_below 32; version = One }) ≡
+    ensures { header (record {
+      slots = 65536;
+      height = 8;
+      kind = Sha256;
+      seed = numbers_below 32;
+      version = One;
+    }) ≡
         codes "HSTORE01" ++ 0 ∷ 1 ∷ 0 ∷ 0 ∷ 8 ∷ 1 ∷ 1 ∷ 0 ∷ numbers_below 32 ++ zeros 4048 }
 {}
 
@@ -53,31 +64,47 @@ pub fn slot_of_one_directory()
 
 /// The slots of `/Ua` and `/UU` in a table of four slots.
 pub fn slots_of_two_directories()
-    ensures ua { slot_bytes (Some (page (led_label 0 (codes "Ua")) (directory_cell (codes "Ua") ∷ []))) ≡
-        1 ∷ 0 ∷ 1 ∷ 0x55 ∷ 0x61 ∷ zeros 126 ++ 1 ∷ 0x55 ∷ 0x61 ∷ zeros 122 ++ 0 ∷ 1 ∷ 1 ∷ zeros (4096 - 259) }
-    ensures upper { slot_bytes (Some (page (start_label 1 0) (key_cell (codes "UU") ∷ key_cell (codes "Ua") ∷ []))) ≡
+    ensures ua { slot_bytes
+        (Some (page (led_label 0 (codes "Ua")) (directory_cell (codes "Ua") ∷ []))) ≡
+        1 ∷ 0 ∷ 1 ∷ 0x55 ∷ 0x61 ∷ zeros 126 ++ 1 ∷ 0x55 ∷ 0x61 ∷ zeros 122 ++ 0 ∷ 1
+        ∷ 1 ∷ zeros (4096 - 259) }
+    ensures upper { slot_bytes
+        (Some (page (start_label 1 0) (key_cell (codes "UU") ∷ key_cell (codes "Ua") ∷ []))) ≡
         1 ∷ 1 ∷ zeros 129 ++ 2 ∷ 0x55 ∷ 0x55 ∷ zeros 122 ++ 0x55 ∷ 0x61 ∷ zeros (122 + 4096 - 380) }
     ensures empty { slot_bytes None ≡ zeros 4096 }
-    ensures uu { slot_bytes (Some (page (led_label 0 (codes "UU")) (directory_cell (codes "UU") ∷ []))) ≡
-        1 ∷ 0 ∷ 1 ∷ 0x55 ∷ 0x55 ∷ zeros 126 ++ 1 ∷ 0x55 ∷ 0x55 ∷ zeros 122 ++ 0 ∷ 1 ∷ 1 ∷ zeros (4096 - 259) }
+    ensures uu { slot_bytes
+        (Some (page (led_label 0 (codes "UU")) (directory_cell (codes "UU") ∷ []))) ≡
+        1 ∷ 0 ∷ 1 ∷ 0x55 ∷ 0x55 ∷ zeros 126 ++ 1 ∷ 0x55 ∷ 0x55 ∷ zeros 122 ++ 0 ∷ 1
+        ∷ 1 ∷ zeros (4096 - 259) }
 {}
 
 /// The slot of the file `/U` of one byte in a table of eight slots: its first pair, and behind it its block.
 pub fn slot_of_a_file()
     ensures { slot_bytes (Some (page (led_label 0 (codes "U"))
         (record { key = key_of (codes "U"); value = Some (2 ∷ 0 ∷ 0 ∷ 0 ∷ 1 ∷ []) }
-        ∷ record { key = zero_filled 120 (codes "U") ++ 0 ∷ 0 ∷ 0 ∷ 1 ∷ []; value = Some (0 ∷ []) } ∷ []))) ≡
-        1 ∷ 0 ∷ 1 ∷ 0x55 ∷ zeros 127 ++ 2 ∷ 0x55 ∷ zeros 123 ++ 0 ∷ 5 ∷ 2 ∷ 0 ∷ 0 ∷ 0 ∷ 1 ∷ zeros 251
+        ∷ record {
+          key = zero_filled 120 (codes "U") ++ 0 ∷ 0 ∷ 0 ∷ 1 ∷ [];
+          value = Some (0 ∷ []);
+        } ∷ [])))
+        ≡
+        1 ∷ 0 ∷ 1 ∷ 0x55 ∷ zeros 127 ++ 2 ∷ 0x55 ∷ zeros 123 ++ 0 ∷ 5 ∷ 2 ∷ 0
+        ∷ 0 ∷ 0 ∷ 1 ∷ zeros 251
         ++ 0x55 ∷ zeros 119 ++ 0 ∷ 0 ∷ 0 ∷ 1 ∷ 0 ∷ 1 ∷ 0 ∷ zeros (255 + 3200) }
 {}
 
 /// What recovery and scrubbing leave in the one slot of an image: a slot that begins with 0 is no page, and
 /// scrubbing makes it zero; a marked slot takes its shadow where the commit flag is set, and only there.
 pub fn recovered_and_scrubbed_slots()
-    ensures kept { recovered_slot 1 (zeros 16384 ++ 0 ∷ 0x7f ∷ zeros 4094) 0 ≡ 0 ∷ 0x7f ∷ zeros 4094 }
+    ensures kept { recovered_slot 1 (zeros 16384 ++ 0 ∷ 0x7f ∷ zeros 4094) 0
+        ≡ 0 ∷ 0x7f ∷ zeros 4094 }
     ensures scrubbed { scrubbed_slot 1 (zeros 16384 ++ 0 ∷ 0x7f ∷ zeros 4094) 0 ≡ zeros 4096 }
-    ensures not_scrubbed { scrubbed_slot 1 (zeros 16384 ++ 2 ∷ 0x7f ∷ zeros 4094) 0 ≡ 2 ∷ 0x7f ∷ zeros 4094 }
-    ensures redone { recovered_slot 1 (zeros 4096 ++ 0x7f ∷ zeros 4095 ++ 1 ∷ zeros 4095 ++ 1 ∷ 2 ∷ zeros 8190) 0 ≡ 1 ∷ 2 ∷ zeros 4094 }
-    ensures not_redone { recovered_slot 1 (zeros 8192 ++ 1 ∷ zeros 4095 ++ 1 ∷ 2 ∷ zeros 8190) 0 ≡ zeros 4096 }
-    ensures not_marked { recovered_slot 1 (zeros 4096 ++ 0x7f ∷ zeros 8191 ++ 1 ∷ 2 ∷ zeros 8190) 0 ≡ zeros 4096 }
+    ensures not_scrubbed { scrubbed_slot 1 (zeros 16384 ++ 2 ∷ 0x7f ∷ zeros 4094) 0
+        ≡ 2 ∷ 0x7f ∷ zeros 4094 }
+    ensures redone { recovered_slot 1
+        (zeros 4096 ++ 0x7f ∷ zeros 4095 ++ 1 ∷ zeros 4095 ++ 1 ∷ 2 ∷ zeros 8190) 0
+        ≡ 1 ∷ 2 ∷ zeros 4094 }
+    ensures not_redone { recovered_slot 1 (zeros 8192 ++ 1 ∷ zeros 4095 ++ 1 ∷ 2 ∷ zeros 8190) 0
+        ≡ zeros 4096 }
+    ensures not_marked { recovered_slot 1 (zeros 4096 ++ 0x7f ∷ zeros 8191 ++ 1 ∷ 2 ∷ zeros 8190) 0
+        ≡ zeros 4096 }
 {}

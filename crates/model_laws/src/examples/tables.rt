@@ -3,7 +3,8 @@
 
 ghost use Rattle.std.specs.Prelude.{◌≡◌, ℕ, List, [], ◌∷◌, ◌++◌, codes, map, replicate, Some, None};
 ghost use Rattle.store_model.specs.Labels.{Lead, Label};
-ghost use Rattle.model_laws.specs.Examples.{ruler, text, table, page_list, start_label, led_label, page, directory_cell, key_cell, key_of};
+ghost use Rattle.model_laws.specs.Examples.{ruler, text, table, page_list, start_label, led_label, page};
+ghost use Rattle.model_laws.specs.Examples.{directory_cell, key_cell, key_of};
 ghost use Rattle.store_model.specs.Lists.{zero_filled};
 ghost use Rattle.store_model.specs.Pages.{Cell};
 
@@ -41,19 +42,22 @@ pub fn full_table()
     ensures full { table (ruler 2 2) (text ("make /Ua" ∷ "make /UU" ∷ [])) ≡
         Some (page (start_label 1 0) (key_cell (codes "Ua") ∷ []))
         ∷ Some (page (led_label 0 (codes "Ua")) (directory_cell (codes "Ua") ∷ [])) ∷ [] }
-    ensures emptied { table (ruler 2 2) (text ("make /Ua" ∷ "make /UU" ∷ "remove /Ua" ∷ [])) ≡ None ∷ None ∷ [] }
+    ensures emptied { table (ruler 2 2) (text ("make /Ua" ∷ "make /UU" ∷ "remove /Ua" ∷ []))
+        ≡ None ∷ None ∷ [] }
 {}
 
 /// A removal moves the page behind it only where that page's start does not lie past the hole.
 pub fn backward_shift()
     ensures before { table (ruler 8 2) (text ("make /UD" ∷ "make /UE" ∷ "make /Ud" ∷ [])) ≡
         None
-        ∷ Some (page (start_label 1 0) (key_cell (codes "UD") ∷ key_cell (codes "UE") ∷ key_cell (codes "Ud") ∷ []))
+        ∷ Some (page (start_label 1 0)
+        (key_cell (codes "UD") ∷ key_cell (codes "UE") ∷ key_cell (codes "Ud") ∷ []))
         ∷ Some (page (led_label 0 (codes "UD")) (directory_cell (codes "UD") ∷ []))
         ∷ Some (page (led_label 0 (codes "UE")) (directory_cell (codes "UE") ∷ []))
         ∷ Some (page (led_label 0 (codes "Ud")) (directory_cell (codes "Ud") ∷ []))
         ∷ None ∷ None ∷ None ∷ [] }
-    ensures after { table (ruler 8 2) (text ("make /UD" ∷ "make /UE" ∷ "make /Ud" ∷ "remove /UD" ∷ [])) ≡
+    ensures after { table (ruler 8 2)
+        (text ("make /UD" ∷ "make /UE" ∷ "make /Ud" ∷ "remove /UD" ∷ [])) ≡
         None
         ∷ Some (page (start_label 1 0) (key_cell (codes "UE") ∷ key_cell (codes "Ud") ∷ []))
         ∷ Some (page (led_label 0 (codes "Ud")) (directory_cell (codes "Ud") ∷ []))
@@ -63,11 +67,15 @@ pub fn backward_shift()
 
 /// Eleven directories take two pages of one group, and ten of them one.
 pub fn two_runs()
-    ensures eleven { table (ruler 4 1) (text ("make /a" ∷ "make /b" ∷ "make /c" ∷ "make /d" ∷ "make /e" ∷ "make /f" ∷ "make /g" ∷ "make /h" ∷ "make /i" ∷ "make /j" ∷ "make /k" ∷ [])) ≡
+    ensures eleven { table (ruler 4 1)
+        (text ("make /a" ∷ "make /b" ∷ "make /c" ∷ "make /d" ∷ "make /e" ∷ "make /f" ∷ "make /g"
+        ∷ "make /h" ∷ "make /i" ∷ "make /j" ∷ "make /k" ∷ [])) ≡
         Some (page (start_label 0 0) (map (λ c. directory_cell (c ∷ [])) (codes "abcdefghij")))
         ∷ Some (page (start_label 0 1) (directory_cell (codes "k") ∷ []))
         ∷ None ∷ None ∷ [] }
-    ensures ten { table (ruler 4 1) (text ("make /a" ∷ "make /b" ∷ "make /c" ∷ "make /d" ∷ "make /e" ∷ "make /f" ∷ "make /g" ∷ "make /h" ∷ "make /i" ∷ "make /j" ∷ "make /k" ∷ "remove /a" ∷ [])) ≡
+    ensures ten { table (ruler 4 1)
+        (text ("make /a" ∷ "make /b" ∷ "make /c" ∷ "make /d" ∷ "make /e" ∷ "make /f" ∷ "make /g"
+        ∷ "make /h" ∷ "make /i" ∷ "make /j" ∷ "make /k" ∷ "remove /a" ∷ [])) ≡
         Some (page (start_label 0 0) (map (λ c. directory_cell (c ∷ [])) (codes "bcdefghijk")))
         ∷ None ∷ None ∷ None ∷ [] }
 {}
@@ -80,6 +88,9 @@ pub fn file_in_its_group()
         ∷ None ∷ None ∷ None ∷ None
         ∷ Some (page (led_label 0 (codes "U"))
         (record { key = key_of (codes "U"); value = Some (2 ∷ 0 ∷ 0 ∷ 0 ∷ 1 ∷ []) }
-        ∷ record { key = zero_filled 120 (codes "U") ++ 0 ∷ 0 ∷ 0 ∷ 1 ∷ []; value = Some (0 ∷ []) } ∷ []))
+        ∷ record {
+          key = zero_filled 120 (codes "U") ++ 0 ∷ 0 ∷ 0 ∷ 1 ∷ [];
+          value = Some (0 ∷ []);
+        } ∷ []))
         ∷ None ∷ [] }
 {}

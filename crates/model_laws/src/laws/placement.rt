@@ -37,7 +37,8 @@ pub fn placement_is_in_order()
         IsDistinct (eq_by_cmp label_cmp) (map (λ page. page.label) pages) →
         IsInOrder d (place d pages) }
     ensures ordered_table { (d : Draw) (pages : List Page) → IsLawful d → length pages ≤ d.slots →
-        IsDistinct (eq_by_cmp label_cmp) (map (λ page. page.label) pages) → AllByRecursion IsPage pages →
+        IsDistinct (eq_by_cmp label_cmp) (map (λ page. page.label) pages)
+        → AllByRecursion IsPage pages →
         IsOrderedTable d (place d pages) }
 {}
 
@@ -45,16 +46,20 @@ pub fn placement_is_in_order()
 /// pages, however it came about: no label stands in it twice. The same holds of tables in order of other pages
 /// whose labels differ.
 pub fn order_makes_the_table_unique()
-    ensures one_ordered_table { (d : Draw) (a b : Table) → IsLawful d → IsOrderedTable d a → IsOrderedTable d b →
+    ensures one_ordered_table { (d : Draw) (a b : Table) → IsLawful d
+        → IsOrderedTable d a → IsOrderedTable d b →
         ((page : Page) → Contains (pages_in a) page → Contains (pages_in b) page) →
         ((page : Page) → Contains (pages_in b) page → Contains (pages_in a) page) → a ≡ b }
-    ensures its_placement { (d : Draw) (table : Table) → IsLawful d → IsOrderedTable d table → table ≡ place d (pages_in table) }
+    ensures its_placement { (d : Draw) (table : Table) → IsLawful d → IsOrderedTable d table
+        → table ≡ place d (pages_in table) }
     ensures distinct_labels { (d : Draw) (table : Table) → IsLawful d → IsOrderedTable d table →
         IsDistinct (eq_by_cmp label_cmp) (map (λ page. page.label) (pages_in table)) }
-    ensures one_table { (d : Draw) (a b : Table) → IsLawful d → length a ≡ d.slots → length b ≡ d.slots →
+    ensures one_table { (d : Draw) (a b : Table) → IsLawful d
+        → length a ≡ d.slots → length b ≡ d.slots →
         IsDistinct (eq_by_cmp label_cmp) (map (λ page. page.label) (pages_in a)) →
         IsPermutation (pages_in a) (pages_in b) → IsInOrder d a → IsInOrder d b → a ≡ b }
-    ensures the_placement { (d : Draw) (table : Table) (pages : List Page) → IsLawful d → length table ≡ d.slots →
+    ensures the_placement { (d : Draw) (table : Table) (pages : List Page) → IsLawful d
+        → length table ≡ d.slots →
         IsDistinct (eq_by_cmp label_cmp) (map (λ page. page.label) pages) →
         IsPermutation pages (pages_in table) → IsInOrder d table → table ≡ place d pages }
 {}
@@ -69,6 +74,7 @@ pub fn tree_has_one_table()
         (slot : ℕ) × HoldsPage (place (draw_of p) (pages t p)) slot page
         × ((other : ℕ) → HoldsPage (place (draw_of p) (pages t p)) other page → other ≡ slot) }
     ensures only_order { (t : Tree) (p : Parameters) (table : Table) → IsParameters p → IsTree t →
-        length table ≡ p.slots → IsPermutation (pages t p) (pages_in table) → IsInOrder (draw_of p) table →
+        length table ≡ p.slots → IsPermutation (pages t p) (pages_in table)
+        → IsInOrder (draw_of p) table →
         table ≡ place (draw_of p) (pages t p) }
 {}

@@ -23,14 +23,16 @@ pub fn refused_command_leaves_the_tree()
 
 /// The line `digest` is answered by the SHA-256 of the whole image of the tree.
 pub fn digest_is_of_the_whole_image()
-    ensures { (t : Tree) (p : Parameters) → (answer t (codes "digest") p).reply ≡ ImageDigest (sha256 (layout t p)) }
+    ensures { (t : Tree) (p : Parameters)
+        → (answer t (codes "digest") p).reply ≡ ImageDigest (sha256 (layout t p)) }
 {}
 
 /// Lines that are cut in two parts answer as the first part and then the second, from the tree that the first
 /// part leaves. So do commands.
 pub fn scripts_run_one_after_another()
     ensures replies { (t : Tree) (first second : List (List ℕ)) (p : Parameters) →
-        replies t (first ++ second) p ≡ replies t first p ++ replies (tree_after t first p) second p }
+        replies t (first ++ second) p ≡ replies t first p
+        ++ replies (tree_after t first p) second p }
     ensures tree { (t : Tree) (first second : List (List ℕ)) (p : Parameters) →
         tree_after t (first ++ second) p ≡ tree_after (tree_after t first p) second p }
     ensures replies_to_commands { (t : Tree) (first second : List Command) (p : Parameters) →
@@ -46,5 +48,6 @@ pub fn scripts_run_one_after_another()
 /// limit of a line.
 pub fn lines_spell_their_commands()
     ensures parsed { (c : Command) → IsCommand c → parse (command_text c) ≡ Ok c }
-    ensures read { (c : Command) → IsCommand c → length (command_text c) ≤ line_limit → reading (command_text c) ≡ Ok c }
+    ensures read { (c : Command) → IsCommand c → length (command_text c) ≤ line_limit
+        → reading (command_text c) ≡ Ok c }
 {}

@@ -9,10 +9,9 @@ use std::process::Abort;
 const MOST_CALLS: u64 = 200;
 
 /// What a row shows; the image, as in the tables of images that no script leaves, of which the first block is zeros
-/// where one is to be made; the words and the script of the call that is cut short; what it prints where nothing fails;
-/// and a script for the tree whose layout it leaves then, of version 2 where it is an upgrade. A wipe leaves zeros. What
-/// comes next behind a load is a run.
-/// Behind the first three of them the next call is cut short in turn.
+/// where one is to be made; the words and the script of the call that is cut short; what it prints where nothing
+/// fails; and a script for the tree whose layout it leaves then, of version 2 where it is an upgrade. A wipe leaves
+/// zeros. What comes next behind a load is a run. Behind the first three of them the next call is cut short in turn.
 static CALLS: &str = "\
     a page displaces another one round the end|format 4 2 ruler zeros|make /Ua\n|||run|make /UU\n|ok\n|\
         make /UU\nmake /Ua\n#\
@@ -66,8 +65,8 @@ fn next_status(machine: &Machine, row: [&str; 9]) -> u8 {
     }
 }
 
-/// Makes the next call with no script, where nothing fails, and answers whether that ends with its status. A scrub prints
-/// what the row says, and all else nothing.
+/// Makes the next call with no script, where nothing fails, and answers whether that ends with its status. A scrub
+/// prints what the row says, and all else nothing.
 fn is_next_ended(rt: &impl Abort, machine: &mut Machine, row: [&str; 9]) -> bool {
     let status = next_status(machine, row);
     let written = if row[5] == "scrub" { row[7] } else { "" };
@@ -120,8 +119,9 @@ fn expect_whole_or_none(rt: &impl Abort, machine: &mut Machine, whole: &[u8], ro
     expect(rt, is_none, "the report", row);
 }
 
-/// Looks whether a run of no line opens what is left of a scrub as the scrubbed image, or refuses it and leaves it. What
-/// is left of an upgrade it opens as the image that was found or, where something was written, as the one of version 2.
+/// Looks whether a run of no line opens what is left of a scrub as the scrubbed image, or refuses it and leaves it.
+/// What is left of an upgrade it opens as the image that was found or, where something was written, as the one of
+/// version 2.
 fn expect_opened_or_refused(
     rt: &impl Abort,
     machine: &mut Machine,
@@ -142,8 +142,8 @@ fn expect_opened_or_refused(
     machine.load(rt, &left);
 }
 
-/// Looks whether what is left of an image that is made or wiped is the whole of it, or none; and whether what is left of
-/// one that is scrubbed or upgraded is opened, or refused.
+/// Looks whether what is left of an image that is made or wiped is the whole of it, or none; and whether what is left
+/// of one that is scrubbed or upgraded is opened, or refused.
 fn expect_no_part(rt: &impl Abort, machine: &mut Machine, row: [&str; 9], images: &Images<'_>) {
     match row[5] {
         "run" | "load" => {}
@@ -257,9 +257,9 @@ fn leave(rt: &impl Abort, machine: &mut Machine, row: [&str; 9]) {
     }
 }
 
-/// Looks whether the call of the row, cut short, leaves what the next one ends, and does so where that is cut short in
-/// turn, if it is to be. A run finds the layout of the old tree where nothing was done; any other call does what is left
-/// to do. The tree is `-` where the image stays as it is.
+/// Looks whether the call of the row, cut short, leaves what the next one ends, and does so where that is cut short
+/// in turn, if it is to be. A run finds the layout of the old tree where nothing was done; any other call does what
+/// is left to do. The tree is `-` where the image stays as it is.
 pub fn expect_failures(rt: &impl Abort, machine: &mut Machine, row: [&str; 9], again: bool) {
     spoil(rt, machine, row);
     let found = machine.copy(rt);

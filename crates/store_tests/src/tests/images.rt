@@ -1,5 +1,5 @@
-//! Images that no script leaves: what `check` finds of them, what a run, a scrub and an upgrade make of them, and what is
-//! dumped of them and loaded.
+//! Images that no script leaves: what `check` finds of them, what a run, a scrub and an upgrade make of them, and
+//! what is dumped of them and loaded.
 
 use super::support::{CALM, LEAST, Machine, expect, fields, number, status_of};
 use std::process::Abort;
@@ -290,8 +290,8 @@ fn expect_dumped(rt: &impl Abort, machine: &mut Machine, row: [&str; 9], images:
     }
 }
 
-/// Looks whether a load of no line is refused where a tree stands in the image, or none, and whether it leaves the empty
-/// tree.
+/// Looks whether a load of no line is refused where a tree stands in the image, or none, and whether it leaves the
+/// empty tree.
 fn expect_unloaded(rt: &impl Abort, machine: &mut Machine, row: [&str; 9], images: &Images<'_>) {
     machine.load(rt, images.found);
     machine.call(rt, "load", "");

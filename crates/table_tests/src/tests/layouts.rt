@@ -17,8 +17,8 @@ fn tall_keys(rt: &impl Abort, alloc: Global, count: u16) -> Vec<Key> {
     keys
 }
 
-/// How many slots hold a page of directories with so many such keys, or why there is no layout. Each leads a group of its
-/// own on seven levels, with one page; the highest level has a page for 31 of them.
+/// How many slots hold a page of directories with so many such keys, or why there is no layout. Each leads a group of
+/// its own on seven levels, with one page; the highest level has a page for 31 of them.
 fn tall(rt: &impl Abort, alloc: Global, count: u16) -> Result<u32, ScratchFault> {
     let params = Params::new(16384, 8, DrawKind::Ruler, [0; 32]).expect(rt, "parameters");
     match layout(alloc, &params, &tall_keys(rt, alloc, count)).expect(rt, "distinct keys") {

@@ -51,8 +51,8 @@ fn push_last(pairs: &mut PairList, key: Key) -> Result<bool, NoMemory>
     Ok(true)
 }
 
-/// The layout of directories with these keys as they come, or why they have none; nothing for more than 16,384 keys, where
-/// they do not rise, and without the memory for their pairs.
+/// The layout of directories with these keys as they come, or why they have none; nothing for more than 16,384 keys,
+/// where they do not rise, and without the memory for their pairs.
 fn sorted_layout(
     alloc: Global,
     params: &Params,

@@ -1,5 +1,5 @@
-//! Pages that are changed in memory and settled: the bytes of the disk beside those of a layout from nothing, and a disk that
-//! fails at one of its calls.
+//! Pages that are changed in memory and settled: the bytes of the disk beside those of a layout from nothing, and a
+//! disk that fails at one of its calls.
 
 ghost use Rattle.std.specs.Prelude.{◌≡◌, length};
 
@@ -110,8 +110,8 @@ fn is_left(pages: TestedPages, image: &[u8]) -> bool {
     left.bytes() == image
 }
 
-/// Whether the pages of the first table, changed to those of the second one and settled, are that table. A page whose label
-/// stays is overwritten, or else dropped first.
+/// Whether the pages of the first table, changed to those of the second one and settled, are that table. A page whose
+/// label stays is overwritten, or else dropped first.
 fn is_settled(rt: &impl Abort, alloc: Global, tables: [&Table; 2], overwrites: bool) -> bool {
     let [old, new] = tables;
     let mut pages = stage(rt, alloc, &old.params, &old.image, old.pages.len());
@@ -156,8 +156,8 @@ fn drop_the_page(pages: &mut FailingPages) -> Result<(), SettleFault> {
     pages.settle()
 }
 
-/// Looks whether the pages, whose disk fails at this call alone, are spent just where that is a write or a sync; where it is a
-/// read, they are settled when that is tried again.
+/// Looks whether the pages, whose disk fails at this call alone, are spent just where that is a write or a sync;
+/// where it is a read, they are settled when that is tried again.
 fn is_spent_by_changes(rt: &impl Abort, pages: &mut FailingPages, call: u64) {
     let done = drop_the_page(pages).is_ok();
     let is_spent = READS <= call && call < CALLS;

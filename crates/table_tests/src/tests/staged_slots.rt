@@ -1,5 +1,5 @@
-//! A slot of the table that was read is not read from the disk again, and a settle keeps it with its new bytes. Cells that are
-//! inserted into its page are there as if the whole page was put.
+//! A slot of the table that was read is not read from the disk again, and a settle keeps it with its new bytes. Cells
+//! that are inserted into its page are there as if the whole page was put.
 
 use super::unseen_disk::{TestedPages, settle, stage};
 use disk_model::StopChoice;
@@ -60,7 +60,8 @@ fn a_slot_is_read_from_the_disk_once(rt: HostRuntime) {
     is_read_once(&rt, &mut pages);
 }
 
-/// The bytes other than zeros of the slot of page (0, start, 0) with the directories /0, /a and /b, of the values 2, 1 and 3.
+/// The bytes other than zeros of the slot of page (0, start, 0) with the directories /0, /a and /b, of the values 2,
+/// 1 and 3.
 const THREE_DIRECTORIES: [(usize, u8); 11] = [
     (0, 1),
     (131, 3),

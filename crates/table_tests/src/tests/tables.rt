@@ -102,8 +102,8 @@ enum Call {
     Holds(u32, [u8; 2], bool),
 }
 
-/// A call on slots, how many reads and writes were made in all when it ends, and the pages that the slots then hold, with
-/// the value 1; where none are told, the slots are not looked at.
+/// A call on slots, how many reads and writes were made in all when it ends, and the pages that the slots then hold,
+/// with the value 1; where none are told, the slots are not looked at.
 type Step = (Call, u64, &'static [Option<[u8; 2]>]);
 
 /// Searches for the page of this name, by either search; to find it elsewhere is a fault.
@@ -201,8 +201,8 @@ fn insertion_and_overwriting(rt: HostRuntime) {
     lead_so(&rt, rt.alloc(), 4, &INSERTIONS);
 }
 
-/// Two pages that start in one slot, the second of which goes round the end. Each of the two searches reads the slots up
-/// to the page once, or one free slot, and a look reads its slot once.
+/// Two pages that start in one slot, the second of which goes round the end. Each of the two searches reads the slots
+/// up to the page once, or one free slot, and a look reads its slot once.
 static SEARCHES: [Step; 6] = [
     (Call::Insert(*b"UU", 1), 2, &[]),
     (Call::Insert(*b"Ua", 1), 5, &[]),

@@ -14,7 +14,8 @@ use store_base::{DiskFault, NoMemory, Params, image_len};
 /// The room of its record, in bytes.
 const ROOM: usize = 4_194_304;
 
-/// A disk in memory of whose bytes contracts know nothing, so that pages are staged on it without a proof of what they are.
+/// A disk in memory of whose bytes contracts know nothing, so that pages are staged on it without a proof of what
+/// they are.
 #[derive(Drop)]
 pub(crate) struct UnseenDisk {
     pub(crate) disk: MemDisk,

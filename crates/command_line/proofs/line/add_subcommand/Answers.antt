@@ -8,7 +8,8 @@ use Rattle.command_line.specs.declared.line.Subcommand.TheVariants as subcommand
 use Rattle.command_line.proofs.line.add_subcommand.Goals as goal
 
 -- no subcommand has an argument that those behind it share
-local_subcommand : (subcommand : Subcommand) (command : Command) → IsSubcommandOf subcommand command → (out-Command command).has_globals ≡ false
+local_subcommand : (subcommand : Subcommand) (command : Command) → IsSubcommandOf subcommand command
+    → (out-Command command).has_globals ≡ false
 local_subcommand subcommands.Format command is = is.subcommand.local
 local_subcommand subcommands.Format2 command is = is.subcommand.local
 local_subcommand subcommands.Run command is = is.local

@@ -14,8 +14,10 @@ returns-clause-rule c =
     ∙ ap (λ (a : Arg). rule_of (record a { value_parser = parser })) c.help.ensures
     ∙ ap (λ (a : Arg). rule_of (record a { help = Some help; value_parser = parser })) c.required.ensures
     ∙ ap (λ (r : Rule). record r { required = true; parser = parser }) c.new.ensures.rule
-    ∙ ap (λ p. record (new_rule c.args.argument.now.name.now) { required = true; parser = p }) (given.1 ∙ ap Some given.2)
+    ∙ ap (λ p. record (new_rule c.args.argument.now.name.now) { required = true; parser = p })
+    (given.1 ∙ ap Some given.2)
 
 pub returns-clause-local : goal.returns-clause-local
 returns-clause-local c =
-    ap (λ (a : Arg). a.global) c.value_parser.ensures.others ∙ ap (λ (a : Arg). a.global) c.help.ensures ∙ ap (λ (a : Arg). a.global) c.required.ensures ∙ c.new.ensures.optional.1
+    ap (λ (a : Arg). a.global) c.value_parser.ensures.others ∙ ap (λ (a : Arg). a.global) c.help.ensures
+    ∙ ap (λ (a : Arg). a.global) c.required.ensures ∙ c.new.ensures.optional.1

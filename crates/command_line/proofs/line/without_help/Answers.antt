@@ -9,7 +9,8 @@ pub returns-clause-shape : goal.returns-clause-shape
 returns-clause-shape c =
     ap app_of_fields c.disable_help_flag.ensures
     ∙ ap (λ (f : Command-F Command). app_of_fields (record f { disable_help_flag = true })) c.after_help.ensures
-    ∙ ap (λ (f : Command-F Command). app_of_fields (record f { after_help = Some c.args.notes; disable_help_flag = true })) c.about.ensures
+    ∙ ap (λ (f : Command-F Command).
+    app_of_fields (record f { after_help = Some c.args.notes; disable_help_flag = true })) c.about.ensures
     ∙ ap (λ (app : App). record app { top = record app.top { disable_help_flag = true } }) c.new.ensures.app
 
 pub returns-clause-local : goal.returns-clause-local

@@ -36,4 +36,6 @@ unfolding request_of
 returns-in-load-clause-value c = rw c.in-load.is refl
 
 pub returns-in_default-clause-value : goal.returns-in_default-clause-value
-returns-in_default-clause-value c = sym (other_single c.args.name.now c.in_default.not-run c.in_default.not-session c.in_default.not-check c.in_default.not-scrub c.in_default.not-wipe c.in_default.not-upgrade c.in_default.not-dump c.in_default.not-load)
+returns-in_default-clause-value c =
+    sym (other_single c.args.name.now c.in_default.not-run c.in_default.not-session c.in_default.not-check
+    c.in_default.not-scrub c.in_default.not-wipe c.in_default.not-upgrade c.in_default.not-dump c.in_default.not-load)

@@ -8,13 +8,17 @@ use Rattle.store_model.specs.Commands.Reply.{Content}
 use Rattle.store_model.specs.Steps.{reply_of, next_tree}
 use Rattle.tree_pairs.proofs.CallLemmas.{step_done, step_refused}
 use Rattle.tree_pairs.proofs.AttributeLemmas.{unfit_attribute, attribute_found}
-use Rattle.dir_tree.proofs.AttributeLemmas.{refused_before, passed, found_path, no_room, has_room, unset_refused, unset_of_none, unset_of_one, get_is_unset, attribute_value_is, attribute_missing}
+use Rattle.dir_tree.proofs.AttributeLemmas.{refused_before, passed, found_path, no_room, has_room, unset_refused}
+use Rattle.dir_tree.proofs.AttributeLemmas.{unset_of_none, unset_of_one, get_is_unset, attribute_value_is}
+use Rattle.dir_tree.proofs.AttributeLemmas.{attribute_missing}
 use Rattle.dir_tree.proofs.attributes.attr.Goals as goal
 
 pub returns-in-Some-clause-call : goal.returns-in-Some-clause-call
 returns-in-Some-clause-call g c =
-    refused_before (λ x. Content x) (GetAttribute c.args.path.now c.args.name.now) c.args.path.now c.in-Some.refusal c.in_ok-refusal.field-0 _ _ c.in_ok-refusal.ensures.call c.in-Some.is
-    (λ t is. get_is_unset t c.args.path.now c.args.name.now ∙ unset_refused t c.args.path.now c.args.name.now c.in-Some.refusal is)
+    refused_before (λ x. Content x) (GetAttribute c.args.path.now c.args.name.now)
+    c.args.path.now c.in-Some.refusal c.in_ok-refusal.field-0 _ _ c.in_ok-refusal.ensures.call c.in-Some.is
+    (λ t is. get_is_unset t c.args.path.now c.args.name.now
+    ∙ unset_refused t c.args.path.now c.args.name.now c.in-Some.refusal is)
 
 -- no key, no attribute
 pub returns-in_default-attr_key-clause-call : goal.returns-in_default-attr_key-clause-call
@@ -27,9 +31,12 @@ returns-in_default-attr_key-clause-call g c =
       observable = tells.keeps.observable;
       carried = λ seen t p holds.
           let front = passed x c.in_ok-refusal.field-0 _ _ tells c.in_default.not-Some seen t p holds in
-          let long = no_room x a c.attr_key.result c.in_default-attr_key.not-Some c.attr_key.ensures.none (found_path t x front).0 in
-          step_refused (λ x. Content x) refusals.NoAttr t (GetAttribute x a) p (g.P.OrderedPairs.state c.refusal_to_find.new.pairs)
-          (get_is_unset t x a ∙ unset_of_none t x a front (unfit_attribute t x a holds.tree long)) (tells.keeps.unchanged seen ∙ holds.pairs_are);
+          let long = no_room x a c.attr_key.result c.in_default-attr_key.not-Some c.attr_key.ensures.none
+          (found_path t x front).0 in
+          step_refused (λ x. Content x) refusals.NoAttr t (GetAttribute x a) p
+          (g.P.OrderedPairs.state c.refusal_to_find.new.pairs)
+          (get_is_unset t x a ∙ unset_of_none t x a front (unfit_attribute t x a holds.tree long))
+          (tells.keeps.unchanged seen ∙ holds.pairs_are);
     }
 
 pub returns-in-Some-2-clause-call : goal.returns-in-Some-2-clause-call
@@ -47,8 +54,12 @@ returns-in-Some-2-clause-call g c =
           let front = passed x c.in_ok-refusal.field-0 _ _ tells c.in_default.not-Some seen t p holds in
           let call = got.observed (tells.keeps.observable seen) in
           let is = tells.keeps.unchanged seen ∙ holds.pairs_are in
-          let there = attribute_value_is t p x a between.pairs holds.tree c.attr_key.ensures.path c.attr_key.ensures.name is c.in-Some-2.value (has_room x a c.attr_key.result c.in-Some-attr_key.key c.in-Some-attr_key.is c.attr_key.ensures.none)
-          (ap (λ (k : List ℕ). find key_cmp k between.pairs) (sym c.in-Some-attr_key.ensures.value) ∙ sym call.found ∙ c.in-Some-2.is) in
+          let there = attribute_value_is t p x a
+          between.pairs holds.tree c.attr_key.ensures.path c.attr_key.ensures.name is
+          c.in-Some-2.value (has_room x a c.attr_key.result c.in-Some-attr_key.key c.in-Some-attr_key.is
+          c.attr_key.ensures.none)
+          (ap (λ (k : List ℕ). find key_cmp k between.pairs) (sym c.in-Some-attr_key.ensures.value)
+          ∙ sym call.found ∙ c.in-Some-2.is) in
           let short = (attribute_found t x a there.0 holds.tree there.1).short in
           step_done (λ x. Content x) c.bytes_in.result t (GetAttribute x a) p (g.P.OrderedPairs.state c.get.new.self)
           (get_is_unset t x a ∙ unset_of_one t x a there.0 front there.1)
@@ -70,7 +81,11 @@ returns-in-None-clause-call g c =
           let front = passed x c.in_ok-refusal.field-0 _ _ tells c.in_default.not-Some seen t p holds in
           let call = got.observed (tells.keeps.observable seen) in
           let is = tells.keeps.unchanged seen ∙ holds.pairs_are in
-          let missing = attribute_missing t p x a between.pairs holds.tree c.attr_key.ensures.path c.attr_key.ensures.name is (has_room x a c.attr_key.result c.in-Some-attr_key.key c.in-Some-attr_key.is c.attr_key.ensures.none)
-          (ap (λ (k : List ℕ). find key_cmp k between.pairs) (sym c.in-Some-attr_key.ensures.value) ∙ sym call.found ∙ c.in-None.is) in
-          step_refused (λ x. Content x) refusals.NoAttr t (GetAttribute x a) p (g.P.OrderedPairs.state c.get.new.self) (get_is_unset t x a ∙ unset_of_none t x a front missing) (call.unchanged ∙ is);
+          let missing = attribute_missing t p x a
+          between.pairs holds.tree c.attr_key.ensures.path c.attr_key.ensures.name is
+          (has_room x a c.attr_key.result c.in-Some-attr_key.key c.in-Some-attr_key.is c.attr_key.ensures.none)
+          (ap (λ (k : List ℕ). find key_cmp k between.pairs) (sym c.in-Some-attr_key.ensures.value)
+          ∙ sym call.found ∙ c.in-None.is) in
+          step_refused (λ x. Content x) refusals.NoAttr t (GetAttribute x a) p (g.P.OrderedPairs.state c.get.new.self)
+          (get_is_unset t x a ∙ unset_of_none t x a front missing) (call.unchanged ∙ is);
     }

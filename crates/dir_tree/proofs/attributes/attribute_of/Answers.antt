@@ -18,4 +18,6 @@ returns-then-eq c =
 pub returns-else-eq : goal.returns-else-eq
 returns-else-eq c name path below named fits key_is =
     let read = c.in_ok-owner.ensures in
-    false≢true (sym c.if-eq.false ∙ c.eq.ensures.same.1 (same_owner c.in_ok-owner.owner c.args.path.now c.in_ok-owner.name name read.path path read.name named read.fits fits (read.some ∙ key_is)))
+    false≢true (sym c.if-eq.false
+    ∙ c.eq.ensures.same.1 (same_owner c.in_ok-owner.owner c.args.path.now c.in_ok-owner.name name read.path path
+    read.name named read.fits fits (read.some ∙ key_is)))

@@ -18,6 +18,8 @@ returns-in_ok-attributes-in-None-clause-call g c =
     record {
       faults = lists.faults ∙ tells.faults;
       observable = keeps.observable;
-      carried = λ seen t p holds. step_done (λ x. AttributeListing x) c.in_ok-attributes-in-None.field-0 t (ListAttributes c.args.path.now) p new (sym (tells.told seen t p holds) ∙ c.in-None.is)
-          (ap AttributeListing (lists.listed (tells.keeps.observable seen) t p (still_holds old between t p tells.keeps seen holds))) (keeps.unchanged seen ∙ holds.pairs_are);
+      carried = λ seen t p holds. step_done (λ x. AttributeListing x) c.in_ok-attributes-in-None.field-0 t
+          (ListAttributes c.args.path.now) p new (sym (tells.told seen t p holds) ∙ c.in-None.is)
+          (ap AttributeListing (lists.listed (tells.keeps.observable seen) t p
+          (still_holds old between t p tells.keeps seen holds))) (keeps.unchanged seen ∙ holds.pairs_are);
     }

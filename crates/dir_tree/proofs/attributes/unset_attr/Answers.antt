@@ -8,12 +8,15 @@ use Rattle.store_model.specs.Steps.{reply_of}
 use Rattle.ordered_pairs.specs.PairsState.{without}
 use Rattle.tree_pairs.proofs.CallLemmas.{step_done, step_refused}
 use Rattle.tree_pairs.proofs.AttributeLemmas.{unfit_attribute}
-use Rattle.dir_tree.proofs.AttributeLemmas.{refused_before, passed, found_path, no_room, has_room, unset_refused, unset_of_none, unset_of_one, unset_done, without_none, attribute_value_is, attribute_missing}
+use Rattle.dir_tree.proofs.AttributeLemmas.{refused_before, passed, found_path, no_room, has_room, unset_refused}
+use Rattle.dir_tree.proofs.AttributeLemmas.{unset_of_none, unset_of_one, unset_done, without_none, attribute_value_is}
+use Rattle.dir_tree.proofs.AttributeLemmas.{attribute_missing}
 use Rattle.dir_tree.proofs.attributes.unset_attr.Goals as goal
 
 pub returns-in-Some-clause-call : goal.returns-in-Some-clause-call
 returns-in-Some-clause-call g c =
-    refused_before (λ x. Acknowledged) (UnsetAttribute c.args.path.now c.args.name.now) c.args.path.now c.in-Some.refusal c.in_ok-refusal.field-0 _ _ c.in_ok-refusal.ensures.call c.in-Some.is
+    refused_before (λ x. Acknowledged) (UnsetAttribute c.args.path.now c.args.name.now)
+    c.args.path.now c.in-Some.refusal c.in_ok-refusal.field-0 _ _ c.in_ok-refusal.ensures.call c.in-Some.is
     (λ t is. unset_refused t c.args.path.now c.args.name.now c.in-Some.refusal is)
 
 -- no key, no attribute
@@ -27,8 +30,12 @@ returns-in_default-attr_key-clause-call g c =
       observable = tells.keeps.observable;
       carried = λ seen t p holds.
           let front = passed x c.in_ok-refusal.field-0 _ _ tells c.in_default.not-Some seen t p holds in
-          let long = no_room x a c.attr_key.result c.in_default-attr_key.not-Some c.attr_key.ensures.none (found_path t x front).0 in
-          step_refused (λ x. Acknowledged) refusals.NoAttr t (UnsetAttribute x a) p (g.P.OrderedPairs.state c.refusal_to_find.new.pairs) (unset_of_none t x a front (unfit_attribute t x a holds.tree long)) (tells.keeps.unchanged seen ∙ holds.pairs_are);
+          let long = no_room x a c.attr_key.result c.in_default-attr_key.not-Some c.attr_key.ensures.none
+          (found_path t x front).0 in
+          step_refused (λ x. Acknowledged) refusals.NoAttr t (UnsetAttribute x a) p
+          (g.P.OrderedPairs.state c.refusal_to_find.new.pairs)
+          (unset_of_none t x a front (unfit_attribute t x a holds.tree long))
+          (tells.keeps.unchanged seen ∙ holds.pairs_are);
     }
 
 pub returns-in-Some-2-clause-call : goal.returns-in-Some-2-clause-call
@@ -46,12 +53,17 @@ returns-in-Some-2-clause-call g c =
           let front = passed x c.in_ok-refusal.field-0 _ _ tells c.in_default.not-Some seen t p holds in
           let call = taken.observed (tells.keeps.observable seen) in
           let is = tells.keeps.unchanged seen ∙ holds.pairs_are in
-          let fits = has_room x a c.attr_key.result c.in-Some-attr_key.key c.in-Some-attr_key.is c.attr_key.ensures.none in
-          let there = attribute_value_is t p x a between.pairs holds.tree c.attr_key.ensures.path c.attr_key.ensures.name is _ fits
-          (ap (λ (k : List ℕ). find key_cmp k between.pairs) (sym c.in-Some-attr_key.ensures.value) ∙ sym call.found ∙ c.in-Some-2.is) in
+          let fits = has_room x a c.attr_key.result c.in-Some-attr_key.key c.in-Some-attr_key.is c.attr_key.ensures.none
+          in
+          let there = attribute_value_is t p x a
+          between.pairs holds.tree c.attr_key.ensures.path c.attr_key.ensures.name is _ fits
+          (ap (λ (k : List ℕ). find key_cmp k between.pairs) (sym c.in-Some-attr_key.ensures.value)
+          ∙ sym call.found ∙ c.in-Some-2.is) in
           let none = unset_of_one t x a there.0 front there.1 in
           step_done (λ x. Acknowledged) tt t (UnsetAttribute x a) p (g.P.OrderedPairs.state c.take.new.self) none refl
-          (call.changed ∙ ap (λ (k : List ℕ). without k between.pairs) c.in-Some-attr_key.ensures.value ∙ unset_done t p x a between.pairs holds.tree c.attr_key.ensures.path c.attr_key.ensures.name fits front none is);
+          (call.changed ∙ ap (λ (k : List ℕ). without k between.pairs) c.in-Some-attr_key.ensures.value
+          ∙ unset_done t p x a between.pairs holds.tree c.attr_key.ensures.path c.attr_key.ensures.name fits front
+          none is);
     }
 
 pub returns-in-None-clause-call : goal.returns-in-None-clause-call
@@ -68,8 +80,12 @@ returns-in-None-clause-call g c =
           let front = passed x c.in_ok-refusal.field-0 _ _ tells c.in_default.not-Some seen t p holds in
           let call = taken.observed (tells.keeps.observable seen) in
           let is = tells.keeps.unchanged seen ∙ holds.pairs_are in
-          let missing = attribute_missing t p x a between.pairs holds.tree c.attr_key.ensures.path c.attr_key.ensures.name is (has_room x a c.attr_key.result c.in-Some-attr_key.key c.in-Some-attr_key.is c.attr_key.ensures.none)
-          (ap (λ (k : List ℕ). find key_cmp k between.pairs) (sym c.in-Some-attr_key.ensures.value) ∙ sym call.found ∙ c.in-None.is) in
-          step_refused (λ x. Acknowledged) refusals.NoAttr t (UnsetAttribute x a) p (g.P.OrderedPairs.state c.take.new.self) (unset_of_none t x a front missing)
+          let missing = attribute_missing t p x a
+          between.pairs holds.tree c.attr_key.ensures.path c.attr_key.ensures.name is
+          (has_room x a c.attr_key.result c.in-Some-attr_key.key c.in-Some-attr_key.is c.attr_key.ensures.none)
+          (ap (λ (k : List ℕ). find key_cmp k between.pairs) (sym c.in-Some-attr_key.ensures.value)
+          ∙ sym call.found ∙ c.in-None.is) in
+          step_refused (λ x. Acknowledged) refusals.NoAttr t (UnsetAttribute x a) p
+          (g.P.OrderedPairs.state c.take.new.self) (unset_of_none t x a front missing)
           (call.changed ∙ without_none c.in-Some-attr_key.key between.pairs (sym call.found ∙ c.in-None.is) ∙ is);
     }

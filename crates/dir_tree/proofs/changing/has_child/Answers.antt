@@ -10,8 +10,14 @@ returns-clause-call g c =
     record {
       faults = search.faults;
       keeps = search.keeps;
-      told = λ seen t p holds directory. c.is_some.ensures ∙ child_answer t p c.args.path.now c.below.result old.pairs c.in_ok-next_within.field-0 holds.tree (held_blocks old t p holds) from.path directory
-          (record { own = record { blocks = from.blocks; attributes = from.attributes }; below = from.below }) (search.found seen);
+      told = λ seen t p holds directory. c.is_some.ensures
+          ∙ child_answer t p c.args.path.now c.below.result old.pairs c.in_ok-next_within.field-0 holds.tree
+          (held_blocks old t p holds) from.path directory
+          (record {
+            own = record { blocks = from.blocks; attributes = from.attributes };
+            below = from.below;
+          })
+          (search.found seen);
     }
 
 pub returns-in_err-next_within-clause-follows : goal.returns-in_err-next_within-clause-follows

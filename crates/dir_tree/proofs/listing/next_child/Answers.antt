@@ -13,7 +13,9 @@ returns-in_default-clause-call g c =
       keeps = search.keeps;
       valid = tt;
       below_root = tt;
-      found = λ seen t p holds path directory between. none_read t p c.args.path.now c.args.from.now old.pairs c.in_ok-key.field-0 holds.tree (held_blocks old t p holds) (search.found seen) (none_found c.in_ok-key.field-0 c.in_default.not-Some);
+      found = λ seen t p holds path directory between.
+          none_read t p c.args.path.now c.args.from.now old.pairs c.in_ok-key.field-0 holds.tree
+          (held_blocks old t p holds) (search.found seen) (none_found c.in_ok-key.field-0 c.in_default.not-Some);
     }
 
 pub returns-in-Some-of_key-clause-call : goal.returns-in-Some-of_key-clause-call
@@ -25,8 +27,11 @@ returns-in-Some-of_key-clause-call g c =
       keeps = search.keeps;
       valid = c.in-Some-of_key.ensures.valid;
       below_root = c.in-Some-of_key.ensures.below_root;
-      found = λ seen t p holds path directory between. child_read t p c.args.path.now c.args.from.now old.pairs c.in_ok-key.field-0 c.in-Some.key _ holds.tree (held_blocks old t p holds) path directory between (search.found seen) c.in-Some.is
-          (λ child valid below key_is. read_some c.of_key.result c.in-Some-of_key.found child c.in-Some-of_key.is (c.of_key.ensures.only child 0 valid below (omega arith) key_is));
+      found = λ seen t p holds path directory between.
+          child_read t p c.args.path.now c.args.from.now old.pairs c.in_ok-key.field-0 c.in-Some.key _
+          holds.tree (held_blocks old t p holds) path directory between (search.found seen) c.in-Some.is
+          (λ child valid below key_is. read_some c.of_key.result c.in-Some-of_key.found child
+          c.in-Some-of_key.is (c.of_key.ensures.only child 0 valid below (omega arith) key_is));
     }
 
 pub returns-in-None-clause-call : goal.returns-in-None-clause-call
@@ -38,6 +43,9 @@ returns-in-None-clause-call g c =
       keeps = search.keeps;
       valid = tt;
       below_root = tt;
-      found = λ seen t p holds path directory between. child_read t p c.args.path.now c.args.from.now old.pairs c.in_ok-key.field-0 c.in-Some.key _ holds.tree (held_blocks old t p holds) path directory between (search.found seen) c.in-Some.is
-          (λ child valid below key_is. read_none c.of_key.result child c.in-None.is (c.of_key.ensures.only child 0 valid below (omega arith) key_is));
+      found = λ seen t p holds path directory between.
+          child_read t p c.args.path.now c.args.from.now old.pairs c.in_ok-key.field-0 c.in-Some.key _
+          holds.tree (held_blocks old t p holds) path directory between (search.found seen) c.in-Some.is
+          (λ child valid below key_is. read_none c.of_key.result child
+          c.in-None.is (c.of_key.ensures.only child 0 valid below (omega arith) key_is));
     }

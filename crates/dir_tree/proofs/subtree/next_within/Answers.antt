@@ -9,8 +9,14 @@ returns-then-is_before_end-clause-call g c =
     let call = c.in_ok-pair.ensures.call in
     record {
       faults = call.faults;
-      keeps = record { observable = λ seen. (call.observed seen).observable; unchanged = λ seen. (call.observed seen).unchanged };
-      found = λ seen. found_within c.args.from.now c.args.top.now (g.P.OrderedPairs.state c.args.pairs.now).pairs c.in_ok-pair.field-0 c.in-Some.pair (g.met.P.OrderedPairs.valid c.args.pairs.now seen).sorted (call.observed seen).found c.in-Some.is (c.is_before_end.ensures.0 c.if-is_before_end.true);
+      keeps = record {
+        observable = λ seen. (call.observed seen).observable;
+        unchanged = λ seen. (call.observed seen).unchanged;
+      };
+      found = λ seen. found_within c.args.from.now c.args.top.now
+          (g.P.OrderedPairs.state c.args.pairs.now).pairs c.in_ok-pair.field-0 c.in-Some.pair
+          (g.met.P.OrderedPairs.valid c.args.pairs.now seen).sorted (call.observed seen).found c.in-Some.is
+          (c.is_before_end.ensures.0 c.if-is_before_end.true);
     }
 
 pub returns-else-is_before_end-clause-call : goal.returns-else-is_before_end-clause-call
@@ -18,8 +24,13 @@ returns-else-is_before_end-clause-call g c =
     let call = c.in_ok-pair.ensures.call in
     record {
       faults = call.faults;
-      keeps = record { observable = λ seen. (call.observed seen).observable; unchanged = λ seen. (call.observed seen).unchanged };
-      found = λ seen. found_behind c.args.from.now c.args.top.now (g.P.OrderedPairs.state c.args.pairs.now).pairs c.in_ok-pair.field-0 c.in-Some.pair (g.met.P.OrderedPairs.valid c.args.pairs.now seen).sorted (call.observed seen).found c.in-Some.is
+      keeps = record {
+        observable = λ seen. (call.observed seen).observable;
+        unchanged = λ seen. (call.observed seen).unchanged;
+      };
+      found = λ seen. found_behind c.args.from.now c.args.top.now
+          (g.P.OrderedPairs.state c.args.pairs.now).pairs c.in_ok-pair.field-0 c.in-Some.pair
+          (g.met.P.OrderedPairs.valid c.args.pairs.now seen).sorted (call.observed seen).found c.in-Some.is
           (λ before. false≢true (sym c.if-is_before_end.false ∙ c.is_before_end.ensures.1 before));
     }
 
@@ -28,8 +39,13 @@ returns-in_default-clause-call g c =
     let call = c.in_ok-pair.ensures.call in
     record {
       faults = call.faults;
-      keeps = record { observable = λ seen. (call.observed seen).observable; unchanged = λ seen. (call.observed seen).unchanged };
-      found = λ seen. found_none c.args.from.now c.args.top.now (g.P.OrderedPairs.state c.args.pairs.now).pairs c.in_ok-pair.field-0 (call.observed seen).found (none_found c.in_ok-pair.field-0 c.in_default.not-Some);
+      keeps = record {
+        observable = λ seen. (call.observed seen).observable;
+        unchanged = λ seen. (call.observed seen).unchanged;
+      };
+      found = λ seen. found_none c.args.from.now c.args.top.now
+          (g.P.OrderedPairs.state c.args.pairs.now).pairs c.in_ok-pair.field-0 (call.observed seen).found
+          (none_found c.in_ok-pair.field-0 c.in_default.not-Some);
     }
 
 pub returns-in_err-pair-clause-follows : goal.returns-in_err-pair-clause-follows

@@ -9,6 +9,8 @@ abbrev pub invariant-loop : goal.invariant-loop
 invariant-loop g l = record {
   faults : (g.P.OrderedPairs.state l.pairs).faults ≡ (g.P.OrderedPairs.state l.fn.pairs).faults;
   observable : IsObservable (g.P.OrderedPairs.state l.fn.pairs) → IsObservable (g.P.OrderedPairs.state l.pairs);
-  part : IsObservable (g.P.OrderedPairs.state l.fn.pairs) → (blocks : BlockMap) → HasPathBlocks blocks (g.P.OrderedPairs.state l.fn.pairs).pairs → IsPartTaken l.top blocks l.counter (g.P.OrderedPairs.state l.pairs).pairs;
+  part : IsObservable (g.P.OrderedPairs.state l.fn.pairs) → (blocks : BlockMap)
+      → HasPathBlocks blocks (g.P.OrderedPairs.state l.fn.pairs).pairs
+      → IsPartTaken l.top blocks l.counter (g.P.OrderedPairs.state l.pairs).pairs;
   follows : g.P.OrderedPairs.follows l.fn.pairs l.pairs;
 }

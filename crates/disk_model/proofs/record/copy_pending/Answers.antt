@@ -1,4 +1,5 @@
-use Rattle.std.proofs.Common.{◌≡◌, ◌+◌, ◌-◌, List, ℕ, length, take, drop, sym, ◌∙◌, ap, subst, arith, length-take, length-drop}
+use Rattle.std.proofs.Common.{◌≡◌, ◌+◌, ◌-◌, List, ℕ, length, take, drop, sym, ◌∙◌, ap, subst, arith, length-take}
+use Rattle.std.proofs.Common.{length-drop}
 use mathlib.Core.List.{reverse}
 use Rattle.disk_model.specs.declared.record.Call.{Call}
 use Rattle.disk_model.specs.declared.record.Call.TheVariants.{Write}
@@ -24,8 +25,18 @@ loop-left-preserved c =
     let so_far = subst (λ (rest : List Call). CopiesSoFar (reverse calls) rest source old now) newest inv.so_far in
     let step = copying_write (reverse calls) earlier at len source old now c.requires.size within.0 so_far in
     let count : at + len - at ≡ len = omega arith in
-    let part : c.copy_from_slice.new.self ≡ take len (drop at source) = c.copy_from_slice.ensures.after ∙ ap (λ (n : ℕ). take n (drop at source)) count in
-    let lengths : length c.copy_from_slice.new.self ≡ at + len - at = omega (arith, ap length part, length-take len (drop at source), length-drop at source, within.0, c.requires.size) in
+    let part : c.copy_from_slice.new.self ≡ take len (drop at source) =
+    c.copy_from_slice.ensures.after ∙ ap (λ (n : ℕ). take n (drop at source)) count in
+    let lengths : length c.copy_from_slice.new.self ≡ at + len - at =
+    omega (
+      arith,
+      ap length part,
+      length-take len
+          (drop at source),
+      length-drop at source,
+      within.0,
+      c.requires.size,
+    ) in
     let is = put_mid-overwrite at (at + len - at) now c.copy_from_slice.new.self lengths ∙ ap (overwrite now at) part in
     record {
       in_range = omega arith;

@@ -8,4 +8,5 @@ invariant-loop g l =
     ((start : g.row.A.Denot) → g.A.DumpStream.keeps start l.fn.first → g.A.DumpStream.keeps start l.first)
     × ((start : g.row.B.Denot) → g.B.DumpStream.keeps start l.fn.second → g.B.DumpStream.keeps start l.second)
     × (g.A.DumpStream.came l.fn.first empty_tree → g.B.DumpStream.came l.fn.second empty_tree
-    → IsBetweenSome (g.A.DumpStream.came l.first) (g.A.DumpStream.whole l.first) (g.B.DumpStream.came l.second) (g.B.DumpStream.whole l.second) l.merge)
+    → IsBetweenSome (g.A.DumpStream.came l.first) (g.A.DumpStream.whole l.first) (g.B.DumpStream.came l.second)
+    (g.B.DumpStream.whole l.second) l.merge)

@@ -5,4 +5,5 @@ use Rattle.dump_diff.proofs.lines.write_differences.Given as goal
 
 -- the lines of the paths so far were written
 abbrev pub invariant-loop-difference : goal.invariant-loop-difference
-invariant-loop-difference g l = WroteText (g.W.Sink.state l.fn.sink) (g.W.Sink.state l.sink) (flat_map difference_line (take l.difference-index l.found.paths.items))
+invariant-loop-difference g l = WroteText (g.W.Sink.state l.fn.sink) (g.W.Sink.state l.sink)
+    (flat_map difference_line (take l.difference-index l.found.paths.items))

@@ -13,8 +13,12 @@ returns-in-Make-Make c both =
 
 pub returns-in-Write-Write : goal.returns-in-Write-Write
 returns-in-Write-Write c both =
-    let one : command_of c.args.one.now ≡ Write c.in-Write-Write.field-0-0 c.in-Write-Write.field-1-0 c.in-Write-Write.bytes = ap command_of c.in-Write-Write.is-0 in
-    let other : command_of c.args.other.now ≡ Write c.in-Write-Write.field-0-1 c.in-Write-Write.field-1-1 c.in-Write-Write.others = ap command_of c.in-Write-Write.is-1 in
+    let one : command_of c.args.one.now
+    ≡ Write c.in-Write-Write.field-0-0 c.in-Write-Write.field-1-0 c.in-Write-Write.bytes =
+    ap command_of c.in-Write-Write.is-0 in
+    let other : command_of c.args.other.now
+    ≡ Write c.in-Write-Write.field-0-1 c.in-Write-Write.field-1-1 c.in-Write-Write.others =
+    ap command_of c.in-Write-Write.is-1 in
     let paths = tied_paths (command_of c.args.one.now) (command_of c.args.other.now) both.tied in
     let parts = tied_parts (command_of c.args.one.now) (command_of c.args.other.now) both.tied in
     let same = same_write (command_of c.args.one.now) (command_of c.args.other.now) _ _ _ _ _ _ one other paths parts in
@@ -22,8 +26,12 @@ returns-in-Write-Write c both =
 
 pub returns-in-Set-Set : goal.returns-in-Set-Set
 returns-in-Set-Set c both =
-    let one : command_of c.args.one.now ≡ SetAttribute c.in-Set-Set.field-0-0 c.in-Set-Set.field-1-0 c.in-Set-Set.bytes = ap command_of c.in-Set-Set.is-0 in
-    let other : command_of c.args.other.now ≡ SetAttribute c.in-Set-Set.field-0-1 c.in-Set-Set.field-1-1 c.in-Set-Set.others = ap command_of c.in-Set-Set.is-1 in
+    let one : command_of c.args.one.now
+    ≡ SetAttribute c.in-Set-Set.field-0-0 c.in-Set-Set.field-1-0 c.in-Set-Set.bytes =
+    ap command_of c.in-Set-Set.is-0 in
+    let other : command_of c.args.other.now
+    ≡ SetAttribute c.in-Set-Set.field-0-1 c.in-Set-Set.field-1-1 c.in-Set-Set.others =
+    ap command_of c.in-Set-Set.is-1 in
     let paths = tied_paths (command_of c.args.one.now) (command_of c.args.other.now) both.tied in
     let parts = tied_parts (command_of c.args.one.now) (command_of c.args.other.now) both.tied in
     let same = same_set (command_of c.args.one.now) (command_of c.args.other.now) _ _ _ _ _ _ one other paths parts in

@@ -9,4 +9,6 @@ use Rattle.dump_diff.proofs.script.write_cuts.Given as goal
 abbrev pub invariant-loop-difference : goal.invariant-loop-difference
 invariant-loop-difference g l =
     AreRising l.found
-    → WroteText (g.W.Sink.state l.fn.sink) (g.W.Sink.state l.sink) (commands_text (flat_map (cut_commands (marks_of l.found.paths.items)) (take l.difference-index l.found.paths.items)))
+    → WroteText (g.W.Sink.state l.fn.sink) (g.W.Sink.state l.sink)
+    (commands_text (flat_map (cut_commands (marks_of l.found.paths.items))
+    (take l.difference-index l.found.paths.items)))

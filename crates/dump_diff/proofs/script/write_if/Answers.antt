@@ -9,10 +9,13 @@ use Rattle.dump_diff.proofs.script.write_if.Goals as goal
 pub returns-in-Some : goal.returns-in-Some
 returns-in-Some g c =
     let st = g.W.Sink.state in
-    subst (λ (cs : List Command). Puts (st c.args.sink.now) (st c.write_command.new.sink) (commands_text cs) c.write_command.result) (sym (ap commands_in c.in-Some.is))
-    (puts_command (st c.args.sink.now) (st c.write_command.new.sink) (command_of c.in-Some.command) c.write_command.result c.write_command.ensures)
+    subst (λ (cs : List Command). Puts (st c.args.sink.now) (st c.write_command.new.sink)
+    (commands_text cs) c.write_command.result) (sym (ap commands_in c.in-Some.is))
+    (puts_command (st c.args.sink.now) (st c.write_command.new.sink)
+    (command_of c.in-Some.command) c.write_command.result c.write_command.ensures)
 
 pub returns-in-None : goal.returns-in-None
 returns-in-None g c =
     let st = g.W.Sink.state in
-    subst (λ (cs : List Command). WroteText (st c.args.sink.now) (st c.args.sink.now) (commands_text cs)) (sym (ap commands_in c.in-None.is)) (wrote_no_command (st c.args.sink.now))
+    subst (λ (cs : List Command). WroteText (st c.args.sink.now) (st c.args.sink.now) (commands_text cs))
+    (sym (ap commands_in c.in-None.is)) (wrote_no_command (st c.args.sink.now))

@@ -16,9 +16,13 @@ returns g c rising =
     let found = c.args.found.now in
     let cuts : List Command = flat_map (cut_commands (marks_of found.paths.items)) found.paths.items in
     let unsets : List Command = flat_map unset_commands found.attributes.items in
-    subst (λ text. Puts (st c.args.sink.now) (st c.write_unsets.new.sink) text c.write_unsets.result) (sym (text_append cuts unsets))
-    (puts_then (st c.args.sink.now) (st c.write_cuts.new.sink) (st c.write_unsets.new.sink) (commands_text cuts) (commands_text unsets) c.write_unsets.result (c.in_ok-write_cuts.ensures rising)
-    (subst (λ (xs : List AttributeDifference). Puts (st c.write_cuts.new.sink) (st c.write_unsets.new.sink) (commands_text (flat_map unset_commands xs)) c.write_unsets.result) c.attributes.ensures c.write_unsets.ensures))
+    subst (λ text. Puts (st c.args.sink.now) (st c.write_unsets.new.sink) text c.write_unsets.result)
+    (sym (text_append cuts unsets))
+    (puts_then (st c.args.sink.now) (st c.write_cuts.new.sink) (st c.write_unsets.new.sink) (commands_text cuts)
+    (commands_text unsets) c.write_unsets.result (c.in_ok-write_cuts.ensures rising)
+    (subst (λ (xs : List AttributeDifference). Puts (st c.write_cuts.new.sink) (st c.write_unsets.new.sink)
+    (commands_text (flat_map unset_commands xs)) c.write_unsets.result)
+    c.attributes.ensures c.write_unsets.ensures))
 
 pub returns-in_err-write_cuts : goal.returns-in_err-write_cuts
 returns-in_err-write_cuts g c rising =
@@ -28,5 +32,7 @@ returns-in_err-write_cuts g c rising =
     let unsets : List Command = flat_map unset_commands found.attributes.items in
     let fault = err_from_is_err_and c.from_residual.result c.from_residual.ensures.1 in
     rw fault.1
-    (subst (λ text. Puts {T = Unit {0}} (st c.args.sink.now) (st c.write_cuts.new.sink) text (Err fault.0)) (sym (text_append cuts unsets))
-    (puts_cut (st c.args.sink.now) (st c.write_cuts.new.sink) (commands_text cuts) (commands_text unsets) fault.0 (c.in_err-write_cuts.ensures rising)))
+    (subst (λ text. Puts {T = Unit {0}} (st c.args.sink.now) (st c.write_cuts.new.sink) text (Err fault.0))
+    (sym (text_append cuts unsets))
+    (puts_cut (st c.args.sink.now) (st c.write_cuts.new.sink) (commands_text cuts)
+    (commands_text unsets) fault.0 (c.in_err-write_cuts.ensures rising)))

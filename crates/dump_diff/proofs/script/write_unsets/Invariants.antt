@@ -6,4 +6,5 @@ use Rattle.dump_diff.proofs.script.write_unsets.Given as goal
 
 -- the lines of the attributes so far were written
 abbrev pub invariant-loop-attribute : goal.invariant-loop-attribute
-invariant-loop-attribute g l = WroteText (g.W.Sink.state l.fn.sink) (g.W.Sink.state l.sink) (commands_text (flat_map unset_commands (take l.attribute-index l.attributes)))
+invariant-loop-attribute g l = WroteText (g.W.Sink.state l.fn.sink) (g.W.Sink.state l.sink)
+    (commands_text (flat_map unset_commands (take l.attribute-index l.attributes)))

@@ -12,19 +12,30 @@ use Rattle.dump_streams.proofs.draining.drain.Goals as goal
 pub loop-init : goal.loop-init
 loop-init g c = (
   λ start kept. kept,
-  λ came took. (empty_tree, came, subst (λ (commands : List Command). g.T.Taker.took c.args.taker.now c.args.taker.now commands) (sym dump_none) took, ap length dump_none),
+  λ came took. (
+    empty_tree,
+    came,
+    subst (λ (commands : List Command). g.T.Taker.took c.args.taker.now c.args.taker.now commands)
+        (sym dump_none) took,
+    ap length dump_none,
+  ),
 )
 
 pub returns-in_err-next-clause-drains : goal.returns-in_err-next-clause-drains
 returns-in_err-next-clause-drains g c came took =
     let was = c.loop.invariant.1 came took in
-    err_told c.from_residual.result (drains.Stream c.in_err-next.field-0.0) _ _ c.from_residual.ensures.1 (record { tree = was.0; why = inl (c.in_err-next.ensures.next.failed was.0 was.1); took_is = was.2 })
+    err_told c.from_residual.result (drains.Stream c.in_err-next.field-0.0) _ _ c.from_residual.ensures.1 (record {
+      tree = was.0;
+      why = inl (c.in_err-next.ensures.next.failed was.0 was.1);
+      took_is = was.2;
+    })
 
 pub returns-in_err-take-clause-drains : goal.returns-in_err-take-clause-drains
 returns-in_err-take-clause-drains g c came took =
     let was = c.loop.invariant.1 came took in
     let next = rw c.if-not-branch.false at c.in_ok-next.ensures.next in
-    err_told c.from_residual-in_err-take.result (drains.Taker c.in_err-take.field-0.0) _ _ c.from_residual-in_err-take.ensures.1 (record {
+    err_told c.from_residual-in_err-take.result (drains.Taker c.in_err-take.field-0.0) _ _
+    c.from_residual-in_err-take.ensures.1 (record {
       tree = was.0;
       command = command_of c.next.new.into;
       came_is = next.came was.0 was.1;
@@ -43,7 +54,8 @@ loop-preserved g c = (
       let extends = next.extends was.0 was.1 in (
         next_tree was.0 command,
         next.came was.0 was.1,
-        subst (λ (commands : List Command). g.T.Taker.took c.args.taker.now c.take.new.self commands) (sym extends.dump_is) (c.in_ok-take.ensures c.args.taker.now _ was.2),
+        subst (λ (commands : List Command). g.T.Taker.took c.args.taker.now c.take.new.self commands)
+            (sym extends.dump_is) (c.in_ok-take.ensures c.args.taker.now _ was.2),
         ap length extends.dump_is ∙ length-append _ (command ∷ []) ∙ ap (λ n. n + 1) was.3,
       ),
 )

@@ -1,4 +1,5 @@
-use Rattle.std.proofs.Common.{rules, ◌≡◌, ℕ, ◌≤◌, List, [], ◌∷◌, ◌++◌, length, true, false, IsTrue, refl, sym, ap, ◌∙◌, arith, length-append}
+use Rattle.std.proofs.Common.{rules, ◌≡◌, ℕ, ◌≤◌, List, [], ◌∷◌, ◌++◌, length, true, false, IsTrue, refl, sym, ap, ◌∙◌}
+use Rattle.std.proofs.Common.{arith, length-append}
 use Rattle.std.proofs.lemmas.List.{append-nil}
 use Rattle.store_model.specs.Paths.{Path, is_path, is_root, last_name, parent}
 use Rattle.script_lines.proofs.PathTexts.{names_text-fits, length-names_split}
@@ -22,7 +23,13 @@ push-requires c =
 pub returns-then-not-is_root-clause-fits : goal.returns-then-not-is_root-clause-fits
 returns-then-not-is_root-clause-fits c =
     let other : is_root c.args.path.now ≡ false = search rules in
-    omega (arith, ap length c.push.ensures, length-append c.args.text.now c.name.result.now, ap length c.name.ensures, name_fits c.args.path.now other c.is_root.ensures.valid)
+    omega (
+      arith,
+      ap length c.push.ensures,
+      length-append c.args.text.now c.name.result.now,
+      ap length c.name.ensures,
+      name_fits c.args.path.now other c.is_root.ensures.valid,
+    )
 
 pub returns-else-not-is_root-clause-value : goal.returns-else-not-is_root-clause-value
 returns-else-not-is_root-clause-value c =

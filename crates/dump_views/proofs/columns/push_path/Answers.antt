@@ -8,4 +8,9 @@ push_names-requires c = omega (arith, c.requires, names_text-fits c.args.path.no
 
 pub returns-else-is_root-clause-fits : goal.returns-else-is_root-clause-fits
 returns-else-is_root-clause-fits c =
-    omega (arith, names_text-fits c.args.path.now c.is_root.ensures.valid, ap length c.push_names.ensures, length-append c.args.text.now (names_text c.args.path.now))
+    omega (
+      arith,
+      names_text-fits c.args.path.now c.is_root.ensures.valid,
+      ap length c.push_names.ensures,
+      length-append c.args.text.now (names_text c.args.path.now),
+    )

@@ -10,4 +10,5 @@ use Rattle.dump_views.proofs.groups.write_groups.Given as goal
 abbrev pub invariant-loop-entry : goal.invariant-loop-entry
 invariant-loop-entry g l =
     IsPut {T = Unit {0}} {E = SinkFault} (g.W.Sink.state l.fn.sink) (g.W.Sink.state l.sink)
-    (group_text (has_times l.entries) l.grouped root ++ flat_map (behind_text (has_times l.entries) l.grouped) (take l.entry-index l.entries)) (Ok tt)
+    (group_text (has_times l.entries) l.grouped root
+    ++ flat_map (behind_text (has_times l.entries) l.grouped) (take l.entry-index l.entries)) (Ok tt)

@@ -11,10 +11,12 @@ returns-in-Ok-clause-value c =
     let s = c.args.seconds in
     let date = date_text (day_of c.in-Ok.date) in
     let clock = clock_text (s % 86400) in
-    let is : epoch_day c.in-Ok.date ≡ pos (s / 86400) = omega (arith, signed_arith, signed_casts, c.in-Ok.ensures.value) in
+    let is : epoch_day c.in-Ok.date ≡ pos (s / 86400) =
+    omega (arith, signed_arith, signed_casts, c.in-Ok.ensures.value) in
     c.push_clock.ensures
     ∙ ap (λ (t : List ℕ). t ++ clock) (c.push.ensures ∙ ap (λ (t : List ℕ). t ++ codes " ") c.push_date.ensures)
-    ∙ append_assoc (text ++ date) (codes " ") clock ∙ append_assoc text date (codes " " ++ clock) ∙ ap (λ (t : List ℕ). text ++ t) (time_of c.in-Ok.date s is)
+    ∙ append_assoc (text ++ date) (codes " ") clock ∙ append_assoc text date (codes " " ++ clock)
+    ∙ ap (λ (t : List ℕ). text ++ t) (time_of c.in-Ok.date s is)
 
 pub returns-in-Err-clause-value : goal.returns-in-Err-clause-value
 returns-in-Err-clause-value c =

@@ -11,8 +11,11 @@ loop-left-preserved g c =
     record {
       kept = omega arith;
       within = omega arith;
-      call = cuts_more c.args.path.now _ c.loop-left.left c.key.result c.in_ok-take.field-0 old between new c.key.ensures.path c.key.ensures.value (omega arith) (omega arith) inv.call c.in_ok-take.ensures.call;
-      fewer = λ seen. let l = inv.fewer seen in let m = fewer_left c.key.result c.in_ok-take.field-0 between new c.in_ok-take.ensures.call (inv.call.observable seen) in omega arith;
+      call = cuts_more c.args.path.now _ c.loop-left.left c.key.result c.in_ok-take.field-0 old between new
+          c.key.ensures.path c.key.ensures.value (omega arith) (omega arith) inv.call c.in_ok-take.ensures.call;
+      fewer = λ seen. let l = inv.fewer seen in let m =
+          fewer_left c.key.result c.in_ok-take.field-0 between new c.in_ok-take.ensures.call (inv.call.observable seen)
+          in omega arith;
       hidden = λ h. c.loop-left.invariant.hidden (c.in_ok-take.ensures.call.hidden h);
       follows = g.met.P.OrderedPairs.follows_trans _ _ _ inv.follows c.in_ok-take.ensures.follows;
     }

@@ -8,8 +8,10 @@ abbrev pub invariant-loop-left : goal.invariant-loop-left
 invariant-loop-left g l = record {
   kept : l.kept ≤ l.left;
   within : l.left ≤ l.blocks;
-  call : CutsBytes l.path (file_block * l.blocks) (file_block * l.left) (g.P.OrderedPairs.state l.fn.pairs) (g.P.OrderedPairs.state l.pairs) (Ok (tt {0}));
-  fewer : IsObservable (g.P.OrderedPairs.state l.fn.pairs) → length (g.P.OrderedPairs.state l.pairs).pairs ≤ length (g.P.OrderedPairs.state l.fn.pairs).pairs;
+  call : CutsBytes l.path (file_block * l.blocks) (file_block * l.left) (g.P.OrderedPairs.state l.fn.pairs)
+      (g.P.OrderedPairs.state l.pairs) (Ok (tt {0}));
+  fewer : IsObservable (g.P.OrderedPairs.state l.fn.pairs)
+      → length (g.P.OrderedPairs.state l.pairs).pairs ≤ length (g.P.OrderedPairs.state l.fn.pairs).pairs;
   hidden : IsObservable (g.P.OrderedPairs.state l.pairs) → IsObservable (g.P.OrderedPairs.state l.fn.pairs);
   follows : g.P.OrderedPairs.follows l.fn.pairs l.pairs;
 }

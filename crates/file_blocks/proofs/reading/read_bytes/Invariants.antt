@@ -6,7 +6,8 @@ use Rattle.file_blocks.proofs.reading.read_bytes.Given as goal
 abbrev pub invariant-loop-bytes : goal.invariant-loop-bytes
 invariant-loop-bytes g l = record {
   within : length l.bytes.items ≤ l.count;
-  call : ReadsFileBytes l.path l.at (length l.bytes.items) (g.P.OrderedPairs.state l.fn.pairs) (g.P.OrderedPairs.state l.pairs) (Ok l.bytes.items);
+  call : ReadsFileBytes l.path l.at (length l.bytes.items) (g.P.OrderedPairs.state l.fn.pairs)
+      (g.P.OrderedPairs.state l.pairs) (Ok l.bytes.items);
   hidden : IsObservable (g.P.OrderedPairs.state l.pairs) → IsObservable (g.P.OrderedPairs.state l.fn.pairs);
   follows : g.P.OrderedPairs.follows l.fn.pairs l.pairs;
 }

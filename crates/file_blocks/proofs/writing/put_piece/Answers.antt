@@ -13,10 +13,16 @@ returns-clause-call g c =
       faults = done.faults ∙ ap (λ n. disk_faults_after n c.put-2.result) got.faults;
       observable = λ seen. (done.observed (got.observed seen).observable).observable;
       written = λ seen first y others h short has. on_ok c.put-2.result
-          (λ changed. piece_put c.args.path.now first y others old.pairs _ _ c.args.at (c.args.at / file_block + 1) c.key-key.result c.args.piece.now _ c.overlaid-value.result _ c.key-key.ensures.path c.key-key.ensures.value refl (omega arith) h (omega arith) (omega arith) (got.observed seen).found c.bytes_of.ensures c.overlaid-value.ensures (got.observed seen).unchanged changed has)
+          (λ changed. piece_put c.args.path.now first y others old.pairs _ _ c.args.at (c.args.at / file_block + 1)
+          c.key-key.result c.args.piece.now _ c.overlaid-value.result _
+          c.key-key.ensures.path c.key-key.ensures.value refl (omega arith) h (omega arith) (omega arith)
+          (got.observed seen).found c.bytes_of.ensures c.overlaid-value.ensures
+          (got.observed seen).unchanged changed has)
           (done.observed (got.observed seen).observable).changed;
       added = λ seen. on_ok c.put-2.result
-          (λ changed. let l = added_by_put c.key-key.result c.overlaid-value.result old.pairs (g.P.OrderedPairs.state c.get.new.self).pairs (g.P.OrderedPairs.state c.put-2.new.self).pairs (got.observed seen).unchanged changed in omega arith)
+          (λ changed. let l = added_by_put c.key-key.result c.overlaid-value.result old.pairs
+          (g.P.OrderedPairs.state c.get.new.self).pairs (g.P.OrderedPairs.state c.put-2.new.self).pairs
+          (got.observed seen).unchanged changed in omega arith)
           (done.observed (got.observed seen).observable).changed;
     }
 
@@ -29,10 +35,14 @@ returns-then-leaves_none-clause-call g c =
       faults = done.faults;
       observable = λ seen. (done.observed seen).observable;
       written = λ seen first y others h short has. on_ok c.put.result
-          (λ changed. whole_put c.args.path.now first y others old.pairs _ c.args.at (c.args.at / file_block + 1) c.key-key.result c.args.piece.now c.new.result c.key-key.ensures.path c.key-key.ensures.value refl (omega arith) h c.requires.some c.requires.within whole.0 (run_covered y c.args.piece.now c.args.len c.args.at short whole.0 whole.1) c.new.ensures changed has)
+          (λ changed. whole_put c.args.path.now first y others old.pairs _ c.args.at (c.args.at / file_block + 1)
+          c.key-key.result c.args.piece.now c.new.result c.key-key.ensures.path c.key-key.ensures.value refl
+          (omega arith) h c.requires.some c.requires.within whole.0
+          (run_covered y c.args.piece.now c.args.len c.args.at short whole.0 whole.1) c.new.ensures changed has)
           (done.observed seen).changed;
       added = λ seen. on_ok c.put.result
-          (λ changed. let l = added_by_put c.key-key.result c.new.result old.pairs old.pairs (g.P.OrderedPairs.state c.put.new.self).pairs refl changed in omega arith)
+          (λ changed. let l = added_by_put c.key-key.result c.new.result old.pairs old.pairs
+          (g.P.OrderedPairs.state c.put.new.self).pairs refl changed in omega arith)
           (done.observed seen).changed;
     }
 

@@ -14,7 +14,8 @@ loop-k-preserved g c = record {
       let observable_mid = observable_after _ _ _ c.loop-k.invariant.calls observable in
       let below : c.loop-k.k < changes.count = omega (arith, c.loop-k-test.true, c.count-k-end.ensures) in
       pass_step c.args.slots changes c.requires.changes c.args.pass _ _ _ c.loop-k.k below
-      (g.met.D.Disk.sound c.loop-k.disk observable_mid) _ _ c.change-slot.ensures.slot c.change-slot.ensures.bytes (c.loop-k.invariant.comes observable)
+      (g.met.D.Disk.sound c.loop-k.disk observable_mid) _ _
+      c.change-slot.ensures.slot c.change-slot.ensures.bytes (c.loop-k.invariant.comes observable)
       (c.in_ok-write_slot.ensures.reaches observable_mid) (c.in_ok-write_slot.ensures.makes observable_mid);
 }
 
@@ -24,27 +25,42 @@ returns-in_err-write_slot-clause-reaches g c observable =
     let observable_mid = observable_after _ _ _ c.loop-k.invariant.calls observable in
     let below : c.loop-k.k < changes.count = omega (arith, c.loop-k-test.true, c.count-k-end.ensures) in
     let old = g.D.Disk.state c.args.disk.now in
-    comes_short (OutsideSlots c.args.pass c.args.slots changes) (OutsideWrite c.args.pass c.args.slots c.change-slot.result.0) (OutsidePass c.args.kind c.args.pass c.args.slots changes) (HasPassedFirst c.args.pass c.args.slots changes c.loop-k.k old.bytes)
-    (HasPassed c.args.kind c.args.pass c.args.slots changes old.bytes) (slot_writes c.args.pass * c.loop-k.k) old _ _ c.from_residual.result c.from_residual.ensures.0 (g.met.D.Disk.sound c.loop-k.disk observable_mid)
-    (λ place outside. outside.0) (outside_one c.args.pass c.args.slots changes c.loop-k.k _ below c.change-slot.ensures.slot) (c.loop-k.invariant.comes observable) (c.write_slot.ensures.reaches observable_mid).keeps
+    comes_short (OutsideSlots c.args.pass c.args.slots changes)
+    (OutsideWrite c.args.pass c.args.slots c.change-slot.result.0)
+    (OutsidePass c.args.kind c.args.pass c.args.slots changes)
+    (HasPassedFirst c.args.pass c.args.slots changes c.loop-k.k old.bytes)
+    (HasPassed c.args.kind c.args.pass c.args.slots changes old.bytes)
+    (slot_writes c.args.pass * c.loop-k.k) old _ _
+    c.from_residual.result c.from_residual.ensures.0 (g.met.D.Disk.sound c.loop-k.disk observable_mid)
+    (λ place outside. outside.0)
+    (outside_one c.args.pass c.args.slots changes c.loop-k.k _ below c.change-slot.ensures.slot)
+    (c.loop-k.invariant.comes observable) (c.write_slot.ensures.reaches observable_mid).keeps
 
 pub returns-in-Slots-clause-reaches : goal.returns-in-Slots-clause-reaches
 returns-in-Slots-clause-reaches g c observable =
     let changes : Changes = g.S.SlotChanges.changes c.args.changes.now in
     let old = g.D.Disk.state c.args.disk.now in
     let observable_mid = observable_after _ _ _ c.loop-k.invariant.calls observable in
-    let end : c.loop-k.k ≡ changes.count = omega (arith, c.count-k-end.ensures, c.loop-k.auto.k-end, c.loop-k-test.false) in
+    let end : c.loop-k.k ≡ changes.count =
+    omega (arith, c.count-k-end.ensures, c.loop-k.auto.k-end, c.loop-k-test.false) in
     let comes = rw end at (c.loop-k.invariant.comes observable) in
     rw c.in-Slots.is
-    (comes_to (OutsideSlots c.args.pass c.args.slots changes) (OutsidePass Slots c.args.pass c.args.slots changes) (HasPassedFirst c.args.pass c.args.slots changes changes.count old.bytes) (HasPassed Slots c.args.pass c.args.slots changes old.bytes)
-    (slot_writes c.args.pass * changes.count) _ _ _ c.sync.result observable_mid (g.met.D.Disk.sound c.loop-k.disk observable_mid) (λ place outside. outside.0) (passed_slots c.args.slots changes c.requires.changes c.args.pass old.bytes) comes c.sync.ensures)
+    (comes_to (OutsideSlots c.args.pass c.args.slots changes) (OutsidePass Slots c.args.pass c.args.slots changes)
+    (HasPassedFirst c.args.pass c.args.slots changes changes.count old.bytes)
+    (HasPassed Slots c.args.pass c.args.slots changes old.bytes)
+    (slot_writes c.args.pass * changes.count) _ _ _ c.sync.result observable_mid
+    (g.met.D.Disk.sound c.loop-k.disk observable_mid) (λ place outside. outside.0)
+    (passed_slots c.args.slots changes c.requires.changes c.args.pass old.bytes) comes c.sync.ensures)
 
 pub returns-in-Upgrade-clause-reaches : goal.returns-in-Upgrade-clause-reaches
 returns-in-Upgrade-clause-reaches g c observable =
     let changes : Changes = g.S.SlotChanges.changes c.args.changes.now in
     let observable_mid = observable_after _ _ _ c.loop-k.invariant.calls observable in
     let sound = g.met.D.Disk.sound c.loop-k.disk observable_mid in
-    let end : c.loop-k.k ≡ changes.count = omega (arith, c.count-k-end.ensures, c.loop-k.auto.k-end, c.loop-k-test.false) in
+    let end : c.loop-k.k ≡ changes.count =
+    omega (arith, c.count-k-end.ensures, c.loop-k.auto.k-end, c.loop-k-test.false) in
     let comes = rw end at (c.loop-k.invariant.comes observable) in
     rw c.in-Upgrade.is
-    (comes_to_version c.args.slots changes c.requires.changes c.args.pass (slot_writes c.args.pass * changes.count) _ _ _ c.write_version.result sound (sound.size ∙ c.loop-k.invariant.calls.size ∙ c.requires.size) comes (c.write_version.ensures.reaches observable_mid))
+    (comes_to_version c.args.slots changes c.requires.changes c.args.pass (slot_writes c.args.pass * changes.count) _ _
+    _ c.write_version.result sound (sound.size ∙ c.loop-k.invariant.calls.size ∙ c.requires.size) comes
+    (c.write_version.ensures.reaches observable_mid))

@@ -7,4 +7,5 @@ abbrev pub invariant-loop-k : goal.invariant-loop-k
 invariant-loop-k g l =
     let old = g.D.Disk.state l.fn.disk in
     let changes = g.S.SlotChanges.changes l.changes in
-    ComesSoFar (OutsideSlots l.pass l.slots changes) (HasPassedFirst l.pass l.slots changes l.k old.bytes) (slot_writes l.pass * l.k) old (g.D.Disk.state l.disk)
+    ComesSoFar (OutsideSlots l.pass l.slots changes) (HasPassedFirst l.pass l.slots changes l.k old.bytes)
+    (slot_writes l.pass * l.k) old (g.D.Disk.state l.disk)

@@ -10,6 +10,8 @@ returns-clause-reaches g c observable =
     let old = (g.D.Disk.state c.args.disk.now).bytes in
     let written = λ (image : List ℕ). image ≡ overwrite old c.args.at (c.args.byte ∷ []) in
     let observable_mid = IsObservable-call _ _ _ c.write_at.ensures.call observable in
-    Reaches-sync (IsApart c.args.at 1) written _ _ _ c.in_ok-write_at.field-0 _ observable_mid (g.met.D.Disk.sound c.write_at.new.self observable_mid)
-    (Reaches-write (IsApart c.args.at 1) written _ _ _ observable c.args.at (c.args.byte ∷ []) (λ place apart. apart) c.in_ok-write_at.ensures refl)
+    Reaches-sync (IsApart c.args.at 1) written _ _ _ c.in_ok-write_at.field-0 _ observable_mid
+    (g.met.D.Disk.sound c.write_at.new.self observable_mid)
+    (Reaches-write (IsApart c.args.at 1) written _ _ _ observable c.args.at (c.args.byte ∷ [])
+    (λ place apart. apart) c.in_ok-write_at.ensures refl)
     c.sync.ensures

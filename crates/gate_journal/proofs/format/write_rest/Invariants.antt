@@ -13,7 +13,8 @@ invariant-loop-block g l =
     record {
       calls : AreCalls {T = Unit {0}} {E = DiskFault} old new (Ok tt);
       keeps : IsObservable old → Keeps (IsApart 1 (image_len l.params.slots - 1)) old new;
-      header_is : IsObservable old → (place : ℕ) → 1 ≤ place → place < 4096 → slice_index new.bytes place ≡ slice_index (header l.params) place;
+      header_is : IsObservable old → (place : ℕ) → 1 ≤ place → place < 4096
+          → slice_index new.bytes place ≡ slice_index (header l.params) place;
       zero : IsObservable old → IsZeroAt 4096 (4096 * (l.block - 1)) new.bytes;
       made : IsObservable old → Made l.block 0 old new;
     }

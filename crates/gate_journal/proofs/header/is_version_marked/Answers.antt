@@ -7,16 +7,30 @@ use Rattle.gate_journal.proofs.Viewing.{marked_by_mark}
 use Rattle.gate_journal.proofs.header.is_version_marked.Goals as goal
 
 pub is_flag_set-requires : goal.is_flag_set-requires
-is_flag_set-requires g c = omega (arith, c.requires.size, table_end c.args.slots, shadow_end c.args.slots, marks_end c.args.slots)
+is_flag_set-requires g c =
+    omega (arith, c.requires.size, table_end c.args.slots, shadow_end c.args.slots, marks_end c.args.slots)
 
 pub is_byte_set-requires : goal.is_byte_set-requires
-is_byte_set-requires g c = omega (arith, c.mark_at.ensures, c.is_flag_set.ensures.call.size, c.requires.size, table_end c.args.slots, shadow_end c.args.slots, marks_end c.args.slots)
+is_byte_set-requires g c =
+    omega (
+      arith,
+      c.mark_at.ensures,
+      c.is_flag_set.ensures.call.size,
+      c.requires.size,
+      table_end c.args.slots,
+      shadow_end c.args.slots,
+      marks_end c.args.slots,
+    )
 
 pub returns-clause-value : goal.returns-clause-value
 returns-clause-value g c observable =
     let mid = (g.D.Disk.state c.is_flag_set.new.disk).bytes in
     let same = (c.is_flag_set.ensures.reads observable).bytes in
-    let set : is_flag_set mid ≡ true = ap is_flag_set same ∙ sym (c.in_ok-is_flag_set.ensures.value observable) ∙ c.if-not-branch.false in
-    if_ok_map c.is_byte_set.result (λ set. set ≡ not (slice_index mid c.mark_at.result == 0)) (λ marked. marked ≡ is_flag_set (g.D.Disk.state c.args.disk.now).bytes && is_marked (g.D.Disk.state c.args.disk.now).bytes c.args.slots)
-    (λ found is. marked_by_mark c.args.slots mid c.mark_at.result set c.mark_at.ensures found is ∙ ap (λ l. is_flag_set l && is_marked l c.args.slots) same)
+    let set : is_flag_set mid ≡ true = ap is_flag_set same ∙ sym (c.in_ok-is_flag_set.ensures.value observable)
+    ∙ c.if-not-branch.false in
+    if_ok_map c.is_byte_set.result (λ set. set ≡ not (slice_index mid c.mark_at.result == 0))
+    (λ marked. marked ≡ is_flag_set (g.D.Disk.state c.args.disk.now).bytes
+    && is_marked (g.D.Disk.state c.args.disk.now).bytes c.args.slots)
+    (λ found is. marked_by_mark c.args.slots mid c.mark_at.result set c.mark_at.ensures found is
+    ∙ ap (λ l. is_flag_set l && is_marked l c.args.slots) same)
     (c.is_byte_set.ensures.value (IsObservable-call _ _ _ c.is_flag_set.ensures.call observable))

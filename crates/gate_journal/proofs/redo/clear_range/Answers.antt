@@ -6,7 +6,8 @@ use Rattle.gate_journal.specs.Places.{IsApart, IsZeroAt}
 use Rattle.store_model.specs.Images.{bytes_at}
 use Rattle.gate_journal.specs.Recovery.{clear_writes}
 use Rattle.gate_journal.proofs.Counting.{clear_none, clear_one}
-use Rattle.gate_journal.proofs.Calls.{Reaches-write, Reaches-then, Made-reads, Makes-reads, Makes-as, Makes-then, Makes-write}
+use Rattle.gate_journal.proofs.Calls.{Reaches-write, Reaches-then, Made-reads, Makes-reads, Makes-as, Makes-then}
+use Rattle.gate_journal.proofs.Calls.{Makes-write}
 use Rattle.gate_journal.proofs.Places.{Keeps-read}
 use Rattle.gate_journal.proofs.Reading.{zero_read, zero_written, ReadsOnly-read}
 use Rattle.gate_journal.proofs.redo.clear_range.Goals as goal
@@ -17,10 +18,12 @@ returns-then-is_zero-clause-reaches g c observable =
     let effect = c.in_ok-read_at.ensures.observed observable in
     let long : length c.read_at.new.into ≡ length c.args.buffer.now = c.read_at.auto.into in
     record {
-      keeps = Keeps-read (IsApart c.args.at (length c.args.buffer.now)) _ _ _ observable c.args.at c.read_at.new.into c.read_at.ensures;
+      keeps = Keeps-read (IsApart c.args.at (length c.args.buffer.now)) _ _ _ observable
+          c.args.at c.read_at.new.into c.read_at.ensures;
       done =
           subst (IsZeroAt c.args.at (length c.args.buffer.now)) (sym effect.bytes)
-          (subst (λ (n : ℕ). IsZeroAt c.args.at n old.bytes) long (zero_read old.bytes c.read_at.new.into c.args.at effect.read (c.is_zero.ensures.0 c.if-is_zero.true)));
+          (subst (λ (n : ℕ). IsZeroAt c.args.at n old.bytes) long
+          (zero_read old.bytes c.read_at.new.into c.args.at effect.read (c.is_zero.ensures.0 c.if-is_zero.true)));
     }
 
 pub returns-clause-reaches : goal.returns-clause-reaches
@@ -30,13 +33,18 @@ returns-clause-reaches g c observable =
     let written : length c.fill.new.self ≡ length c.args.buffer.now = c.fill.ensures.len ∙ long in
     let observable_mid = IsObservable-call _ _ _ c.read_at.ensures.call observable in
     let sound = g.met.D.Disk.sound c.read_at.new.self observable_mid in
-    Reaches-then (IsApart c.args.at n) (IsZeroAt c.args.at n) _ _ _ c.write_at.result sound (Keeps-read (IsApart c.args.at n) _ _ _ observable c.args.at c.read_at.new.into c.read_at.ensures)
-    (Reaches-write (IsApart c.args.at n) (IsZeroAt c.args.at n) _ _ c.write_at.result observable_mid c.args.at c.fill.new.self
+    Reaches-then (IsApart c.args.at n) (IsZeroAt c.args.at n) _ _ _ c.write_at.result sound
+    (Keeps-read (IsApart c.args.at n) _ _ _ observable c.args.at c.read_at.new.into c.read_at.ensures)
+    (Reaches-write (IsApart c.args.at n) (IsZeroAt c.args.at n) _ _ c.write_at.result observable_mid
+    c.args.at c.fill.new.self
     (λ place apart. subst (λ (m : ℕ). IsApart c.args.at m place) (sym written) apart) c.write_at.ensures
-    (zero_written (g.D.Disk.state c.read_at.new.self).bytes c.fill.new.self c.args.at n (c.fill.ensures.after (λ y is. search rules) ∙ ap (λ (m : ℕ). zeros m) long) (omega (arith, sound.size, c.read_at.ensures.call.size, c.requires.within))))
+    (zero_written (g.D.Disk.state c.read_at.new.self).bytes c.fill.new.self c.args.at n
+    (c.fill.ensures.after (λ y is. search rules) ∙ ap (λ (m : ℕ). zeros m) long)
+    (omega (arith, sound.size, c.read_at.ensures.call.size, c.requires.within))))
 
 -- the bytes that were read
-area_read : (image buffer : List ℕ) (at n : ℕ) → length buffer ≡ n → buffer ≡ take (length buffer) (drop at image) → buffer ≡ bytes_at image at n
+area_read : (image buffer : List ℕ) (at n : ℕ) → length buffer ≡ n → buffer ≡ take (length buffer) (drop at image)
+    → buffer ≡ bytes_at image at n
 area_read image buffer at n long read = read ∙ ap (λ (k : ℕ). bytes_at image at k) long
 
 pub returns-then-is_zero-clause-makes : goal.returns-then-is_zero-clause-makes
@@ -44,10 +52,14 @@ returns-then-is_zero-clause-makes g c observable =
     let old = g.D.Disk.state c.args.disk.now in
     let at = c.args.at in
     let n = length c.args.buffer.now in
-    let is = area_read old.bytes c.read_at.new.into at n c.read_at.auto.into (c.in_ok-read_at.ensures.observed observable).read in
-    let none : clear_writes at n old.bytes ≡ 0 = clear_none at n old.bytes (subst (λ (l : List ℕ). IsZeroAt 0 (length l) l) is (c.is_zero.ensures.0 c.if-is_zero.true)) in
+    let is = area_read old.bytes c.read_at.new.into at n
+    c.read_at.auto.into (c.in_ok-read_at.ensures.observed observable).read in
+    let none : clear_writes at n old.bytes ≡ 0 =
+    clear_none at n old.bytes (subst (λ (l : List ℕ). IsZeroAt 0 (length l) l) is
+    (c.is_zero.ensures.0 c.if-is_zero.true)) in
     Makes-as old _ _ 0 0 (clear_writes at n old.bytes) 0 (sym none) refl
-    (Makes-reads old _ c.read_at.result _ c.read_at.ensures.call (ReadsOnly-read old _ c.read_at.result at c.read_at.new.into observable c.read_at.ensures))
+    (Makes-reads old _ c.read_at.result _ c.read_at.ensures.call
+    (ReadsOnly-read old _ c.read_at.result at c.read_at.new.into observable c.read_at.ensures))
 
 pub returns-clause-makes : goal.returns-clause-makes
 returns-clause-makes g c observable =
@@ -55,10 +67,15 @@ returns-clause-makes g c observable =
     let mid = g.D.Disk.state c.read_at.new.self in
     let at = c.args.at in
     let n = length c.args.buffer.now in
-    let is = area_read old.bytes c.read_at.new.into at n c.read_at.auto.into (c.in_ok-read_at.ensures.observed observable).read in
+    let is = area_read old.bytes c.read_at.new.into at n
+    c.read_at.auto.into (c.in_ok-read_at.ensures.observed observable).read in
     let one : clear_writes at n old.bytes ≡ 1 =
-    clear_one at n old.bytes (λ none. both_ways c.is_zero.result c.if-is_zero.false (c.is_zero.ensures.1 (subst (λ (l : List ℕ). IsZeroAt 0 (length l) l) (sym is) none))) in
+    clear_one at n old.bytes (λ none.
+    both_ways c.is_zero.result c.if-is_zero.false
+    (c.is_zero.ensures.1 (subst (λ (l : List ℕ). IsZeroAt 0 (length l) l) (sym is) none))) in
     let observable_mid = IsObservable-call _ _ _ c.read_at.ensures.call observable in
     Makes-as old _ _ (0 + 1) (0 + 0) (clear_writes at n old.bytes) 0 (omega (arith, one)) (omega arith)
-    (Makes-then old mid _ c.write_at.result 0 0 1 0 (Made-reads old mid (ReadsOnly-read old mid c.read_at.result at c.read_at.new.into observable c.read_at.ensures))
+    (Makes-then old mid _ c.write_at.result 0 0 1 0
+    (Made-reads old mid (ReadsOnly-read old mid c.read_at.result at
+    c.read_at.new.into observable c.read_at.ensures))
     (Makes-write mid _ c.write_at.result observable_mid at c.fill.new.self c.write_at.ensures))

@@ -8,6 +8,9 @@ returns-clause-value g c observable =
     let old = (g.D.Disk.state c.args.disk.now).bytes in
     let read = (c.in_ok-read_at.ensures.observed observable).read in
     let long : length c.read_at.new.into ≡ 4096 = c.read_at.auto.into in (
-      λ zero. subst (λ (n : ℕ). IsZeroAt c.args.at n old) long (zero_read old c.read_at.new.into c.args.at read (c.is_zero.ensures.0 zero)),
-      λ (zero : IsZeroAt c.args.at 4096 old). c.is_zero.ensures.1 (zero_buffer old c.read_at.new.into c.args.at read (subst (λ (n : ℕ). IsZeroAt c.args.at n old) (sym long) zero)),
+      λ zero. subst (λ (n : ℕ). IsZeroAt c.args.at n old) long
+          (zero_read old c.read_at.new.into c.args.at read (c.is_zero.ensures.0 zero)),
+      λ (zero : IsZeroAt c.args.at 4096 old).
+          c.is_zero.ensures.1 (zero_buffer old c.read_at.new.into c.args.at read
+          (subst (λ (n : ℕ). IsZeroAt c.args.at n old) (sym long) zero)),
     )

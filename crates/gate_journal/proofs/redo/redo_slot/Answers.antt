@@ -19,14 +19,24 @@ read_at-requires g c =
 pub write_at-requires : goal.write_at-requires
 write_at-requires g c =
     let here = areas c.args.slots c.args.slot c.requires.below in
-    omega (arith, here.table_end, c.table_at.ensures.value, c.read_at.auto.into, c.read_at.ensures.call.size, c.requires.size)
+    omega (
+      arith,
+      here.table_end,
+      c.table_at.ensures.value,
+      c.read_at.auto.into,
+      c.read_at.ensures.call.size,
+      c.requires.size,
+    )
 
 -- the bytes of the shadow slot, written into the slot of the table
-redone : (slots slot from at : ℕ) (old mid bytes : List ℕ) → from ≡ shadow_at slots slot → at ≡ table_at slots slot → length bytes ≡ 4096 → bytes ≡ take (length bytes) (drop from old) → table_at slots slot + length bytes ≤ length mid
+redone : (slots slot from at : ℕ) (old mid bytes : List ℕ) → from ≡ shadow_at slots slot → at ≡ table_at slots slot
+    → length bytes ≡ 4096 → bytes ≡ take (length bytes) (drop from old)
+    → table_at slots slot + length bytes ≤ length mid
     → table_slot slots (overwrite mid at bytes) slot ≡ bytes_at old (shadow_at slots slot) 4096
 redone slots slot from at old mid bytes shadow there long read within =
     ap (λ (n : ℕ). table_slot slots (overwrite mid n bytes) slot) there
-    ∙ subst (λ (n : ℕ). take n (drop (table_at slots slot) (overwrite mid (table_at slots slot) bytes)) ≡ bytes) long (take-drop-overwrite mid (table_at slots slot) bytes within)
+    ∙ subst (λ (n : ℕ). take n (drop (table_at slots slot) (overwrite mid (table_at slots slot) bytes)) ≡ bytes) long
+    (take-drop-overwrite mid (table_at slots slot) bytes within)
     ∙ read ∙ ap (λ (n : ℕ). take n (drop from old)) long ∙ ap (λ (n : ℕ). bytes_at old n 4096) shadow
 
 pub returns-clause-reaches : goal.returns-clause-reaches
@@ -38,9 +48,22 @@ returns-clause-reaches g c observable =
     let long : length bytes ≡ 4096 = c.read_at.auto.into in
     let observable_mid = IsObservable-call _ _ _ c.read_at.ensures.call observable in
     let sound = g.met.D.Disk.sound c.read_at.new.self observable_mid in
-    let within : at + length bytes ≤ length mid = omega (arith, (areas c.args.slots c.args.slot c.requires.below).table_end, long, sound.size, c.read_at.ensures.call.size, c.requires.size) in
-    let Done = λ (image : List ℕ). table_slot c.args.slots image c.args.slot ≡ bytes_at old (shadow_at c.args.slots c.args.slot) 4096 in
-    let done = redone c.args.slots c.args.slot c.shadow_at.result c.table_at.result old mid bytes c.shadow_at.ensures.value c.table_at.ensures.value long (c.in_ok-read_at.ensures.observed observable).read within in
-    Reaches-then (IsApart at 4096) Done _ _ _ c.write_at.result sound (Keeps-read (IsApart at 4096) _ _ _ observable c.shadow_at.result bytes c.read_at.ensures)
+    let within : at + length bytes ≤ length mid =
+    omega (
+      arith,
+      (areas c.args.slots c.args.slot c.requires.below).table_end,
+      long,
+      sound.size,
+      c.read_at.ensures.call.size,
+      c.requires.size,
+    ) in
+    let Done = λ (image : List ℕ). table_slot c.args.slots image c.args.slot
+    ≡ bytes_at old (shadow_at c.args.slots c.args.slot) 4096 in
+    let done = redone c.args.slots c.args.slot c.shadow_at.result c.table_at.result old mid bytes
+    c.shadow_at.ensures.value c.table_at.ensures.value long
+    (c.in_ok-read_at.ensures.observed observable).read within in
+    Reaches-then (IsApart at 4096) Done _ _ _ c.write_at.result sound
+    (Keeps-read (IsApart at 4096) _ _ _ observable c.shadow_at.result bytes c.read_at.ensures)
     (Reaches-write (IsApart at 4096) Done _ _ c.write_at.result observable_mid c.table_at.result bytes
-    (λ place apart. subst (λ (m : ℕ). IsApart c.table_at.result m place) (sym long) (subst (λ (n : ℕ). IsApart n 4096 place) (sym c.table_at.ensures.value) apart)) c.write_at.ensures done)
+    (λ place apart. subst (λ (m : ℕ). IsApart c.table_at.result m place) (sym long)
+    (subst (λ (n : ℕ). IsApart n 4096 place) (sym c.table_at.ensures.value) apart)) c.write_at.ensures done)

@@ -7,4 +7,5 @@ abbrev pub invariant-loop-block : goal.invariant-loop-block
 invariant-loop-block g l =
     let old = g.D.Disk.state l.fn.disk in
     let so_far = min l.slots (4096 * l.block) in
-    ComesSoFar (OutsideMarked l.slots 0 l.slots old.bytes) (AreRedone l.slots 0 so_far old.bytes) (marked_count 0 so_far old.bytes) old (g.D.Disk.state l.disk)
+    ComesSoFar (OutsideMarked l.slots 0 l.slots old.bytes) (AreRedone l.slots 0 so_far old.bytes)
+    (marked_count 0 so_far old.bytes) old (g.D.Disk.state l.disk)

@@ -1,4 +1,5 @@
-use Rattle.std.proofs.Common.{◌≡◌, ℕ, ◌+◌, ◌≤◌, List, [], ◌∷◌, length, slice_index, not, ◌==◌, Bool, sym, ap, ◌∙◌, subst, arith}
+use Rattle.std.proofs.Common.{◌≡◌, ℕ, ◌+◌, ◌≤◌, List, [], ◌∷◌, length, slice_index, not, ◌==◌, Bool, sym, ap, ◌∙◌}
+use Rattle.std.proofs.Common.{subst, arith}
 use Rattle.std.proofs.lemmas.Bool.{both_ways}
 use Rattle.store_model.specs.Parameters.{mark_at}
 use Rattle.store_model.specs.Images.{is_marked}
@@ -14,20 +15,40 @@ use Rattle.gate_journal.proofs.Reading.{Keeps-reads}
 use Rattle.gate_journal.proofs.redo.redo_version.Goals as goal
 
 pub is_byte_set-requires : goal.is_byte_set-requires
-is_byte_set-requires g c = omega (arith, c.mark_at.ensures, c.requires.size, marks_end c.args.slots, shadow_end c.args.slots, table_end c.args.slots)
+is_byte_set-requires g c =
+    omega (
+      arith,
+      c.mark_at.ensures,
+      c.requires.size,
+      marks_end c.args.slots,
+      shadow_end c.args.slots,
+      table_end c.args.slots,
+    )
 
 pub write_at-requires : goal.write_at-requires
 write_at-requires g c =
-    omega (arith, c.version_at.ensures, c.is_byte_set.ensures.call.size, c.requires.size, marks_end c.args.slots, shadow_end c.args.slots, table_end c.args.slots)
+    omega (
+      arith,
+      c.version_at.ensures,
+      c.is_byte_set.ensures.call.size,
+      c.requires.size,
+      marks_end c.args.slots,
+      shadow_end c.args.slots,
+      table_end c.args.slots,
+    )
 
 -- the mark that was read
-mark_found : (slots at : ℕ) (image : List ℕ) (found is : Bool) → at ≡ mark_at slots → found ≡ not (slice_index image at == 0) → found ≡ is → is_marked image slots ≡ is
+mark_found : (slots at : ℕ) (image : List ℕ) (found is : Bool) → at ≡ mark_at slots
+    → found ≡ not (slice_index image at == 0) → found ≡ is → is_marked image slots ≡ is
 unfolding is_marked
-mark_found slots at image found is there value here = ap (λ (n : ℕ). not (slice_index image n == 0)) (sym there) ∙ sym value ∙ here
+mark_found slots at image found is there value here =
+    ap (λ (n : ℕ). not (slice_index image n == 0)) (sym there) ∙ sym value ∙ here
 
 -- the version that was written
-version_written : (image : List ℕ) (at byte : ℕ) → at ≡ 14 → byte ≡ 2 → at + 1 ≤ length image → slice_index (overwrite image at (byte ∷ [])) 14 ≡ 2
-version_written image at byte there is within = ap (slice_index (overwrite image at (byte ∷ []))) (sym there) ∙ slice_index-overwrite image at byte within ∙ is
+version_written : (image : List ℕ) (at byte : ℕ) → at ≡ 14 → byte ≡ 2 → at + 1 ≤ length image
+    → slice_index (overwrite image at (byte ∷ [])) 14 ≡ 2
+version_written image at byte there is within = ap (slice_index (overwrite image at (byte ∷ []))) (sym there)
+    ∙ slice_index-overwrite image at byte within ∙ is
 
 pub returns-then-branch-clause-reaches : goal.returns-then-branch-clause-reaches
 returns-then-branch-clause-reaches g c observable =
@@ -37,14 +58,28 @@ returns-then-branch-clause-reaches g c observable =
     let new = g.D.Disk.state c.write_at.new.self in
     let places = OutsideVersion slots old.bytes in
     let Done = HasRedoneVersion slots old.bytes in
-    let marked = mark_found slots c.mark_at.result old.bytes _ _ c.mark_at.ensures (c.in_ok-is_byte_set.ensures.value observable) c.if-branch.true in
+    let marked = mark_found slots c.mark_at.result old.bytes _ _
+    c.mark_at.ensures (c.in_ok-is_byte_set.ensures.value observable) c.if-branch.true in
     let observable_mid = IsObservable-call _ _ _ c.is_byte_set.ensures.call observable in
     let sound = g.met.D.Disk.sound c.is_byte_set.new.disk observable_mid in
-    let within : c.version_at.result + 1 ≤ length mid.bytes = omega (arith, c.version_at.ensures, sound.size, c.is_byte_set.ensures.call.size, c.requires.size, marks_end slots, shadow_end slots, table_end slots) in
-    Reaches-then places Done old mid new c.write_at.result sound (Keeps-reads places old mid (c.is_byte_set.ensures.reads observable))
+    let within : c.version_at.result + 1 ≤ length mid.bytes =
+    omega (
+      arith,
+      c.version_at.ensures,
+      sound.size,
+      c.is_byte_set.ensures.call.size,
+      c.requires.size,
+      marks_end slots,
+      shadow_end slots,
+      table_end slots,
+    ) in
+    Reaches-then places Done old mid new c.write_at.result sound
+    (Keeps-reads places old mid (c.is_byte_set.ensures.reads observable))
     (Reaches-write places Done mid new c.write_at.result observable_mid c.version_at.result (c.version_byte.result ∷ [])
-    (λ place outside. subst (λ (n : ℕ). IsApart n 1 place) (sym c.version_at.ensures) (outside marked)) c.write_at.ensures
-    (λ _. version_written mid.bytes c.version_at.result c.version_byte.result c.version_at.ensures c.version_byte.ensures within))
+    (λ place outside. subst (λ (n : ℕ). IsApart n 1 place) (sym c.version_at.ensures) (outside marked))
+    c.write_at.ensures
+    (λ _. version_written mid.bytes c.version_at.result c.version_byte.result c.version_at.ensures
+    c.version_byte.ensures within))
 
 pub returns-then-branch-clause-makes : goal.returns-then-branch-clause-makes
 returns-then-branch-clause-makes g c observable =
@@ -52,17 +87,21 @@ returns-then-branch-clause-makes g c observable =
     let old = g.D.Disk.state c.args.disk.now in
     let mid = g.D.Disk.state c.is_byte_set.new.disk in
     let new = g.D.Disk.state c.write_at.new.self in
-    let marked = mark_found slots c.mark_at.result old.bytes _ _ c.mark_at.ensures (c.in_ok-is_byte_set.ensures.value observable) c.if-branch.true in
+    let marked = mark_found slots c.mark_at.result old.bytes _ _
+    c.mark_at.ensures (c.in_ok-is_byte_set.ensures.value observable) c.if-branch.true in
     let observable_mid = IsObservable-call _ _ _ c.is_byte_set.ensures.call observable in
-    Makes-as old new c.write_at.result 1 0 (marked_count slots 1 old.bytes) 0 (sym (marked_one slots old.bytes _ marked)) (omega arith)
-    (Makes-behind old mid new c.write_at.result 1 0 (c.is_byte_set.ensures.reads observable) (Makes-write mid new c.write_at.result observable_mid c.version_at.result _ c.write_at.ensures))
+    Makes-as old new c.write_at.result 1 0 (marked_count slots 1 old.bytes) 0
+    (sym (marked_one slots old.bytes _ marked)) (omega arith)
+    (Makes-behind old mid new c.write_at.result 1 0 (c.is_byte_set.ensures.reads observable)
+    (Makes-write mid new c.write_at.result observable_mid c.version_at.result _ c.write_at.ensures))
 
 pub returns-clause-reaches : goal.returns-clause-reaches
 returns-clause-reaches g c observable =
     let slots = c.args.slots in
     let old = g.D.Disk.state c.args.disk.now in
     let new = g.D.Disk.state c.is_byte_set.new.disk in
-    let unmarked = mark_found slots c.mark_at.result old.bytes _ _ c.mark_at.ensures (c.in_ok-is_byte_set.ensures.value observable) c.if-branch.false in
+    let unmarked = mark_found slots c.mark_at.result old.bytes _ _
+    c.mark_at.ensures (c.in_ok-is_byte_set.ensures.value observable) c.if-branch.false in
     record {
       keeps = Keeps-reads (OutsideVersion slots old.bytes) old new (c.is_byte_set.ensures.reads observable);
       done = λ marked. absurd (both_ways (is_marked old.bytes slots) unmarked marked);
@@ -73,6 +112,8 @@ returns-clause-makes g c observable =
     let slots = c.args.slots in
     let old = g.D.Disk.state c.args.disk.now in
     let new = g.D.Disk.state c.is_byte_set.new.disk in
-    let unmarked = mark_found slots c.mark_at.result old.bytes _ _ c.mark_at.ensures (c.in_ok-is_byte_set.ensures.value observable) c.if-branch.false in
-    Makes-as old new _ 0 0 (marked_count slots 1 old.bytes) 0 (sym (marked_one slots old.bytes _ unmarked)) (omega arith)
+    let unmarked = mark_found slots c.mark_at.result old.bytes _ _
+    c.mark_at.ensures (c.in_ok-is_byte_set.ensures.value observable) c.if-branch.false in
+    Makes-as old new _ 0 0 (marked_count slots 1 old.bytes) 0
+    (sym (marked_one slots old.bytes _ unmarked)) (omega arith)
     (Makes-reads old new c.is_byte_set.result _ c.is_byte_set.ensures.call (c.is_byte_set.ensures.reads observable))

@@ -8,11 +8,15 @@ unfolding recovered_slot
 returns-then-branch-clause-value g c observable =
     let old = (g.D.Disk.state c.args.disk.now).bytes in
     ap (λ (n : ℕ). bytes_at old n 4096) c.shadow_at.ensures.value
-    ∙ ap (λ (b : Bool). bytes_at old (if b then shadow_at c.args.slots c.args.slot else table_at c.args.slots c.args.slot) 4096) (sym c.if-branch.true ∙ c.in_ok-is_redone.ensures.value observable)
+    ∙ ap (λ (b : Bool). bytes_at old
+    (if b then shadow_at c.args.slots c.args.slot else table_at c.args.slots c.args.slot) 4096)
+    (sym c.if-branch.true ∙ c.in_ok-is_redone.ensures.value observable)
 
 pub returns-else-branch-clause-value : goal.returns-else-branch-clause-value
 unfolding recovered_slot
 returns-else-branch-clause-value g c observable =
     let old = (g.D.Disk.state c.args.disk.now).bytes in
     ap (λ (n : ℕ). bytes_at old n 4096) c.table_at.ensures.value
-    ∙ ap (λ (b : Bool). bytes_at old (if b then shadow_at c.args.slots c.args.slot else table_at c.args.slots c.args.slot) 4096) (sym c.if-branch.false ∙ c.in_ok-is_redone.ensures.value observable)
+    ∙ ap (λ (b : Bool). bytes_at old
+    (if b then shadow_at c.args.slots c.args.slot else table_at c.args.slots c.args.slot) 4096)
+    (sym c.if-branch.false ∙ c.in_ok-is_redone.ensures.value observable)

@@ -5,7 +5,8 @@ use Rattle.gate_journal.proofs.wipe.overwrite_disk.Goals as goal
 
 pub returns-in_err-write_first-clause-wipes : goal.returns-in_err-write_first-clause-wipes
 returns-in_err-write_first-clause-wipes g c observable =
-    wipes_fault (g.D.Disk.state c.args.disk.now) (g.D.Disk.state c.write_first.new.disk) c.from_residual.result c.from_residual.ensures.0 (c.write_first.ensures.reaches observable).keeps
+    wipes_fault (g.D.Disk.state c.args.disk.now) (g.D.Disk.state c.write_first.new.disk)
+    c.from_residual.result c.from_residual.ensures.0 (c.write_first.ensures.reaches observable).keeps
 
 pub returns-clause-wipes : goal.returns-clause-wipes
 returns-clause-wipes g c observable =
@@ -14,6 +15,9 @@ returns-clause-wipes g c observable =
     let new = g.D.Disk.state c.wipe_rest.new.disk in
     let observable_1 = IsObservable-call old mid _ c.write_first.ensures.call observable in
     let size = (g.met.D.Disk.sound c.args.disk.now observable).size in
-    let whole : 1 + (mid.size - 1) ≡ length old.bytes = omega (arith, size, c.write_first.ensures.call.size, c.requires) in
-    wipes old mid new _ c.wipe_rest.result (omega (arith, size, c.requires)) (c.in_ok-write_first.ensures.reaches observable) (mid.size - 1) whole (c.in_ok-write_first.ensures.durable observable)
+    let whole : 1 + (mid.size - 1) ≡ length old.bytes =
+    omega (arith, size, c.write_first.ensures.call.size, c.requires) in
+    wipes old mid new _ c.wipe_rest.result (omega (arith, size, c.requires))
+    (c.in_ok-write_first.ensures.reaches observable) (mid.size - 1) whole
+    (c.in_ok-write_first.ensures.durable observable)
     (c.wipe_rest.ensures.reaches observable_1) (c.wipe_rest.ensures.durable observable_1)

@@ -6,4 +6,5 @@ use Rattle.gate_journal.proofs.wipe.wipe_rest.Given as goal
 abbrev pub invariant-loop-block : goal.invariant-loop-block
 invariant-loop-block g l =
     let old = g.D.Disk.state l.fn.disk in
-    ComesSoFar (IsApart 1 (old.size - 1)) (IsZeroAt 1 (min (4096 * l.block) old.size - 1)) l.block old (g.D.Disk.state l.disk)
+    ComesSoFar (IsApart 1 (old.size - 1)) (IsZeroAt 1 (min (4096 * l.block) old.size - 1)) l.block old
+    (g.D.Disk.state l.disk)

@@ -1,4 +1,5 @@
-use Rattle.std.proofs.Common.{◌≡◌, ℕ, ◌-◌, Bool, List, [], ◌∷◌, ◌++◌, Option, Some, None, Ok, true, false, refl, sym, ap, subst, ◌∙◌, arith}
+use Rattle.std.proofs.Common.{◌≡◌, ℕ, ◌-◌, Bool, List, [], ◌∷◌, ◌++◌, Option, Some, None, Ok, true, false, refl, sym}
+use Rattle.std.proofs.Common.{ap, subst, ◌∙◌, arith}
 use Rattle.std.proofs.lemmas.Result.{err_from_is_err_and}
 use Rattle.store_base.specs.Leads.{model_lead}
 use Rattle.store_model.specs.Labels.{Label}
@@ -21,9 +22,15 @@ walk_cell-returns-then-level-gt0-clause-call g t c =
     let old = g.S.ReadSlots.state c.args.slots.now in
     let new = g.S.ReadSlots.state c.walk_group.new.slots in
     let key_is : c.cell.inside.key ≡ c.args.cell.now.key = ap (λ (x : Cell). x.key) c.cell.view_is in
-    walks_group_below d old new (c.args.level - 1) c.args.level c.args.cell.now (progress c.args.met.now.left c.args.met.now.last) (progress c.walk_group.new.met.left c.walk_group.new.met.last) (g.P.TakesPairs.took c.args.sink.now) (g.P.TakesPairs.took c.walk_group.new.sink)
+    walks_group_below d old new (c.args.level - 1)
+    c.args.level c.args.cell.now (progress c.args.met.now.left c.args.met.now.last)
+    (progress c.walk_group.new.met.left c.walk_group.new.met.last) (g.P.TakesPairs.took c.args.sink.now)
+    (g.P.TakesPairs.took c.walk_group.new.sink)
     (omega (arith, c.if-level-gt0.true)) c.walk_group.result
-    (subst (λ (k : List ℕ). WalksGroup d old new (c.args.level - 1) (Leader k) (progress c.args.met.now.left c.args.met.now.last) (progress c.walk_group.new.met.left c.walk_group.new.met.last) (g.P.TakesPairs.took c.args.sink.now) (g.P.TakesPairs.took c.walk_group.new.sink) c.walk_group.result) key_is c.walk_group.ensures.call)
+    (subst (λ (k : List ℕ). WalksGroup d old new (c.args.level - 1) (Leader k)
+    (progress c.args.met.now.left c.args.met.now.last)
+    (progress c.walk_group.new.met.left c.walk_group.new.met.last) (g.P.TakesPairs.took c.args.sink.now)
+    (g.P.TakesPairs.took c.walk_group.new.sink) c.walk_group.result) key_is c.walk_group.ensures.call)
 
 pub walk_cell-returns-clause-call : goal.walk_cell-returns-clause-call
 walk_cell-returns-clause-call g t c =
@@ -31,14 +38,23 @@ walk_cell-returns-clause-call g t c =
     let state = g.S.ReadSlots.state c.args.slots.now in
     let after : Progress = record { left = c.args.met.now.left; last = Some c.cell.inside.key } in
     let key_is : c.cell.inside.key ≡ c.args.cell.now.key = ap (λ (x : Cell). x.key) c.cell.view_is in
-    let value_is : c.args.cell.now.value ≡ Some c.in-Some.value = sym (ap (λ (x : Cell). x.value) c.cell.view_is) ∙ c.in-Some.is in
+    let value_is : c.args.cell.now.value ≡ Some c.in-Some.value =
+    sym (ap (λ (x : Cell). x.value) c.cell.view_is) ∙ c.in-Some.is in
     let zero_is : c.args.level ≡ 0 = omega (arith, c.if-level-gt0.false) in
-    subst (λ (n : ℕ). WalksCell d state state n c.args.cell.now (progress c.args.met.now.left c.args.met.now.last) after (g.P.TakesPairs.took c.args.sink.now) (g.P.TakesPairs.took c.take.new.self) (Ok true)) (sym zero_is)
-    (walks_pair d state c.args.cell.now c.in-Some.value (progress c.args.met.now.left c.args.met.now.last) after (g.P.TakesPairs.took c.args.sink.now) (g.P.TakesPairs.took c.take.new.self) value_is refl (ap Some key_is)
-    (subst (λ (k : List ℕ). (pairs : List Pair) → g.P.TakesPairs.took c.args.sink.now pairs → g.P.TakesPairs.took c.take.new.self (pairs ++ (k, c.in-Some.value) ∷ [])) key_is c.take.ensures.took))
+    subst (λ (n : ℕ). WalksCell d state state n c.args.cell.now (progress c.args.met.now.left c.args.met.now.last) after
+    (g.P.TakesPairs.took c.args.sink.now) (g.P.TakesPairs.took c.take.new.self) (Ok true)) (sym zero_is)
+    (walks_pair d state c.args.cell.now c.in-Some.value (progress c.args.met.now.left c.args.met.now.last) after
+    (g.P.TakesPairs.took c.args.sink.now) (g.P.TakesPairs.took c.take.new.self) value_is refl (ap Some key_is)
+    (subst (λ (k : List ℕ). (pairs : List Pair) → g.P.TakesPairs.took c.args.sink.now pairs
+    → g.P.TakesPairs.took c.take.new.self (pairs ++ (k, c.in-Some.value) ∷ [])) key_is c.take.ensures.took))
 
 pub walk_cells-loop-i-init : goal.walk_cells-loop-i-init
-walk_cells-loop-i-init g t c = (cells_begin (g.W.Draw.drawn c.args.guide.now.draw.now) _ c.args.page.now (progress c.args.met.now.left c.args.met.now.last) _, g.met.S.ReadSlots.follows_refl c.args.slots.now, g.met.P.TakesPairs.keeps_refl c.args.sink.now)
+walk_cells-loop-i-init g t c = (
+  cells_begin (g.W.Draw.drawn c.args.guide.now.draw.now) _
+      c.args.page.now (progress c.args.met.now.left c.args.met.now.last) _,
+  g.met.S.ReadSlots.follows_refl c.args.slots.now,
+  g.met.P.TakesPairs.keeps_refl c.args.sink.now,
+)
 
 pub walk_cells-returns-then-not-is_next-clause-call :
     goal.walk_cells-returns-then-not-is_next-clause-call
@@ -46,9 +62,13 @@ walk_cells-returns-then-not-is_next-clause-call g t c =
     let d = g.W.Draw.drawn c.args.guide.now.draw.now in
     let page = c.args.page.now in
     let cell = c.cell-cell.result in
-    cells_wrong d (g.S.ReadSlots.state c.args.slots.now) (g.S.ReadSlots.state c.loop-i.slots) (g.S.ReadSlots.state c.loop-i.slots) page c.loop-i.i cell (progress c.args.met.now.left c.args.met.now.last) (progress c.loop-i.met.left c.loop-i.met.last) (progress c.loop-i.met.left c.loop-i.met.last)
-    (g.P.TakesPairs.took c.args.sink.now) (g.P.TakesPairs.took c.loop-i.sink) (g.P.TakesPairs.took c.loop-i.sink) c.loop-i.invariant.0 c.cell-cell.ensures.value
-    (λ both. let place = subst (λ (l : Label). IsInPlace d l.level l.lead l.index c.loop-i.i cell.key) (sym c.label-label.ensures.value) both.0 in
+    cells_wrong d (g.S.ReadSlots.state c.args.slots.now) (g.S.ReadSlots.state c.loop-i.slots)
+    (g.S.ReadSlots.state c.loop-i.slots) page c.loop-i.i cell (progress c.args.met.now.left c.args.met.now.last)
+    (progress c.loop-i.met.left c.loop-i.met.last) (progress c.loop-i.met.left c.loop-i.met.last)
+    (g.P.TakesPairs.took c.args.sink.now) (g.P.TakesPairs.took c.loop-i.sink)
+    (g.P.TakesPairs.took c.loop-i.sink) c.loop-i.invariant.0 c.cell-cell.ensures.value
+    (λ both. let place = subst (λ (l : Label). IsInPlace d l.level l.lead l.index c.loop-i.i cell.key)
+    (sym c.label-label.ensures.value) both.0 in
     let yes : c.is_next.result ≡ true = c.is_next.ensures.1 (place, both.1) in
     let no = c.if-not-is_next.true in absurd (cc))
 
@@ -61,11 +81,20 @@ walk_cells-returns-then-not-branch-clause-call g t c =
     let page = c.args.page.now in
     let cell = c.cell-cell.result in
     let next = c.is_next.ensures.0 c.if-not-is_next.false in
-    let place = subst (λ (l : Label). IsInPlace d l.level l.lead l.index c.loop-i.i cell.key) c.label-label.ensures.value next.0 in
-    let walks = subst (λ (n : ℕ). WalksCell d now new n cell (progress c.loop-i.met.left c.loop-i.met.last) (progress c.walk_cell.new.met.left c.walk_cell.new.met.last) (g.P.TakesPairs.took c.loop-i.sink) (g.P.TakesPairs.took c.walk_cell.new.sink) (Ok c.in_ok-walk_cell.field-0)) c.level.ensures c.in_ok-walk_cell.ensures.call in
-    cells_refuted d (g.S.ReadSlots.state c.args.slots.now) now new page c.loop-i.i cell (progress c.args.met.now.left c.args.met.now.last) (progress c.loop-i.met.left c.loop-i.met.last) (progress c.walk_cell.new.met.left c.walk_cell.new.met.last)
-    (g.P.TakesPairs.took c.args.sink.now) (g.P.TakesPairs.took c.loop-i.sink) (g.P.TakesPairs.took c.walk_cell.new.sink) c.loop-i.invariant.0 c.cell-cell.ensures.value place next.1
-    (subst (λ (b : Bool). WalksCell d now new page.label.level cell (progress c.loop-i.met.left c.loop-i.met.last) (progress c.walk_cell.new.met.left c.walk_cell.new.met.last) (g.P.TakesPairs.took c.loop-i.sink) (g.P.TakesPairs.took c.walk_cell.new.sink) (Ok b)) c.if-not-branch.true walks)
+    let place = subst (λ (l : Label). IsInPlace d l.level l.lead l.index c.loop-i.i cell.key)
+    c.label-label.ensures.value next.0 in
+    let walks = subst (λ (n : ℕ). WalksCell d now new n cell (progress c.loop-i.met.left c.loop-i.met.last)
+    (progress c.walk_cell.new.met.left c.walk_cell.new.met.last) (g.P.TakesPairs.took c.loop-i.sink)
+    (g.P.TakesPairs.took c.walk_cell.new.sink) (Ok c.in_ok-walk_cell.field-0))
+    c.level.ensures c.in_ok-walk_cell.ensures.call in
+    cells_refuted d (g.S.ReadSlots.state c.args.slots.now) now new page c.loop-i.i cell
+    (progress c.args.met.now.left c.args.met.now.last) (progress c.loop-i.met.left c.loop-i.met.last)
+    (progress c.walk_cell.new.met.left c.walk_cell.new.met.last)
+    (g.P.TakesPairs.took c.args.sink.now) (g.P.TakesPairs.took c.loop-i.sink)
+    (g.P.TakesPairs.took c.walk_cell.new.sink) c.loop-i.invariant.0 c.cell-cell.ensures.value place next.1
+    (subst (λ (b : Bool). WalksCell d now new page.label.level cell (progress c.loop-i.met.left c.loop-i.met.last)
+    (progress c.walk_cell.new.met.left c.walk_cell.new.met.last) (g.P.TakesPairs.took c.loop-i.sink)
+    (g.P.TakesPairs.took c.walk_cell.new.sink) (Ok b)) c.if-not-branch.true walks)
 
 pub walk_cells-loop-i-preserved : goal.walk_cells-loop-i-preserved
 walk_cells-loop-i-preserved g t c =
@@ -75,21 +104,40 @@ walk_cells-loop-i-preserved g t c =
     let page = c.args.page.now in
     let cell = c.cell-cell.result in
     let next = c.is_next.ensures.0 c.if-not-is_next.false in
-    let place = subst (λ (l : Label). IsInPlace d l.level l.lead l.index c.loop-i.i cell.key) c.label-label.ensures.value next.0 in
-    let walks = subst (λ (n : ℕ). WalksCell d now new n cell (progress c.loop-i.met.left c.loop-i.met.last) (progress c.walk_cell.new.met.left c.walk_cell.new.met.last) (g.P.TakesPairs.took c.loop-i.sink) (g.P.TakesPairs.took c.walk_cell.new.sink) (Ok c.in_ok-walk_cell.field-0)) c.level.ensures c.in_ok-walk_cell.ensures.call in (
-      cells_next d (g.S.ReadSlots.state c.args.slots.now) now new page c.loop-i.i cell (progress c.args.met.now.left c.args.met.now.last) (progress c.loop-i.met.left c.loop-i.met.last) (progress c.walk_cell.new.met.left c.walk_cell.new.met.last)
-          (g.P.TakesPairs.took c.args.sink.now) (g.P.TakesPairs.took c.loop-i.sink) (g.P.TakesPairs.took c.walk_cell.new.sink) c.loop-i.invariant.0 c.cell-cell.ensures.value place next.1
-          (subst (λ (b : Bool). WalksCell d now new page.label.level cell (progress c.loop-i.met.left c.loop-i.met.last) (progress c.walk_cell.new.met.left c.walk_cell.new.met.last) (g.P.TakesPairs.took c.loop-i.sink) (g.P.TakesPairs.took c.walk_cell.new.sink) (Ok b)) c.if-not-branch.false walks),
-      g.met.S.ReadSlots.follows_trans c.args.slots.now c.loop-i.slots c.walk_cell.new.slots c.loop-i.invariant.1 c.in_ok-walk_cell.ensures.follows,
-      g.met.P.TakesPairs.keeps_trans c.args.sink.now c.loop-i.sink c.walk_cell.new.sink c.loop-i.invariant.2 c.in_ok-walk_cell.ensures.keeps,
+    let place = subst (λ (l : Label). IsInPlace d l.level l.lead l.index c.loop-i.i cell.key)
+    c.label-label.ensures.value next.0 in
+    let walks = subst (λ (n : ℕ). WalksCell d now new n cell (progress c.loop-i.met.left c.loop-i.met.last)
+    (progress c.walk_cell.new.met.left c.walk_cell.new.met.last) (g.P.TakesPairs.took c.loop-i.sink)
+    (g.P.TakesPairs.took c.walk_cell.new.sink) (Ok c.in_ok-walk_cell.field-0))
+    c.level.ensures c.in_ok-walk_cell.ensures.call in (
+      cells_next d (g.S.ReadSlots.state c.args.slots.now) now new page c.loop-i.i cell
+          (progress c.args.met.now.left c.args.met.now.last) (progress c.loop-i.met.left c.loop-i.met.last)
+          (progress c.walk_cell.new.met.left c.walk_cell.new.met.last)
+          (g.P.TakesPairs.took c.args.sink.now) (g.P.TakesPairs.took c.loop-i.sink)
+          (g.P.TakesPairs.took c.walk_cell.new.sink) c.loop-i.invariant.0 c.cell-cell.ensures.value place next.1
+          (subst (λ (b : Bool). WalksCell d now new page.label.level cell (progress c.loop-i.met.left c.loop-i.met.last)
+          (progress c.walk_cell.new.met.left c.walk_cell.new.met.last) (g.P.TakesPairs.took c.loop-i.sink)
+          (g.P.TakesPairs.took c.walk_cell.new.sink) (Ok b)) c.if-not-branch.false walks),
+      g.met.S.ReadSlots.follows_trans c.args.slots.now c.loop-i.slots c.walk_cell.new.slots c.loop-i.invariant.1
+          c.in_ok-walk_cell.ensures.follows,
+      g.met.P.TakesPairs.keeps_trans c.args.sink.now c.loop-i.sink c.walk_cell.new.sink c.loop-i.invariant.2
+          c.in_ok-walk_cell.ensures.keeps,
     )
 
 pub walk_cells-returns-clause-call : goal.walk_cells-returns-clause-call
 walk_cells-returns-clause-call g t c =
-    cells_done (g.W.Draw.drawn c.args.guide.now.draw.now) _ _ c.args.page.now c.loop-i.i (progress c.args.met.now.left c.args.met.now.last) (progress c.loop-i.met.left c.loop-i.met.last) _ _ c.loop-i.invariant.0 (omega (arith, c.loop-i-test.false, c.len-i-end.ensures.value))
+    cells_done (g.W.Draw.drawn c.args.guide.now.draw.now) _ _
+    c.args.page.now c.loop-i.i (progress c.args.met.now.left c.args.met.now.last)
+    (progress c.loop-i.met.left c.loop-i.met.last) _ _
+    c.loop-i.invariant.0 (omega (arith, c.loop-i-test.false, c.len-i-end.ensures.value))
 
 pub walk_group-runs-init : goal.walk_group-runs-init
-walk_group-runs-init g t c = (runs_begin (g.W.Draw.drawn c.args.guide.now.draw.now) _ c.args.level (model_lead c.args.lead.now) (progress c.args.met.now.left c.args.met.now.last) _, g.met.S.ReadSlots.follows_refl c.args.slots.now, g.met.P.TakesPairs.keeps_refl c.args.sink.now)
+walk_group-runs-init g t c = (
+  runs_begin (g.W.Draw.drawn c.args.guide.now.draw.now) _ c.args.level (model_lead c.args.lead.now)
+      (progress c.args.met.now.left c.args.met.now.last) _,
+  g.met.S.ReadSlots.follows_refl c.args.slots.now,
+  g.met.P.TakesPairs.keeps_refl c.args.sink.now,
+)
 
 pub walk_group-returns-in_default-clause-call :
     goal.walk_group-returns-in_default-clause-call
@@ -98,9 +146,15 @@ walk_group-returns-in_default-clause-call g t c =
     let now = g.S.ReadSlots.state c.runs.slots in
     let seen = g.S.ReadSlots.state c.look_up.new.slots in
     let taken : Progress = record { left = c.runs.met.left; last = c.runs.met.last } in
-    runs_absent d (g.S.ReadSlots.state c.args.slots.now) now seen c.args.level (model_lead c.args.lead.now) c.runs.index (progress c.args.met.now.left c.args.met.now.last) (progress c.runs.met.left c.runs.met.last) taken
-    (g.P.TakesPairs.took c.args.sink.now) (g.P.TakesPairs.took c.runs.sink) c.runs.invariant.0 c.label_in_group-label.result c.label_in_group-label.ensures c.may_end.result (record { left = refl; last = refl })
-    (subst (λ (o : Option Page). FindsPage d now seen c.label_in_group-label.result (Ok o)) c.in_default.is c.in_ok-page.ensures.call) c.may_end.ensures
+    runs_absent d (g.S.ReadSlots.state c.args.slots.now) now seen c.args.level (model_lead c.args.lead.now)
+    c.runs.index (progress c.args.met.now.left c.args.met.now.last) (progress c.runs.met.left c.runs.met.last) taken
+    (g.P.TakesPairs.took c.args.sink.now) (g.P.TakesPairs.took c.runs.sink)
+    c.runs.invariant.0 c.label_in_group-label.result c.label_in_group-label.ensures c.may_end.result (record {
+      left = refl;
+      last = refl;
+    })
+    (subst (λ (o : Option Page). FindsPage d now seen c.label_in_group-label.result (Ok o))
+    c.in_default.is c.in_ok-page.ensures.call) c.may_end.ensures
 
 pub walk_group-returns-then-met-eq0-clause-call : goal.walk_group-returns-then-met-eq0-clause-call
 walk_group-returns-then-met-eq0-clause-call g t c =
@@ -108,9 +162,12 @@ walk_group-returns-then-met-eq0-clause-call g t c =
     let now = g.S.ReadSlots.state c.runs.slots in
     let seen = g.S.ReadSlots.state c.look_up.new.slots in
     let taken : Progress = record { left = c.runs.met.left; last = c.runs.met.last } in
-    runs_overfull d (g.S.ReadSlots.state c.args.slots.now) now seen c.args.level (model_lead c.args.lead.now) c.runs.index (progress c.args.met.now.left c.args.met.now.last) (progress c.runs.met.left c.runs.met.last) taken
-    (g.P.TakesPairs.took c.args.sink.now) (g.P.TakesPairs.took c.runs.sink) c.runs.invariant.0 c.label_in_group-label.result c.label_in_group-label.ensures c.in-Some.page
-    (subst (λ (o : Option Page). FindsPage d now seen c.label_in_group-label.result (Ok o)) c.in-Some.is c.in_ok-page.ensures.call) (record { left = refl; last = refl }) c.if-met-eq0.true
+    runs_overfull d (g.S.ReadSlots.state c.args.slots.now) now seen c.args.level (model_lead c.args.lead.now)
+    c.runs.index (progress c.args.met.now.left c.args.met.now.last) (progress c.runs.met.left c.runs.met.last) taken
+    (g.P.TakesPairs.took c.args.sink.now) (g.P.TakesPairs.took c.runs.sink)
+    c.runs.invariant.0 c.label_in_group-label.result c.label_in_group-label.ensures c.in-Some.page
+    (subst (λ (o : Option Page). FindsPage d now seen c.label_in_group-label.result (Ok o))
+    c.in-Some.is c.in_ok-page.ensures.call) (record { left = refl; last = refl }) c.if-met-eq0.true
 
 pub walk_group-returns-in_err-walk_cells-clause-call :
     goal.walk_group-returns-in_err-walk_cells-clause-call
@@ -121,10 +178,18 @@ walk_group-returns-in_err-walk_cells-clause-call g t c =
     let taken : Progress = record { left = c.runs.met.left - 1; last = c.runs.met.last } in
     let some = c.if-met-eq0.false in
     let p = err_from_is_err_and c.from_residual-in_err-walk_cells.result c.from_residual-in_err-walk_cells.ensures.1 in
-    rw (p.1, p.2) (runs_failed d (g.S.ReadSlots.state c.args.slots.now) now seen c.args.level (model_lead c.args.lead.now) c.runs.index (progress c.args.met.now.left c.args.met.now.last) (progress c.runs.met.left c.runs.met.last) taken
-    (g.P.TakesPairs.took c.args.sink.now) (g.P.TakesPairs.took c.runs.sink) c.runs.invariant.0 c.label_in_group-label.result c.label_in_group-label.ensures c.in-Some.page
-    (subst (λ (o : Option Page). FindsPage d now seen c.label_in_group-label.result (Ok o)) c.in-Some.is c.in_ok-page.ensures.call)
-    (progress c.walk_cells.new.met.left c.walk_cells.new.met.last) (g.S.ReadSlots.state c.walk_cells.new.slots) (g.P.TakesPairs.took c.walk_cells.new.sink) (record { left = omega (arith, some); last = refl }) c.in_err-walk_cells.field-0.0 c.in_err-walk_cells.ensures.call)
+    rw (p.1, p.2) (runs_failed d (g.S.ReadSlots.state c.args.slots.now) now seen
+    c.args.level (model_lead c.args.lead.now) c.runs.index (progress c.args.met.now.left c.args.met.now.last)
+    (progress c.runs.met.left c.runs.met.last) taken
+    (g.P.TakesPairs.took c.args.sink.now) (g.P.TakesPairs.took c.runs.sink)
+    c.runs.invariant.0 c.label_in_group-label.result c.label_in_group-label.ensures c.in-Some.page
+    (subst (λ (o : Option Page). FindsPage d now seen c.label_in_group-label.result (Ok o))
+    c.in-Some.is c.in_ok-page.ensures.call)
+    (progress c.walk_cells.new.met.left c.walk_cells.new.met.last) (g.S.ReadSlots.state c.walk_cells.new.slots)
+    (g.P.TakesPairs.took c.walk_cells.new.sink) (record {
+      left = omega (arith, some);
+      last = refl;
+    }) c.in_err-walk_cells.field-0.0 c.in_err-walk_cells.ensures.call)
 
 pub walk_group-returns-then-not-branch-clause-call :
     goal.walk_group-returns-then-not-branch-clause-call
@@ -135,11 +200,17 @@ walk_group-returns-then-not-branch-clause-call g t c =
     let new = g.S.ReadSlots.state c.walk_cells.new.slots in
     let taken : Progress = record { left = c.runs.met.left - 1; last = c.runs.met.last } in
     let some = c.if-met-eq0.false in
-    runs_refuted d (g.S.ReadSlots.state c.args.slots.now) now seen c.args.level (model_lead c.args.lead.now) c.runs.index (progress c.args.met.now.left c.args.met.now.last) (progress c.runs.met.left c.runs.met.last) taken
-    (g.P.TakesPairs.took c.args.sink.now) (g.P.TakesPairs.took c.runs.sink) c.runs.invariant.0 c.label_in_group-label.result c.label_in_group-label.ensures c.in-Some.page
-    (subst (λ (o : Option Page). FindsPage d now seen c.label_in_group-label.result (Ok o)) c.in-Some.is c.in_ok-page.ensures.call)
-    (progress c.walk_cells.new.met.left c.walk_cells.new.met.last) new (g.P.TakesPairs.took c.walk_cells.new.sink) (record { left = omega (arith, some); last = refl })
-    (subst (λ (b : Bool). WalksCells d seen new c.in-Some.page taken (progress c.walk_cells.new.met.left c.walk_cells.new.met.last) (g.P.TakesPairs.took c.runs.sink) (g.P.TakesPairs.took c.walk_cells.new.sink) (Ok b)) c.if-not-branch.true c.in_ok-walk_cells.ensures.call)
+    runs_refuted d (g.S.ReadSlots.state c.args.slots.now) now seen c.args.level (model_lead c.args.lead.now)
+    c.runs.index (progress c.args.met.now.left c.args.met.now.last) (progress c.runs.met.left c.runs.met.last) taken
+    (g.P.TakesPairs.took c.args.sink.now) (g.P.TakesPairs.took c.runs.sink)
+    c.runs.invariant.0 c.label_in_group-label.result c.label_in_group-label.ensures c.in-Some.page
+    (subst (λ (o : Option Page). FindsPage d now seen c.label_in_group-label.result (Ok o))
+    c.in-Some.is c.in_ok-page.ensures.call)
+    (progress c.walk_cells.new.met.left c.walk_cells.new.met.last) new (g.P.TakesPairs.took c.walk_cells.new.sink)
+    (record { left = omega (arith, some); last = refl })
+    (subst (λ (b : Bool). WalksCells d seen new c.in-Some.page taken
+    (progress c.walk_cells.new.met.left c.walk_cells.new.met.last) (g.P.TakesPairs.took c.runs.sink)
+    (g.P.TakesPairs.took c.walk_cells.new.sink) (Ok b)) c.if-not-branch.true c.in_ok-walk_cells.ensures.call)
 
 pub walk_group-returns-then-is_last-clause-call : goal.walk_group-returns-then-is_last-clause-call
 walk_group-returns-then-is_last-clause-call g t c =
@@ -149,11 +220,17 @@ walk_group-returns-then-is_last-clause-call g t c =
     let new = g.S.ReadSlots.state c.walk_cells.new.slots in
     let taken : Progress = record { left = c.runs.met.left - 1; last = c.runs.met.last } in
     let some = c.if-met-eq0.false in
-    runs_done d (g.S.ReadSlots.state c.args.slots.now) now seen c.args.level (model_lead c.args.lead.now) c.runs.index (progress c.args.met.now.left c.args.met.now.last) (progress c.runs.met.left c.runs.met.last) taken
-    (g.P.TakesPairs.took c.args.sink.now) (g.P.TakesPairs.took c.runs.sink) c.runs.invariant.0 c.label_in_group-label.result c.label_in_group-label.ensures c.in-Some.page
-    (subst (λ (o : Option Page). FindsPage d now seen c.label_in_group-label.result (Ok o)) c.in-Some.is c.in_ok-page.ensures.call)
-    (progress c.walk_cells.new.met.left c.walk_cells.new.met.last) new (g.P.TakesPairs.took c.walk_cells.new.sink) (record { left = omega (arith, some); last = refl })
-    (subst (λ (b : Bool). WalksCells d seen new c.in-Some.page taken (progress c.walk_cells.new.met.left c.walk_cells.new.met.last) (g.P.TakesPairs.took c.runs.sink) (g.P.TakesPairs.took c.walk_cells.new.sink) (Ok b)) c.if-not-branch.false c.in_ok-walk_cells.ensures.call)
+    runs_done d (g.S.ReadSlots.state c.args.slots.now) now seen c.args.level (model_lead c.args.lead.now)
+    c.runs.index (progress c.args.met.now.left c.args.met.now.last) (progress c.runs.met.left c.runs.met.last) taken
+    (g.P.TakesPairs.took c.args.sink.now) (g.P.TakesPairs.took c.runs.sink)
+    c.runs.invariant.0 c.label_in_group-label.result c.label_in_group-label.ensures c.in-Some.page
+    (subst (λ (o : Option Page). FindsPage d now seen c.label_in_group-label.result (Ok o))
+    c.in-Some.is c.in_ok-page.ensures.call)
+    (progress c.walk_cells.new.met.left c.walk_cells.new.met.last) new (g.P.TakesPairs.took c.walk_cells.new.sink)
+    (record { left = omega (arith, some); last = refl })
+    (subst (λ (b : Bool). WalksCells d seen new c.in-Some.page taken
+    (progress c.walk_cells.new.met.left c.walk_cells.new.met.last) (g.P.TakesPairs.took c.runs.sink)
+    (g.P.TakesPairs.took c.walk_cells.new.sink) (Ok b)) c.if-not-branch.false c.in_ok-walk_cells.ensures.call)
     (c.is_last.ensures.0 c.if-is_last.true)
 
 pub walk_group-runs-preserved : goal.walk_group-runs-preserved
@@ -164,15 +241,25 @@ walk_group-runs-preserved g t c =
     let new = g.S.ReadSlots.state c.walk_cells.new.slots in
     let taken : Progress = record { left = c.runs.met.left - 1; last = c.runs.met.last } in
     let some = c.if-met-eq0.false in
-    let follows = g.met.S.ReadSlots.follows_trans c.args.slots.now c.runs.slots c.look_up.new.slots c.runs.invariant.1 c.in_ok-page.ensures.follows in (
-      runs_next d (g.S.ReadSlots.state c.args.slots.now) now seen c.args.level (model_lead c.args.lead.now) c.runs.index (progress c.args.met.now.left c.args.met.now.last) (progress c.runs.met.left c.runs.met.last) taken
-          (g.P.TakesPairs.took c.args.sink.now) (g.P.TakesPairs.took c.runs.sink) c.runs.invariant.0 c.label_in_group-label.result c.label_in_group-label.ensures c.in-Some.page
-          (subst (λ (o : Option Page). FindsPage d now seen c.label_in_group-label.result (Ok o)) c.in-Some.is c.in_ok-page.ensures.call)
-          (progress c.walk_cells.new.met.left c.walk_cells.new.met.last) new (g.P.TakesPairs.took c.walk_cells.new.sink) (record { left = omega (arith, some); last = refl })
-          (subst (λ (b : Bool). WalksCells d seen new c.in-Some.page taken (progress c.walk_cells.new.met.left c.walk_cells.new.met.last) (g.P.TakesPairs.took c.runs.sink) (g.P.TakesPairs.took c.walk_cells.new.sink) (Ok b)) c.if-not-branch.false c.in_ok-walk_cells.ensures.call)
+    let follows = g.met.S.ReadSlots.follows_trans c.args.slots.now c.runs.slots c.look_up.new.slots c.runs.invariant.1
+    c.in_ok-page.ensures.follows in (
+      runs_next d (g.S.ReadSlots.state c.args.slots.now) now seen c.args.level (model_lead c.args.lead.now)
+          c.runs.index (progress c.args.met.now.left c.args.met.now.last)
+          (progress c.runs.met.left c.runs.met.last) taken
+          (g.P.TakesPairs.took c.args.sink.now) (g.P.TakesPairs.took c.runs.sink)
+          c.runs.invariant.0 c.label_in_group-label.result c.label_in_group-label.ensures c.in-Some.page
+          (subst (λ (o : Option Page). FindsPage d now seen c.label_in_group-label.result (Ok o))
+          c.in-Some.is c.in_ok-page.ensures.call)
+          (progress c.walk_cells.new.met.left c.walk_cells.new.met.last) new (g.P.TakesPairs.took c.walk_cells.new.sink)
+          (record { left = omega (arith, some); last = refl })
+          (subst (λ (b : Bool). WalksCells d seen new c.in-Some.page taken
+          (progress c.walk_cells.new.met.left c.walk_cells.new.met.last) (g.P.TakesPairs.took c.runs.sink)
+          (g.P.TakesPairs.took c.walk_cells.new.sink) (Ok b)) c.if-not-branch.false c.in_ok-walk_cells.ensures.call)
           (λ room. let yes : c.is_last.result ≡ true = c.is_last.ensures.1 room in let no = c.if-is_last.false in cc),
-      g.met.S.ReadSlots.follows_trans c.args.slots.now c.look_up.new.slots c.walk_cells.new.slots follows c.in_ok-walk_cells.ensures.follows,
-      g.met.P.TakesPairs.keeps_trans c.args.sink.now c.runs.sink c.walk_cells.new.sink c.runs.invariant.2 c.in_ok-walk_cells.ensures.keeps,
+      g.met.S.ReadSlots.follows_trans c.args.slots.now c.look_up.new.slots c.walk_cells.new.slots follows
+          c.in_ok-walk_cells.ensures.follows,
+      g.met.P.TakesPairs.keeps_trans c.args.sink.now c.runs.sink c.walk_cells.new.sink c.runs.invariant.2
+          c.in_ok-walk_cells.ensures.keeps,
     )
 
 pub walk_cell-returns-in_default-clause-call : goal.walk_cell-returns-in_default-clause-call
@@ -182,4 +269,6 @@ walk_cell-returns-in_default-clause-call g t c =
     let took = g.P.TakesPairs.took c.args.sink.now in
     let none : c.args.cell.now.value ≡ None = sym (ap (λ (x : Cell). x.value) c.cell.view_is) ∙ c.in_default.is in
     let zero_is : c.args.level ≡ 0 = omega (arith, c.if-level-gt0.false) in
-    subst (λ (n : ℕ). WalksCell d state state n c.args.cell.now (progress c.args.met.now.left c.args.met.now.last) (progress c.args.met.now.left c.args.met.now.last) took took (Ok false)) (sym zero_is) (walks_no_pair d state c.args.cell.now (progress c.args.met.now.left c.args.met.now.last) took none)
+    subst (λ (n : ℕ). WalksCell d state state n c.args.cell.now (progress c.args.met.now.left c.args.met.now.last)
+    (progress c.args.met.now.left c.args.met.now.last) took took (Ok false)) (sym zero_is)
+    (walks_no_pair d state c.args.cell.now (progress c.args.met.now.left c.args.met.now.last) took none)

@@ -17,12 +17,16 @@ decreases-walk_group g l = 3 * l.level + 2
 
 abbrev pub invariant-walk_cells-loop-i : goal.invariant-walk_cells-loop-i
 invariant-walk_cells-loop-i g l =
-    CellsSoFar (g.W.Draw.drawn l.fn.guide.draw.now) (g.S.ReadSlots.state l.fn.slots) (g.S.ReadSlots.state l.slots) l.fn.page l.i (progress l.fn.met.left l.fn.met.last) (progress l.met.left l.met.last) (g.P.TakesPairs.took l.fn.sink) (g.P.TakesPairs.took l.sink)
+    CellsSoFar (g.W.Draw.drawn l.fn.guide.draw.now) (g.S.ReadSlots.state l.fn.slots)
+    (g.S.ReadSlots.state l.slots) l.fn.page l.i (progress l.fn.met.left l.fn.met.last)
+    (progress l.met.left l.met.last) (g.P.TakesPairs.took l.fn.sink) (g.P.TakesPairs.took l.sink)
     × g.S.ReadSlots.follows l.fn.slots l.slots × g.P.TakesPairs.keeps l.fn.sink l.sink
 
 abbrev pub invariant-walk_group-runs : goal.invariant-walk_group-runs
 invariant-walk_group-runs g l =
-    RunsSoFar (g.W.Draw.drawn l.fn.guide.draw.now) (g.S.ReadSlots.state l.fn.slots) (g.S.ReadSlots.state l.slots) l.fn.level (model_lead l.fn.lead) l.index (progress l.fn.met.left l.fn.met.last) (progress l.met.left l.met.last) (g.P.TakesPairs.took l.fn.sink) (g.P.TakesPairs.took l.sink)
+    RunsSoFar (g.W.Draw.drawn l.fn.guide.draw.now) (g.S.ReadSlots.state l.fn.slots)
+    (g.S.ReadSlots.state l.slots) l.fn.level (model_lead l.fn.lead) l.index (progress l.fn.met.left l.fn.met.last)
+    (progress l.met.left l.met.last) (g.P.TakesPairs.took l.fn.sink) (g.P.TakesPairs.took l.sink)
     × g.S.ReadSlots.follows l.fn.slots l.slots × g.P.TakesPairs.keeps l.fn.sink l.sink
 
 -- each run is one page less that is left

@@ -7,30 +7,54 @@ use Rattle.group_walk.proofs.TableSteps.{levels_begin, levels_next, levels_refut
 use Rattle.group_walk.proofs.walk.walk_groups.Goals as goal
 
 pub loop-level-init : goal.loop-level-init
-loop-level-init g c = (levels_begin (g.W.Draw.drawn c.args.draw.now) _ c.args.used (progress c.none_of-met.result.left c.none_of-met.result.last) _ c.none_of-met.ensures.left c.none_of-met.ensures.last, g.met.S.ReadSlots.follows_refl c.args.slots.now, g.met.P.TakesPairs.keeps_refl c.args.sink.now)
+loop-level-init g c = (
+  levels_begin (g.W.Draw.drawn c.args.draw.now) _
+      c.args.used (progress c.none_of-met.result.left c.none_of-met.result.last) _
+      c.none_of-met.ensures.left c.none_of-met.ensures.last,
+  g.met.S.ReadSlots.follows_refl c.args.slots.now,
+  g.met.P.TakesPairs.keeps_refl c.args.sink.now,
+)
 
 pub returns-then-not-branch-clause-call : goal.returns-then-not-branch-clause-call
 returns-then-not-branch-clause-call g c =
     let d = g.W.Draw.drawn c.args.draw.now in
     let now = g.S.ReadSlots.state c.loop-level.slots in
     let new = g.S.ReadSlots.state c.walk_group.new.slots in
-    levels_refuted d (g.met.W.Draw.lawful c.args.draw.now) (g.S.ReadSlots.state c.args.slots.now) now c.loop-level.level c.args.used (progress c.loop-level.met.left c.loop-level.met.last)
-    (g.P.TakesPairs.took c.args.sink.now) (g.P.TakesPairs.took c.loop-level.sink) c.loop-level.invariant.0 new (progress c.walk_group.new.met.left c.walk_group.new.met.last) (g.P.TakesPairs.took c.walk_group.new.sink)
-    (subst (λ (b : Bool). WalksGroup d now new c.loop-level.level Start (progress c.loop-level.met.left c.loop-level.met.last) (progress c.walk_group.new.met.left c.walk_group.new.met.last) (g.P.TakesPairs.took c.loop-level.sink) (g.P.TakesPairs.took c.walk_group.new.sink) (Ok b)) c.if-not-branch.true c.in_ok-walk_group.ensures.call)
+    levels_refuted d (g.met.W.Draw.lawful c.args.draw.now)
+    (g.S.ReadSlots.state c.args.slots.now) now
+    c.loop-level.level c.args.used (progress c.loop-level.met.left c.loop-level.met.last)
+    (g.P.TakesPairs.took c.args.sink.now) (g.P.TakesPairs.took c.loop-level.sink) c.loop-level.invariant.0 new
+    (progress c.walk_group.new.met.left c.walk_group.new.met.last) (g.P.TakesPairs.took c.walk_group.new.sink)
+    (subst (λ (b : Bool). WalksGroup d now new c.loop-level.level Start
+    (progress c.loop-level.met.left c.loop-level.met.last)
+    (progress c.walk_group.new.met.left c.walk_group.new.met.last) (g.P.TakesPairs.took c.loop-level.sink)
+    (g.P.TakesPairs.took c.walk_group.new.sink) (Ok b)) c.if-not-branch.true c.in_ok-walk_group.ensures.call)
 
 pub loop-level-preserved : goal.loop-level-preserved
 loop-level-preserved g c =
     let d = g.W.Draw.drawn c.args.draw.now in
     let now = g.S.ReadSlots.state c.loop-level.slots in
     let new = g.S.ReadSlots.state c.walk_group.new.slots in (
-      levels_next d (g.S.ReadSlots.state c.args.slots.now) now new c.loop-level.level c.args.used (progress c.loop-level.met.left c.loop-level.met.last) (progress c.walk_group.new.met.left c.walk_group.new.met.last)
-          (g.P.TakesPairs.took c.args.sink.now) (g.P.TakesPairs.took c.loop-level.sink) (g.P.TakesPairs.took c.walk_group.new.sink) c.loop-level.invariant.0
-          (subst (λ (b : Bool). WalksGroup d now new c.loop-level.level Start (progress c.loop-level.met.left c.loop-level.met.last) (progress c.walk_group.new.met.left c.walk_group.new.met.last) (g.P.TakesPairs.took c.loop-level.sink) (g.P.TakesPairs.took c.walk_group.new.sink) (Ok b)) c.if-not-branch.false c.in_ok-walk_group.ensures.call),
-      g.met.S.ReadSlots.follows_trans c.args.slots.now c.loop-level.slots c.walk_group.new.slots c.loop-level.invariant.1 c.in_ok-walk_group.ensures.follows,
-      g.met.P.TakesPairs.keeps_trans c.args.sink.now c.loop-level.sink c.walk_group.new.sink c.loop-level.invariant.2 c.in_ok-walk_group.ensures.keeps,
+      levels_next d (g.S.ReadSlots.state c.args.slots.now) now new
+          c.loop-level.level c.args.used (progress c.loop-level.met.left c.loop-level.met.last)
+          (progress c.walk_group.new.met.left c.walk_group.new.met.last)
+          (g.P.TakesPairs.took c.args.sink.now) (g.P.TakesPairs.took c.loop-level.sink)
+          (g.P.TakesPairs.took c.walk_group.new.sink) c.loop-level.invariant.0
+          (subst (λ (b : Bool). WalksGroup d now new c.loop-level.level Start
+          (progress c.loop-level.met.left c.loop-level.met.last)
+          (progress c.walk_group.new.met.left c.walk_group.new.met.last) (g.P.TakesPairs.took c.loop-level.sink)
+          (g.P.TakesPairs.took c.walk_group.new.sink) (Ok b))
+          c.if-not-branch.false c.in_ok-walk_group.ensures.call),
+      g.met.S.ReadSlots.follows_trans c.args.slots.now c.loop-level.slots c.walk_group.new.slots
+          c.loop-level.invariant.1 c.in_ok-walk_group.ensures.follows,
+      g.met.P.TakesPairs.keeps_trans c.args.sink.now c.loop-level.sink c.walk_group.new.sink c.loop-level.invariant.2
+          c.in_ok-walk_group.ensures.keeps,
     )
 
 pub returns-clause-call : goal.returns-clause-call
 returns-clause-call g c =
-    levels_done (g.W.Draw.drawn c.args.draw.now) (g.met.W.Draw.lawful c.args.draw.now) _ _ c.loop-level.level c.args.used (progress c.loop-level.met.left c.loop-level.met.last) _ _ c.loop-level.invariant.0 _
-    (omega (arith, c.loop-level-test.false, c.loop-level.auto.level-end, c.height-level-end.ensures)) (eqb-true c.loop-level.met.left 0, eq-eqb c.loop-level.met.left 0)
+    levels_done (g.W.Draw.drawn c.args.draw.now) (g.met.W.Draw.lawful c.args.draw.now) _ _
+    c.loop-level.level c.args.used (progress c.loop-level.met.left c.loop-level.met.last) _ _
+    c.loop-level.invariant.0 _
+    (omega (arith, c.loop-level-test.false, c.loop-level.auto.level-end, c.height-level-end.ensures))
+    (eqb-true c.loop-level.met.left 0, eq-eqb c.loop-level.met.left 0)

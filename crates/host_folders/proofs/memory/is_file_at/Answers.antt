@@ -7,7 +7,8 @@ pub returns-then-eq : goal.returns-then-eq
 returns-then-eq c =
     let found = c.args.entry.now.found in
     let is : c.eq.result ≡ true = search rules in
-    file_is_at found.path c.args.path.now c.eq.result (is_file found.kind) c.is_file.result c.eq.ensures.value is c.is_file.ensures
+    file_is_at found.path c.args.path.now c.eq.result (is_file found.kind)
+    c.is_file.result c.eq.ensures.value is c.is_file.ensures
 
 pub returns-else-eq : goal.returns-else-eq
 returns-else-eq c =

@@ -6,5 +6,7 @@ loop-count-init g c = fill_begins (g.F.Folder.state c.args.folder.now) c.args.in
 
 pub loop-count-preserved : goal.loop-count-preserved
 loop-count-preserved g c =
-    fill_goes_on (g.F.Folder.state c.args.folder.now) (g.F.Folder.state c.loop-count.folder) (g.F.Folder.state c.read.new.self) c.loop-count.into c.read.new.into c.loop-count.count c.in_ok-more.more c.loop-count.invariant c.loop-count-test.true c.in_ok-more.ensures
+    fill_goes_on (g.F.Folder.state c.args.folder.now) (g.F.Folder.state c.loop-count.folder)
+    (g.F.Folder.state c.read.new.self) c.loop-count.into c.read.new.into c.loop-count.count c.in_ok-more.more
+    c.loop-count.invariant c.loop-count-test.true c.in_ok-more.ensures
     c.read.auto.into c.if-more-eq0.false

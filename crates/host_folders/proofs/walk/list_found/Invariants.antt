@@ -10,5 +10,7 @@ invariant-loop-at g l =
     let state_of = g.F.Folder.state in
     record {
       observable : (state_of l.folder).is_observable ≡ (state_of l.fn.folder).is_observable;
-      walked : IsObservable (state_of l.fn.folder) → Walks (state_of l.fn.folder) (state_of l.folder) (folder_paths (take l.at l.found.items)) l.fn.found.items l.found.items;
+      walked : IsObservable (state_of l.fn.folder)
+          → Walks (state_of l.fn.folder) (state_of l.folder)
+          (folder_paths (take l.at l.found.items)) l.fn.found.items l.found.items;
     }

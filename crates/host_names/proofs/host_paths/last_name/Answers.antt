@@ -3,4 +3,5 @@ use Rattle.host_names.proofs.HostPathNames.{last_fits}
 use Rattle.host_names.proofs.host_paths.last_name.Goals as goal
 
 pub returns-clause-fits : goal.returns-clause-fits
-returns-clause-fits c = omega (arith, ap length c.name.ensures, last_fits c.args.path.now c.requires c.is_root.ensures.valid)
+returns-clause-fits c =
+    omega (arith, ap length c.name.ensures, last_fits c.args.path.now c.requires c.is_root.ensures.valid)

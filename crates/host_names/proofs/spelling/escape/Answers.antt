@@ -12,12 +12,21 @@ loop-byte-init c = record {
 pub returns-then-not-push_escaped-clause-none : goal.returns-then-not-push_escaped-clause-none
 returns-then-not-push_escaped-clause-none c =
     let more = escaped-more c.args.name.now c.loop-byte.byte-index (omega arith) in
-    let all = ap (λ t. length (t ++ model.escaped_byte (get_or c.args.name.now c.loop-byte.byte-index 0))) c.loop-byte.invariant.spelled in
-    omega (arith, ap length more, all, escaped-longer c.args.name.now (c.loop-byte.byte-index + 1), c.push_escaped.ensures.full (search rules))
+    let all = ap (λ t. length (t ++ model.escaped_byte (get_or c.args.name.now c.loop-byte.byte-index 0)))
+    c.loop-byte.invariant.spelled in
+    omega (
+      arith,
+      ap length more,
+      all,
+      escaped-longer c.args.name.now (c.loop-byte.byte-index + 1),
+      c.push_escaped.ensures.full (search rules),
+    )
 
 pub loop-byte-preserved : goal.loop-byte-preserved
 loop-byte-preserved c = record {
-  spelled = c.push_escaped.ensures.fits (search rules) ∙ ap (λ t. t ++ model.escaped_byte (get_or c.args.name.now c.loop-byte.byte-index 0)) c.loop-byte.invariant.spelled
+  spelled = c.push_escaped.ensures.fits (search rules)
+      ∙ ap (λ t. t ++ model.escaped_byte (get_or c.args.name.now c.loop-byte.byte-index 0))
+      c.loop-byte.invariant.spelled
       ∙ sym (escaped-more c.args.name.now c.loop-byte.byte-index (omega arith));
   fits = c.push_escaped.ensures.room (search rules);
 }

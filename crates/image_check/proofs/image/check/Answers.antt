@@ -9,4 +9,5 @@ pub returns : goal.returns
 returns g c =
     let old = g.D.Disk.state c.args.disk in
     let new = g.D.Disk.state c.find_image-disk.result.0 in
-    subst (λ (r : Result Verdict Fault). ChecksImage old new r) (sym c.verdict_of.ensures) (checks_image old new c.find_image-disk.result.1 c.find_image-disk.ensures)
+    subst (λ (r : Result Verdict Fault). ChecksImage old new r) (sym c.verdict_of.ensures)
+    (checks_image old new c.find_image-disk.result.1 c.find_image-disk.ensures)

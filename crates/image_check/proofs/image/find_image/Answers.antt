@@ -17,8 +17,12 @@ returns g c =
     let left = c.find_contents-found.new.slots.params in
     let views = c.in-Ok-Some.ensures.views in
     let read = views.calls in
-    let view = views_disk p c.new-view.result.params left at mid back new c.find_contents-found.result c.new-view.ensures.params (ap g.D.Disk.state c.new-view.ensures.disk) (ap g.D.Disk.state (sym c.into_disk.ensures))
+    let view = views_disk p c.new-view.result.params left at mid back new
+    c.find_contents-found.result c.new-view.ensures.params (ap g.D.Disk.state c.new-view.ensures.disk)
+    (ap g.D.Disk.state (sym c.into_disk.ensures))
     (record { keeps = c.find_contents-found.ensures.follows; finds = c.find_contents-found.ensures.call }) in
     let search =
-    searches_image old mid new p left c.find_contents-found.result (subst (λ found. IfSome found (HasParameters old)) c.in-Ok-Some.field-0-is views.found) read.size read.observable read.faults read.rise read.writes read.syncs views.reads view in
+    searches_image old mid new p left c.find_contents-found.result
+    (subst (λ found. IfSome found (HasParameters old)) c.in-Ok-Some.field-0-is views.found)
+    read.size read.observable read.faults read.rise read.writes read.syncs views.reads view in
     subst (λ (r : Result Contents AttachFault). FindsImage old new r) (sym c.contents_of.ensures) search

@@ -11,4 +11,6 @@ returns-clause-call g c =
     let p = c.args.params.now in
     let old = g.S.ReadSlots.state c.args.slots.now in
     let new = g.S.ReadSlots.state c.find_contents.new.slots in
-    subst (λ (r : Result Verdict Fault). ChecksSlots p old new r) (sym (c.verdict_of.ensures ∙ ap verdict_in c.contents_of.ensures)) (checks_found p old new c.find_contents.result c.find_contents.ensures.call)
+    subst (λ (r : Result Verdict Fault). ChecksSlots p old new r)
+    (sym (c.verdict_of.ensures ∙ ap verdict_in c.contents_of.ensures))
+    (checks_found p old new c.find_contents.result c.find_contents.ensures.call)

@@ -6,4 +6,5 @@ use Rattle.image_claims.proofs.Costing.{check_costs}
 use Rattle.image_claims.proofs.costs.check_at_cost.Goals as goal
 
 pub returns : goal.returns
-returns c is = check_costs meaning sink_state (outside_of c.args.machine.disk c.args.machine.source c.args.machine.sink) c.call.result (c.call.ensures.check is) refl
+returns c is = check_costs meaning sink_state (outside_of c.args.machine.disk c.args.machine.source c.args.machine.sink)
+    c.call.result (c.call.ensures.check is) refl

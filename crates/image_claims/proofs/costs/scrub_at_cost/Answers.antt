@@ -6,4 +6,5 @@ use Rattle.image_claims.proofs.Costing.{scrub_costs}
 use Rattle.image_claims.proofs.costs.scrub_at_cost.Goals as goal
 
 pub returns : goal.returns
-returns c is = scrub_costs meaning sink_state (outside_of c.args.machine.disk c.args.machine.source c.args.machine.sink) c.call.result (c.call.ensures.scrub is) refl
+returns c is = scrub_costs meaning sink_state (outside_of c.args.machine.disk c.args.machine.source c.args.machine.sink)
+    c.call.result (c.call.ensures.scrub is) refl

@@ -5,4 +5,6 @@ use Rattle.image_claims.proofs.CutShort.{format_cut_short}
 use Rattle.image_claims.proofs.crashes.format_cut_short.Goals as goal
 
 pub returns : goal.returns
-returns c p is size other = format_cut_short meaning p (outside_of c.args.machine.disk c.args.machine.source c.args.machine.sink) c.call.result (c.call.ensures.format p is) refl size other
+returns c p is size other = format_cut_short meaning p
+    (outside_of c.args.machine.disk c.args.machine.source c.args.machine.sink)
+    c.call.result (c.call.ensures.format p is) refl size other

@@ -5,4 +5,5 @@ use Rattle.image_claims.proofs.CutShort.{wipe_cut_short}
 use Rattle.image_claims.proofs.crashes.wipe_cut_short.Goals as goal
 
 pub returns : goal.returns
-returns c is first = wipe_cut_short meaning (outside_of c.args.machine.disk c.args.machine.source c.args.machine.sink) c.call.result (c.call.ensures.wipe is) refl first
+returns c is first = wipe_cut_short meaning (outside_of c.args.machine.disk c.args.machine.source c.args.machine.sink)
+    c.call.result (c.call.ensures.wipe is) refl first

@@ -7,10 +7,16 @@ use Rattle.image_claims.proofs.MachineLemmas.{meaning_sound}
 use Rattle.image_claims.proofs.images.scrub.Goals as goal
 
 pub returns-clause-exact : goal.returns-clause-exact
-returns-clause-exact c is = scrub_exact meaning sink_state (outside_of c.args.machine.disk c.args.machine.source c.args.machine.sink) c.call.result (c.call.ensures.scrub is) refl (meaning_sound c.args.machine.disk refl) refl
+returns-clause-exact c is = scrub_exact meaning sink_state
+    (outside_of c.args.machine.disk c.args.machine.source c.args.machine.sink) c.call.result (c.call.ensures.scrub is)
+    refl (meaning_sound c.args.machine.disk refl) refl
 
 pub returns-clause-takes_nothing : goal.returns-clause-takes_nothing
-returns-clause-takes_nothing c is = scrub_takes_nothing meaning sink_state (outside_of c.args.machine.disk c.args.machine.source c.args.machine.sink) c.call.result (c.call.ensures.scrub is)
+returns-clause-takes_nothing c is =
+    scrub_takes_nothing meaning sink_state (outside_of c.args.machine.disk c.args.machine.source c.args.machine.sink)
+    c.call.result (c.call.ensures.scrub is)
 
 pub returns-clause-takes_no_memory : goal.returns-clause-takes_no_memory
-returns-clause-takes_no_memory c is e = scrub_unscrubbed meaning sink_state (outside_of c.args.machine.disk c.args.machine.source c.args.machine.sink) c.call.result (c.call.ensures.scrub is) e
+returns-clause-takes_no_memory c is e =
+    scrub_unscrubbed meaning sink_state (outside_of c.args.machine.disk c.args.machine.source c.args.machine.sink)
+    c.call.result (c.call.ensures.scrub is) e

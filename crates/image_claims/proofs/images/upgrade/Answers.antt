@@ -6,7 +6,9 @@ use Rattle.image_claims.proofs.Upgrading.{upgrade_exact}
 use Rattle.image_claims.proofs.images.upgrade.Goals as goal
 
 pub returns-clause-upgrades : goal.returns-clause-upgrades
-returns-clause-upgrades c is = upgrade_exact meaning (outside_of c.args.machine.disk c.args.machine.source c.args.machine.sink) c.call.result (c.call.ensures.upgrade is) refl (meaning_sound c.args.machine.disk refl)
+returns-clause-upgrades c is = upgrade_exact meaning
+    (outside_of c.args.machine.disk c.args.machine.source c.args.machine.sink) c.call.result (c.call.ensures.upgrade is)
+    refl (meaning_sound c.args.machine.disk refl)
 
 pub returns-clause-takes_nothing : goal.returns-clause-takes_nothing
 returns-clause-takes_nothing c is = (c.call.ensures.upgrade is).source

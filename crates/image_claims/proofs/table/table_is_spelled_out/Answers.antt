@@ -1,4 +1,8 @@
-use Rattle.image_claims.proofs.EndingLemmas.{numbers, format_ends, run_ends, session_ends, check_ends, scrub_ends, wipe_ends, upgrade_ends, dump_ends, load_ends, big_ends, mirror_ends, may_end_format, may_end_run, may_end_session, may_end_check, may_end_scrub, may_end_wipe, may_end_upgrade, may_end_dump, may_end_load, may_end_big, may_end_mirror}
+use Rattle.image_claims.proofs.EndingLemmas.{numbers, format_ends, run_ends, session_ends, check_ends, scrub_ends}
+use Rattle.image_claims.proofs.EndingLemmas.{wipe_ends, upgrade_ends, dump_ends, load_ends, big_ends, mirror_ends}
+use Rattle.image_claims.proofs.EndingLemmas.{may_end_format, may_end_run, may_end_session, may_end_check, may_end_scrub}
+use Rattle.image_claims.proofs.EndingLemmas.{may_end_wipe, may_end_upgrade, may_end_dump, may_end_load, may_end_big}
+use Rattle.image_claims.proofs.EndingLemmas.{may_end_mirror}
 use Rattle.image_claims.proofs.table.table_is_spelled_out.Goals as goal
 
 pub returns-clause-numbers : goal.returns-clause-numbers

@@ -5,7 +5,11 @@ use Rattle.image_claims.proofs.RequestLemmas.{unserved_does_nothing, unserved_al
 use Rattle.image_claims.proofs.words.call_unserved.Goals as goal
 
 pub returns-clause-nothing : goal.returns-clause-nothing
-returns-clause-nothing c none = unserved_does_nothing meaning source_state sink_state c.args.words.now (outside_of c.args.machine.disk c.args.machine.source c.args.machine.sink) c.call.result c.call.ensures none
+returns-clause-nothing c none = unserved_does_nothing meaning source_state sink_state
+    c.args.words.now (outside_of c.args.machine.disk c.args.machine.source c.args.machine.sink)
+    c.call.result c.call.ensures none
 
 pub returns-clause-only : goal.returns-clause-only
-returns-clause-only c usage = unserved_alone meaning source_state sink_state c.args.words.now (outside_of c.args.machine.disk c.args.machine.source c.args.machine.sink) c.call.result c.call.ensures usage
+returns-clause-only c usage = unserved_alone meaning source_state sink_state
+    c.args.words.now (outside_of c.args.machine.disk c.args.machine.source c.args.machine.sink)
+    c.call.result c.call.ensures usage

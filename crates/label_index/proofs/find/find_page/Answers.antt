@@ -15,8 +15,10 @@ returns-then-entry-digest-clause-call g c =
     let at = c.loop-at.at in
     let first = c.first_of-first.result in
     let within : at < length entries = omega (arith, c.loop-at-test.true) in
-    looks_beyond _ _ entries c.args.label.now c.args.digest first at (slice_index_or entries at blank) c.first_of-first.ensures.past
-    (omega (arith, c.loop-at.auto.at, c.first_of-first.ensures.within)) within (λ e. get_or_default entries at e blank within) c.if-entry-digest.true c.loop-at.invariant.0
+    looks_beyond _ _ entries c.args.label.now c.args.digest first at
+    (slice_index_or entries at blank) c.first_of-first.ensures.past
+    (omega (arith, c.loop-at.auto.at, c.first_of-first.ensures.within)) within
+    (λ e. get_or_default entries at e blank within) c.if-entry-digest.true c.loop-at.invariant.0
 
 pub loop-at-preserved : goal.loop-at-preserved
 loop-at-preserved g c =
@@ -27,7 +29,10 @@ loop-at-preserved g c =
     let new = g.S.ReadSlots.state c.page_in.new.slots in
     let entry = slice_index_or entries at blank in
     let within : at < length entries = omega (arith, c.loop-at-test.true) in
-    let read = subst (λ (found : Option Page). ReadsPage mid new entry.slot c.args.label.now (Ok found)) c.in_default.is c.in_ok-page.ensures.call in (
-      looks_next old mid new entries c.args.label.now c.args.digest at entry (λ e. get_or_default entries at e blank within) c.loop-at.invariant.0 read,
-      g.met.S.ReadSlots.follows_trans c.args.slots.now c.loop-at.slots c.page_in.new.slots c.loop-at.invariant.1 c.in_ok-page.ensures.follows,
+    let read = subst (λ (found : Option Page). ReadsPage mid new entry.slot c.args.label.now (Ok found))
+    c.in_default.is c.in_ok-page.ensures.call in (
+      looks_next old mid new entries c.args.label.now c.args.digest at entry
+          (λ e. get_or_default entries at e blank within) c.loop-at.invariant.0 read,
+      g.met.S.ReadSlots.follows_trans c.args.slots.now c.loop-at.slots c.page_in.new.slots c.loop-at.invariant.1
+          c.in_ok-page.ensures.follows,
     )

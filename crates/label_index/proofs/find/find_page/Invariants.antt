@@ -2,4 +2,5 @@ use Rattle.label_index.proofs.Looking.{LooksTo}
 use Rattle.label_index.proofs.find.find_page.Given as goal
 
 abbrev pub invariant-loop-at : goal.invariant-loop-at
-invariant-loop-at g l = LooksTo (g.S.ReadSlots.state l.fn.slots) (g.S.ReadSlots.state l.slots) l.entries l.label l.digest l.at × g.S.ReadSlots.follows l.fn.slots l.slots
+invariant-loop-at g l = LooksTo (g.S.ReadSlots.state l.fn.slots)
+    (g.S.ReadSlots.state l.slots) l.entries l.label l.digest l.at × g.S.ReadSlots.follows l.fn.slots l.slots

@@ -14,5 +14,6 @@ invariant-loop-at g l =
     record {
       so_far : ReadSoFar (g.S.ReadSlots.follows l.fn.slots l.slots) old (g.S.ReadSlots.state l.slots);
       few : length l.pairs.items ≤ 10 * l.at;
-      pairs : IsObservable old → (table : Table) → old.slots ≡ slots_of table → AllByRecursion MayHold table → l.pairs.items ≡ pairs_of_table (take l.at table);
+      pairs : IsObservable old → (table : Table) → old.slots ≡ slots_of table → AllByRecursion MayHold table
+          → l.pairs.items ≡ pairs_of_table (take l.at table);
     }

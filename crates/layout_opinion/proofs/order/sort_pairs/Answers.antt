@@ -9,4 +9,5 @@ use Rattle.layout_opinion.proofs.order.sort_pairs.Goals as goal
 
 -- the closure compares the keys
 pub returns-clause-sorted : goal.returns-clause-sorted
-returns-clause-sorted c = c.in_ok-sort_by.ensures.sorted (λ (a b : Pair). is_lt (pair_cmp a b)) (ranks_by nat_list_cmp_total (λ (pair : Pair). pair.0)) (always_returns_same _ _ _ (λ a r f' k. search rules))
+returns-clause-sorted c = c.in_ok-sort_by.ensures.sorted (λ (a b : Pair). is_lt (pair_cmp a b))
+    (ranks_by nat_list_cmp_total (λ (pair : Pair). pair.0)) (always_returns_same _ _ _ (λ a r f' k. search rules))

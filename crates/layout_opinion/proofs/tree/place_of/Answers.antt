@@ -8,5 +8,6 @@ use Rattle.layout_opinion.proofs.tree.place_of.Goals as goal
 -- the closure compares a pair's key with the given one
 pub returns : goal.returns
 returns c =
-    let by_key = c.binary_search_by.ensures.position (λ (pair : Pair). key_cmp pair.0 c.args.key.now) (always_returns_same _ _ _ (λ a r f' k. search rules)) in
+    let by_key = c.binary_search_by.ensures.position (λ (pair : Pair). key_cmp pair.0 c.args.key.now)
+    (always_returns_same _ _ _ (λ a r f' k. search rules)) in
     searched _ _ _ c.requires c.binary_search_by.ensures.bound by_key

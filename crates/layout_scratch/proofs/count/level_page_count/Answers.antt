@@ -14,8 +14,12 @@ loop-start-preserved c =
     let ranked = c.args.ranked.now in
     let group = c.first_group-group.result.now in
     let first = first_from level ranked group c.loop-start.start c.first_group-group.ensures in
-    let pages = c.div_ceil-count.ensures ∙ ap₂ div_ceil c.cell_count.ensures (c.from-room.ensures ∙ c.room.ensures) ∙ div_ceil-room level (length (cells_on level group)) in
-    count_more level ranked group c.loop-start.count c.loop-start.start c.div_ceil-count.result c.loop-start.invariant first pages
+    let pages = c.div_ceil-count.ensures ∙ ap₂ div_ceil c.cell_count.ensures (c.from-room.ensures ∙ c.room.ensures)
+    ∙ div_ceil-room level (length (cells_on level group)) in
+    count_more level ranked group c.loop-start.count c.loop-start.start c.div_ceil-count.result
+    c.loop-start.invariant first pages
 
 pub returns-clause-value : goal.returns-clause-value
-returns-clause-value c = count_all c.args.level c.args.ranked.now c.loop-start.count c.loop-start.start c.loop-start.invariant c.loop-start-test.false
+returns-clause-value c =
+    count_all c.args.level c.args.ranked.now c.loop-start.count c.loop-start.start c.loop-start.invariant
+    c.loop-start-test.false

@@ -12,4 +12,5 @@ loop-level-init c = λ d levels. c.new-pages.ensures
 pub loop-level-preserved : goal.loop-level-preserved
 loop-level-preserved c = λ d levels.
     let made = level_pages d (pairs_of c.args.ranked.now) in
-    c.in_ok-cut_level.ensures d levels ∙ ap (λ pages. pages ++ made c.loop-level.level) (c.loop-level.invariant d levels) ∙ sym (made_of_levels made c.loop-level.level)
+    c.in_ok-cut_level.ensures d levels ∙ ap (λ pages. pages ++ made c.loop-level.level)
+    (c.loop-level.invariant d levels) ∙ sym (made_of_levels made c.loop-level.level)

@@ -7,4 +7,5 @@ pub lay_out-requires-clause-rising : goal.lay_out-requires-clause-rising
 lay_out-requires-clause-rising g c = subst IsPairs (sym c.in_ok-sorted.ensures.pairs) c.in_ok-sorted.ensures.valid
 
 pub lay_out-requires-clause-few : goal.lay_out-requires-clause-few
-lay_out-requires-clause-few g c = omega (arith, length-sorted c.in_ok-sorted.sorted.items c.args.pairs.now c.in_ok-sorted.ensures.pairs)
+lay_out-requires-clause-few g c =
+    omega (arith, length-sorted c.in_ok-sorted.sorted.items c.args.pairs.now c.in_ok-sorted.ensures.pairs)

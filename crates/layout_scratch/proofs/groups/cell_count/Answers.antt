@@ -12,5 +12,6 @@ returns c =
     let level = c.args.level in
     let stays = λ (r : Ranked). nat_le level r.level in
     count_from_yields_List c.filter.result c.count.result c.count.ensures.ran
-    (YieldsList-from_filter _ stays (YieldsList-at c.filter.ensures.source (YieldsList-from_slice c.args.group.now cc)) c.filter.ensures.closure (λ x b q k. search (rules, tests)))
+    (YieldsList-from_filter _ stays (YieldsList-at c.filter.ensures.source (YieldsList-from_slice c.args.group.now cc))
+    c.filter.ensures.closure (λ x b q k. search (rules, tests)))
     ∙ sym (length-map (filter stays c.args.group.now) (λ (r : Ranked). cell_on level r.pair.now))

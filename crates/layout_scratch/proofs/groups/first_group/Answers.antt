@@ -9,5 +9,6 @@ pub returns : goal.returns
 returns c =
     let ranked = c.args.ranked.now in
     let passes = follows_on c.args.level in
-    let followers = c.follower_count.ensures ∙ ap (λ rs. length (take_while passes rs)) (take_rest ranked 1) ∙ length-prefix_len passes (drop 1 ranked) in
+    let followers = c.follower_count.ensures ∙ ap (λ rs. length (take_while passes rs)) (take_rest ranked 1)
+    ∙ length-prefix_len passes (drop 1 ranked) in
     first_is c.args.level (1 + c.follower_count.result) ranked c.requires (ap (λ k. 1 + k) followers)

@@ -12,7 +12,8 @@ use Rattle.listing_claims.proofs.crash.a_crash_leaves_all_of_a_load_or_nothing.G
 pub returns : goal.returns
 returns c t p only says =
     let below = c.new-failing.ensures.inner in
-    let leaves = subst (λ (disk : Memory). MayLeaveOnly (memory_state disk) (λ image. Represents image empty_tree p)) (sym below) only in
+    let leaves = subst (λ (disk : Memory). MayLeaveOnly (memory_state disk) (λ image. Represents image empty_tree p))
+    (sym below) only in
     let read = read_is c.new-failing.result (λ image. Represents image empty_tree p) leaves in
     let crash : Crash = record { first = c.in_ok-first.first; next = c.in_ok-next.next } in
     subst (λ (disk : Memory). LeavesAllOrNothing t p disk c.args.left.now crash) below

@@ -7,5 +7,8 @@ use Rattle.listing_subcommands.proofs.dump.write_dump.Given as goal
 
 abbrev pub invariant-loop : goal.invariant-loop
 invariant-loop g l =
-    KeepsStore {T = Unit {0}} g.D.Disk.state l.fn.store l.store (g.W.Sink.state l.fn.sink) (g.W.Sink.state l.sink) (Ok tt)
-    × (disks.IsObservable (g.D.Disk.state l.fn.store.disk) → sinks.IsObservable (g.W.Sink.state l.fn.sink) → IsDumping l.fn.store.tree l.fn.store.params l.key l.counter (g.W.Sink.state l.fn.sink).written (g.W.Sink.state l.sink).written)
+    KeepsStore {T = Unit {0}} g.D.Disk.state l.fn.store l.store (g.W.Sink.state l.fn.sink)
+    (g.W.Sink.state l.sink) (Ok tt)
+    × (disks.IsObservable (g.D.Disk.state l.fn.store.disk) → sinks.IsObservable (g.W.Sink.state l.fn.sink)
+    → IsDumping l.fn.store.tree l.fn.store.params l.key l.counter (g.W.Sink.state l.fn.sink).written
+    (g.W.Sink.state l.sink).written)

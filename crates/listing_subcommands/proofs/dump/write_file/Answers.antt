@@ -7,9 +7,12 @@ use Rattle.listing_subcommands.proofs.dump.write_file.Goals as goal
 
 pub returns-then-len-eq0-clause-kept : goal.returns-then-len-eq0-clause-kept
 returns-then-len-eq0-clause-kept g c =
-    keeps_line g.D.Disk.state c.args.store.now (g.W.Sink.state c.args.sink.now) (g.W.Sink.state c.put_piece.new.sink) c.put_piece.result (g.met.D.Disk.sound c.args.store.now.disk) c.requires.runs c.put_piece.ensures.kept
+    keeps_line g.D.Disk.state c.args.store.now (g.W.Sink.state c.args.sink.now)
+    (g.W.Sink.state c.put_piece.new.sink) c.put_piece.result (g.met.D.Disk.sound c.args.store.now.disk)
+    c.requires.runs c.put_piece.ensures.kept
 
 pub returns-then-len-eq0-clause-puts : goal.returns-then-len-eq0-clause-puts
 returns-then-len-eq0-clause-puts g c o told bytes standing len =
     let lines = empty_commands c.args.path bytes (len ∙ c.if-len-eq0.true) in
-    subst (λ cs. PutsBytes (g.W.Sink.state c.args.sink.now) (g.W.Sink.state c.put_piece.new.sink) (commands_text cs) c.put_piece.result) (sym lines) (c.put_piece.ensures.puts told)
+    subst (λ cs. PutsBytes (g.W.Sink.state c.args.sink.now) (g.W.Sink.state c.put_piece.new.sink)
+    (commands_text cs) c.put_piece.result) (sym lines) (c.put_piece.ensures.puts told)

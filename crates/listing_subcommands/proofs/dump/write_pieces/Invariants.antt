@@ -10,6 +10,9 @@ use Rattle.listing_subcommands.proofs.dump.write_pieces.Given as goal
 
 abbrev pub invariant-loop-piece : goal.invariant-loop-piece
 invariant-loop-piece g l =
-    KeepsStore {T = Unit {0}} g.D.Disk.state l.fn.store l.store (g.W.Sink.state l.fn.sink) (g.W.Sink.state l.sink) (Ok tt)
-    × (disks.IsObservable (g.D.Disk.state l.fn.store.disk) → sinks.IsObservable (g.W.Sink.state l.fn.sink) → (bytes : List ℕ) → IsStanding l.fn.store.tree l.path (File bytes) → length bytes ≡ l.len → 0 < l.len
-    → HasWritten (g.W.Sink.state l.fn.sink).written (g.W.Sink.state l.sink).written (commands_text (file_commands l.path bytes)) (commands_text (pieces_from l.path bytes l.piece-end l.piece)))
+    KeepsStore {T = Unit {0}} g.D.Disk.state l.fn.store l.store (g.W.Sink.state l.fn.sink)
+    (g.W.Sink.state l.sink) (Ok tt)
+    × (disks.IsObservable (g.D.Disk.state l.fn.store.disk) → sinks.IsObservable (g.W.Sink.state l.fn.sink)
+    → (bytes : List ℕ) → IsStanding l.fn.store.tree l.path (File bytes) → length bytes ≡ l.len → 0 < l.len
+    → HasWritten (g.W.Sink.state l.fn.sink).written (g.W.Sink.state l.sink).written
+    (commands_text (file_commands l.path bytes)) (commands_text (pieces_from l.path bytes l.piece-end l.piece)))

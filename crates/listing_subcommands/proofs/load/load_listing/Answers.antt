@@ -6,5 +6,6 @@ use Rattle.listing_subcommands.proofs.load.load_listing.Goals as goal
 pub returns-in-None : goal.returns-in-None
 returns-in-None g c t listed =
     let p = c.args.store.now.params in
-    too_large g.D.Disk.state g.met.D.Disk.sound c.args.store.now t c.pages.result c.slots.result c.requires.ready (c.in-None.ensures t p listed) (c.pages.ensures t p listed)
+    too_large g.D.Disk.state g.met.D.Disk.sound c.args.store.now t
+    c.pages.result c.slots.result c.requires.ready (c.in-None.ensures t p listed) (c.pages.ensures t p listed)
     (c.slots.ensures.value ∙ ap (λ (q : Parameters). q.slots) c.params.ensures.value)

@@ -7,7 +7,8 @@ use Rattle.listing_subcommands.proofs.read.read_listing.Given as goal
 
 -- the lines so far are a listing, or no listing begins with them
 abbrev pub invariant-lines : goal.invariant-lines
-invariant-lines g l = (p : Parameters) → IsListed l.fn.listing [] p → ReadSoFar g.R.Source.state p l.fn.reader l.reader l.listing l.is_listing
+invariant-lines g l = (p : Parameters) → IsListed l.fn.listing [] p
+    → ReadSoFar g.R.Source.state p l.fn.reader l.reader l.listing l.is_listing
 
 abbrev pub decreases-lines : goal.decreases-lines
 decreases-lines g l = unread l.reader

@@ -10,7 +10,8 @@ returns-in-Err g c =
     let from_new = g.A.Disk.state c.judge_pair-from.result.0 in
     let to = g.B.Disk.state c.args.to in
     let to_new = g.B.Disk.state c.judge_pair-from.new.to in
-    unjudged from from_new to to_new c.in-Err.fault (subst (JudgesPair from from_new to to_new) c.in-Err.is c.judge_pair-from.ensures)
+    unjudged from from_new to to_new c.in-Err.fault
+    (subst (JudgesPair from from_new to to_new) c.in-Err.is c.judge_pair-from.ensures)
 
 pub returns-in-Err-compared : goal.returns-in-Err-compared
 returns-in-Err-compared g c =
@@ -20,8 +21,11 @@ returns-in-Err-compared g c =
     let to = g.B.Disk.state c.args.to in
     let to_mid = g.B.Disk.state c.judge_pair-from.new.to in
     let to_read = g.B.Disk.state c.compare_slots-from.result.1 in
-    uncompared from from_mid from_new to to_mid to_read c.in-Ok.params (subst (JudgesPair from from_mid to to_mid) c.in-Ok.is c.judge_pair-from.ensures) c.in-Err-compared.fault
-    (subst (ComparesSlots c.in-Ok.params.slots from_mid from_new to_mid to_read) c.in-Err-compared.is c.compare_slots-from.ensures)
+    uncompared from from_mid from_new to to_mid to_read
+    c.in-Ok.params (subst (JudgesPair from from_mid to to_mid) c.in-Ok.is c.judge_pair-from.ensures)
+    c.in-Err-compared.fault
+    (subst (ComparesSlots c.in-Ok.params.slots from_mid from_new to_mid to_read)
+    c.in-Err-compared.is c.compare_slots-from.ensures)
 
 pub returns : goal.returns
 returns g c =
@@ -33,12 +37,16 @@ returns g c =
     let to_read = g.B.Disk.state c.compare_slots-from.result.1 in
     let to_new = g.B.Disk.state c.rewrite.new.disk in
     let judges = subst (JudgesPair from from_mid to to_mid) c.in-Ok.is c.judge_pair-from.ensures in
-    let compares = subst (ComparesSlots c.in-Ok.params.slots from_mid from_new to_mid to_read) c.in-Ok-compared.is c.compare_slots-from.ensures in
+    let compares = subst (ComparesSlots c.in-Ok.params.slots from_mid from_new to_mid to_read)
+    c.in-Ok-compared.is c.compare_slots-from.ensures in
     elim c.match-rewrite.branch [
       | in-Ok-rewrite w ↦
           subst (Mirrors from from_new to to_new) (sym w.mirrored-is)
-          (mirrored from from_mid from_new to to_mid to_read c.in-Ok.params judges c.in-Ok-compared.changes compares to_new w.in-Ok-rewrite.field-0 w.count.result w.count.ensures w.in-Ok-rewrite.ensures.calls w.in-Ok-rewrite.ensures.rewrites)
+          (mirrored from from_mid from_new to to_mid to_read c.in-Ok.params judges c.in-Ok-compared.changes compares
+          to_new w.in-Ok-rewrite.field-0 w.count.result w.count.ensures w.in-Ok-rewrite.ensures.calls
+          w.in-Ok-rewrite.ensures.rewrites)
       | in-Err-rewrite w ↦
           subst (Mirrors from from_new to to_new) (sym w.mirrored-is)
-          (unwritten from from_mid from_new to to_mid to_read c.in-Ok.params judges c.in-Ok-compared.changes compares to_new w.in-Err-rewrite.field-0 w.in-Err-rewrite.ensures.calls w.in-Err-rewrite.ensures.rewrites)
+          (unwritten from from_mid from_new to to_mid to_read c.in-Ok.params judges c.in-Ok-compared.changes compares
+          to_new w.in-Err-rewrite.field-0 w.in-Err-rewrite.ensures.calls w.in-Err-rewrite.ensures.rewrites)
     ]

@@ -13,9 +13,13 @@ returns g c =
     let from_new = c.find_differences-found.new.from in
     let to_new = c.find_differences-found.new.to in
     let result = c.find_differences-found.result in
-    let compared = views_compared slots first.params from_new.params second.params to_new.params (g.A.Disk.state first.disk) (g.A.Disk.state from_new.disk) (g.B.Disk.state second.disk) (g.B.Disk.state to_new.disk) result
-    (ap (λ (p : Parameters). p.slots) c.new-first.ensures.params) (ap (λ (p : Parameters). p.slots) c.new-second.ensures.params)
-    c.find_differences-found.ensures.first c.find_differences-found.ensures.second c.find_differences-found.ensures.call in
+    let compared = views_compared slots first.params from_new.params second.params to_new.params
+    (g.A.Disk.state first.disk) (g.A.Disk.state from_new.disk) (g.B.Disk.state second.disk)
+    (g.B.Disk.state to_new.disk) result
+    (ap (λ (p : Parameters). p.slots) c.new-first.ensures.params)
+    (ap (λ (p : Parameters). p.slots) c.new-second.ensures.params)
+    c.find_differences-found.ensures.first c.find_differences-found.ensures.second c.find_differences-found.ensures.call
+    in
     let from = g.A.Disk.state c.args.from in
     let from_left = g.A.Disk.state c.into_disk.result in
     let to = g.B.Disk.state c.args.to in
@@ -26,5 +30,7 @@ returns g c =
     let to_left_is = ap g.B.Disk.state (sym c.into_disk-2.ensures) in
     subst (λ (disk : DiskState). ComparesSlots slots from from_left to disk result) to_left_is
     (subst (λ (disk : DiskState). ComparesSlots slots from from_left disk (g.B.Disk.state to_new.disk) result) to_is
-    (subst (λ (disk : DiskState). ComparesSlots slots from disk to_viewed (g.B.Disk.state to_new.disk) result) from_left_is
-    (subst (λ (disk : DiskState). ComparesSlots slots disk (g.A.Disk.state from_new.disk) to_viewed (g.B.Disk.state to_new.disk) result) from_is compared)))
+    (subst (λ (disk : DiskState). ComparesSlots slots from disk to_viewed (g.B.Disk.state to_new.disk) result)
+    from_left_is
+    (subst (λ (disk : DiskState). ComparesSlots slots disk (g.A.Disk.state from_new.disk) to_viewed
+    (g.B.Disk.state to_new.disk) result) from_is compared)))

@@ -10,7 +10,9 @@ pub write_cell-requires-clause-room : goal.write_cell-requires-clause-room
 write_cell-requires-clause-room c =
     let from = c.args.from in
     let size = c.cell_len-size.result in
-    let long = opened_room c.args.area.now c.make_room.new.area from c.args.end size (from + size - from) c.requires.order (omega (arith, c.requires.room, c.cell_len-size.ensures)) (omega arith) c.make_room.ensures in
+    let long = opened_room c.args.area.now c.make_room.new.area from c.args.end size
+    (from + size - from) c.requires.order (omega (arith, c.requires.room, c.cell_len-size.ensures))
+    (omega arith) c.make_room.ensures in
     omega (arith, long, length-cell_bytes c.args.level c.args.cell.now c.requires.cell, c.cell_len-size.ensures)
 
 pub returns : goal.returns
@@ -22,8 +24,11 @@ returns c =
     let bytes = cell_bytes c.args.cell.now in
     let size_is = c.cell_len-size.ensures in
     let k : from + size - from ≡ size = omega arith in
-    let long = opened_room area c.make_room.new.area from end size (from + size - from) c.requires.order (omega (arith, c.requires.room, size_is)) k c.make_room.ensures in
+    let long = opened_room area c.make_room.new.area from end size
+    (from + size - from) c.requires.order (omega (arith, c.requires.room, size_is)) k c.make_room.ensures in
     let whole : length bytes ≡ size = length-cell_bytes c.args.level c.args.cell.now c.requires.cell ∙ sym size_is in
-    cell_put (take from area) (drop from (take end area)) (drop (end + size) area) c.make_room.new.area c.write_cell.new.area bytes from size (from + size - from)
-    (length-take-le from area (omega (arith, c.requires.order, c.requires.room))) k c.make_room.ensures (c.write_cell.ensures ∙ ap (λ n. zero_filled n bytes) long ∙ filled_whole size bytes whole)
+    cell_put (take from area) (drop from (take end area))
+    (drop (end + size) area) c.make_room.new.area c.write_cell.new.area bytes from size (from + size - from)
+    (length-take-le from area (omega (arith, c.requires.order, c.requires.room))) k
+    c.make_room.ensures (c.write_cell.ensures ∙ ap (λ n. zero_filled n bytes) long ∙ filled_whole size bytes whole)
     ∙ ap (λ n. take from area ++ bytes ++ drop from (take end area) ++ drop (end + n) area) size_is

@@ -11,4 +11,8 @@ write_cell-requires-clause-room c =
 
 pub returns-clause-ok : goal.returns-clause-ok
 returns-clause-ok c =
-    c.in_ok-extend_from_slice.ensures.items ∙ ap (λ (xs : List ℕ). c.args.bytes.now.items ++ xs) (ap (take c.cell_len.result) c.write_cell.ensures ∙ front_of_filled _ c.cell_len.result (cell_bytes c.args.cell.now) (length-cell_bytes c.args.level c.args.cell.now c.requires ∙ sym c.cell_len.ensures))
+    c.in_ok-extend_from_slice.ensures.items
+    ∙ ap (λ (xs : List ℕ). c.args.bytes.now.items ++ xs)
+    (ap (take c.cell_len.result) c.write_cell.ensures
+    ∙ front_of_filled _ c.cell_len.result (cell_bytes c.args.cell.now)
+    (length-cell_bytes c.args.level c.args.cell.now c.requires ∙ sym c.cell_len.ensures))

@@ -13,17 +13,25 @@ loop-page-preserved c =
     let level = c.args.level in
     let pages = c.as_slice-page-items.result.now in
     let page = c.page-item.result in
-    let level_is : c.label-in-loop-page.inside.level ≡ page.label.level = ap (λ (l : Label). l.level) (c.label-in-loop-page.view_is ∙ c.label.ensures.value) in
+    let level_is : c.label-in-loop-page.inside.level ≡ page.label.level =
+    ap (λ (l : Label). l.level) (c.label-in-loop-page.view_is ∙ c.label.ensures.value) in
     elim c.if-label-level.branch [
       | then-label-level+in_ok-append_from w ↦
-          w.cells-is ∙ joined_page level pages c.loop-page.page-index page c.loop-page-test.true c.page-item.is c.loop-page.cells _ w.len.result (sym level_is ∙ w.if-label-level.true) w.len.ensures.value c.loop-page.invariant w.in_ok-append_from.ensures.ok
+          w.cells-is ∙ joined_page level pages c.loop-page.page-index page
+          c.loop-page-test.true c.page-item.is c.loop-page.cells _
+          w.len.result (sym level_is ∙ w.if-label-level.true)
+          w.len.ensures.value c.loop-page.invariant w.in_ok-append_from.ensures.ok
       | else-label-level w ↦
-          w.cells-is ∙ passed_page level pages c.loop-page.page-index page c.loop-page-test.true c.page-item.is c.loop-page.cells (λ same. w.if-label-level.false (level_is ∙ same)) c.loop-page.invariant
+          w.cells-is ∙ passed_page level pages c.loop-page.page-index page
+          c.loop-page-test.true c.page-item.is c.loop-page.cells (λ same. w.if-label-level.false (level_is ∙ same))
+          c.loop-page.invariant
     ]
 
 pub returns-clause-group : goal.returns-clause-group
 returns-clause-group c lead cells of_group =
-    let all = take_all c.loop-page.page-index c.as_slice-page-items.result.now c.loop-page-test.false ∙ c.as_slice-page-items.ensures.value ∙ of_group in
+    let all = take_all c.loop-page.page-index c.as_slice-page-items.result.now c.loop-page-test.false
+    ∙ c.as_slice-page-items.ensures.value ∙ of_group in
     ap (λ (l : CellList). l.cells) c.loop-page.invariant
     ∙ ap (λ (ps : List Page). flat_map (λ page. page.cells) (filter (λ page. page.label.level == c.args.level) ps)) all
-    ∙ ap (flat_map (λ page. page.cells)) (group_of_level c.args.level lead cells) ∙ cells_of_group c.args.level lead cells
+    ∙ ap (flat_map (λ page. page.cells)) (group_of_level c.args.level lead cells)
+    ∙ cells_of_group c.args.level lead cells

@@ -10,5 +10,9 @@ slice_bounds-copy_from_slice-end c =
 
 pub returns : goal.returns
 returns c =
-    filled_slot c.args.label.now (cells_in c.args.label.now.level c.args.count c.args.run.now) c.args.slot.now c.copy_from_slice.new.self c.args.count (132 + length c.args.run.now - 132) c.requires.valid c.requires.empty
-    (c.copy_from_slice.ensures.after ∙ sym c.requires.packed.spelled) (sym (length-cells_in c.args.label.now.level c.args.count c.args.run.now)) (omega (arith, ap length c.copy_from_slice.ensures.after))
+    filled_slot c.args.label.now (cells_in c.args.label.now.level c.args.count c.args.run.now)
+    c.args.slot.now c.copy_from_slice.new.self c.args.count (132 + length c.args.run.now - 132)
+    c.requires.valid c.requires.empty
+    (c.copy_from_slice.ensures.after ∙ sym c.requires.packed.spelled)
+    (sym (length-cells_in c.args.label.now.level c.args.count c.args.run.now))
+    (omega (arith, ap length c.copy_from_slice.ensures.after))

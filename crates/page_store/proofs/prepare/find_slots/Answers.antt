@@ -11,9 +11,12 @@ returns-clause-call g c =
     let state = g.D.Disk.state in
     let before = c.args.overlay.now in
     let after = c.lay_changes.new.slots in
-    slots_found (g.W.Draw.drawn c.args.finder.now.draw) before.params after.params before.touched.entries after.touched.entries c.args.changes.now.pages.entries (state before.disk) (state after.disk) (state c.find_changes.new.disk) c.in_ok-lay_changes.field-0 c.requires
+    slots_found (g.W.Draw.drawn c.args.finder.now.draw)
+    before.params after.params before.touched.entries after.touched.entries c.args.changes.now.pages.entries
+    (state before.disk) (state after.disk) (state c.find_changes.new.disk) c.in_ok-lay_changes.field-0 c.requires
     c.in_ok-lay_changes.ensures.call c.in_ok-lay_changes.ensures.follows c.find_changes.new.cache c.find_changes.result
-    (subst (λ (n : ℕ). FindsChanges n after.touched.entries (state after.disk) (state c.find_changes.new.disk) c.find_changes.new.cache c.find_changes.result) c.slots.ensures.value
+    (subst (λ (n : ℕ). FindsChanges n after.touched.entries (state after.disk)
+    (state c.find_changes.new.disk) c.find_changes.new.cache c.find_changes.result) c.slots.ensures.value
     c.find_changes.ensures.call)
 
 pub find_changes-requires-clause-cached : goal.find_changes-requires-clause-cached
@@ -22,13 +25,17 @@ find_changes-requires-clause-cached g c =
     subst (λ (n : ℕ). IsSlotCacheOf n (g.D.Disk.state after.disk) after.cache) (sym c.slots.ensures.value) after.cached
 
 pub invariant_of-overlay-clause-cached : goal.invariant_of-overlay-clause-cached
-invariant_of-overlay-clause-cached g c = subst (λ (n : ℕ). IsSlotCacheOf n (g.D.Disk.state c.find_changes.new.disk) c.find_changes.new.cache) c.slots.ensures.value c.find_changes.ensures.call.cached
+invariant_of-overlay-clause-cached g c =
+    subst (λ (n : ℕ). IsSlotCacheOf n (g.D.Disk.state c.find_changes.new.disk) c.find_changes.new.cache)
+    c.slots.ensures.value c.find_changes.ensures.call.cached
 
 pub invariant_of-overlay-clause-within : goal.invariant_of-overlay-clause-within
-invariant_of-overlay-clause-within g c i slot is = c.lay_changes.new.slots.within i slot (c.find_changes.ensures.left i slot is)
+invariant_of-overlay-clause-within g c i slot is =
+    c.lay_changes.new.slots.within i slot (c.find_changes.ensures.left i slot is)
 
 pub invariant_of-overlay-clause-filled : goal.invariant_of-overlay-clause-filled
-invariant_of-overlay-clause-filled g c i slot is = c.lay_changes.new.slots.filled i slot (c.find_changes.ensures.left i slot is)
+invariant_of-overlay-clause-filled g c i slot is =
+    c.lay_changes.new.slots.filled i slot (c.find_changes.ensures.left i slot is)
 
 pub find_changes-requires-clause-size : goal.find_changes-requires-clause-size
 find_changes-requires-clause-size g c = c.lay_changes.new.slots.sized ∙ ap image_len (sym c.slots.ensures.value)
@@ -36,7 +43,8 @@ find_changes-requires-clause-size g c = c.lay_changes.new.slots.sized ∙ ap ima
 pub find_changes-requires-clause-within : goal.find_changes-requires-clause-within
 find_changes-requires-clause-within g c =
     let after = c.lay_changes.new.slots in
-    subst (λ (n : ℕ). (i : ℕ) (slot : List ℕ) → touched_at after.touched.entries i ≡ Some slot → i < n) (sym c.slots.ensures.value) after.within
+    subst (λ (n : ℕ). (i : ℕ) (slot : List ℕ) → touched_at after.touched.entries i ≡ Some slot → i < n)
+    (sym c.slots.ensures.value) after.within
 
 pub find_changes-requires-clause-filled : goal.find_changes-requires-clause-filled
 find_changes-requires-clause-filled g c = c.lay_changes.new.slots.filled

@@ -11,7 +11,9 @@ returns-clause-observed g c observable =
     let commit = c.commit.ensures in
     record {
       commits = commit.commits observable;
-      made = made_plain count (state disk) (state after) c.commit.result (λ e. ap state (commit.none e)) (commit.makes observable);
-      limit = limit_plain count (state disk) (state after) c.commit.result (λ e. ap state (commit.none e)) (commit.makes observable);
+      made = made_plain count (state disk) (state after) c.commit.result (λ e. ap state (commit.none e))
+          (commit.makes observable);
+      limit = limit_plain count (state disk) (state after) c.commit.result (λ e. ap state (commit.none e))
+          (commit.makes observable);
       wrote = commit.wrote observable;
     }

@@ -13,14 +13,18 @@ returns-in-Ok g c =
     let slots = c.args.params.now.slots in
     let changes = changes_of c.args.changed.slots.items in
     let calls = c.in-Ok.ensures.calls in
-    let long : IsObservable old → length old.bytes ≡ image_len slots = λ observable. (g.met.D.Disk.sound c.args.disk.now observable).size ∙ c.requires.size in
+    let long : IsObservable old → length old.bytes ≡ image_len slots =
+    λ observable. (g.met.D.Disk.sound c.args.disk.now observable).size ∙ c.requires.size in
     record {
       call = record {
         calls = calls;
         observed = c.in-Ok.ensures.observed;
         none = c.commit_as.ensures.none;
-        cached = cache_committed slots old new calls.observable c.args.cache.now c.requires.cached changes c.requires.changes long
-            (λ observable. committed_table slots changes c.requires.changes old.bytes (long observable) c.args.kind new.bytes (c.in-Ok.ensures.observed observable).commits.done) c.rewrite_all.new.self c.rewrite_all.ensures;
+        cached = cache_committed slots old new calls.observable c.args.cache.now c.requires.cached changes
+            c.requires.changes long
+            (λ observable. committed_table slots changes c.requires.changes old.bytes (long observable)
+            c.args.kind new.bytes (c.in-Ok.ensures.observed observable).commits.done)
+            c.rewrite_all.new.self c.rewrite_all.ensures;
       };
     }
 

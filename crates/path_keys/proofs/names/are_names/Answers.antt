@@ -7,5 +7,7 @@ use Rattle.path_keys.proofs.names.are_names.Goals as goal
 pub returns : goal.returns
 returns c =
     all_from_yields_List model.is_name _ _ _ c.all.ensures.ran
-    (YieldsList-from_slice_split _ (λ b. eqb b c.args.separator) c.args.bytes.now c.split.ensures.rest c.split.ensures.done c.split.ensures.closure (λ x b q k. search (rules, tests)))
+    (YieldsList-from_slice_split _ (λ b. eqb b c.args.separator)
+    c.args.bytes.now c.split.ensures.rest c.split.ensures.done c.split.ensures.closure
+    (λ x b q k. search (rules, tests)))
     (λ x b q k. search (rules, tests))

@@ -13,8 +13,11 @@ returns-then-ne c =
       | then-all w ↦ elim c.if-not-is_empty.branch [
         | then-not-is_empty v ↦ name_test c.args.bytes.now c.ne-then-ne.result
             (sym c.is_empty.ensures ∙ v.if-not-is_empty.true)
-            (sym (all_from_yields_List model.is_name_byte _ _ _ v.all.ensures.ran (YieldsList-from_slice c.args.bytes.now cc) (λ x b q k. search (rules, tests))) ∙ sym v.value-is ∙ w.if-all.true)
-            (ap (λ xs. not (same_bytes c.args.bytes.now xs)) (sym w.as_slice.ensures) ∙ sym w.ne.ensures ∙ sym w.value-is ∙ c.if-ne.true)
+            (sym (all_from_yields_List model.is_name_byte _ _ _
+            v.all.ensures.ran (YieldsList-from_slice c.args.bytes.now cc) (λ x b q k. search (rules, tests)))
+            ∙ sym v.value-is ∙ w.if-all.true)
+            (ap (λ xs. not (same_bytes c.args.bytes.now xs)) (sym w.as_slice.ensures) ∙ sym w.ne.ensures
+            ∙ sym w.value-is ∙ c.if-ne.true)
             (c.ne-then-ne.ensures ∙ ap (λ xs. not (same_bytes c.args.bytes.now xs)) c.as_slice-then-ne.ensures)
         | else-not-is_empty v ↦ cc
       ]

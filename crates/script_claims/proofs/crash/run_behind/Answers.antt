@@ -13,7 +13,8 @@ use Rattle.script_claims.proofs.crash.run_behind.Goals as goal
 pub returns : goal.returns
 returns c t p is =
     let bytes = ap (λ (memory : Memory). memory.bytes) (c.calm-disk.ensures.below ∙ c.in_ok-new.ensures) in
-    IfOk-weaker c.a_script_is_answered.result (AnswersScript t p c.calm-disk.result c.no_script.result c.in_ok-sink.sink) (RunsBehind t p)
+    IfOk-weaker c.a_script_is_answered.result
+    (AnswersScript t p c.calm-disk.result c.no_script.result c.in_ok-sink.sink) (RunsBehind t p)
     (λ (next : Ended). runs_behind t p c.calm-disk.result c.no_script.result c.in_ok-sink.sink next
     c.no_script.ensures.left
     (c.calm-disk.ensures.faults ∙ ap (λ (memory : Memory). raised_by memory.faults 0) c.in_ok-new.ensures)

@@ -14,13 +14,15 @@ returns-in-Ok-clause-image c t p is image =
     IfOk-weaker c.done.result _ _
     (λ after ok.
     subst (λ (ended : Ended). HasImage ended.disk (tree_after t (lines c.args.source.left) p) p) (sym ok.0)
-    ((answers_script t p c.args.disk c.args.source c.args.sink c.serve.result (c.serve.ensures.run c.in-Ok.ensures) (represented c.args.disk t p is image)).image ok.1))
+    ((answers_script t p c.args.disk c.args.source c.args.sink c.serve.result (c.serve.ensures.run c.in-Ok.ensures)
+    (represented c.args.disk t p is image)).image ok.1))
     c.done.ensures.ok
 
 pub returns-in-Ok-clause-spares : goal.returns-in-Ok-clause-spares
 returns-in-Ok-clause-spares c =
     IfOk-weaker c.done.result _ _
-    (λ after ok. subst (SparesCounts c.args.disk c.args.sink) (sym ok.0) (spares_counts c.args.disk c.args.source c.args.sink c.serve.result c.serve.ensures.outside ok.1))
+    (λ after ok. subst (SparesCounts c.args.disk c.args.sink) (sym ok.0)
+    (spares_counts c.args.disk c.args.source c.args.sink c.serve.result c.serve.ensures.outside ok.1))
     c.done.ensures.ok
 
 pub returns-in-Ok-clause-stops : goal.returns-in-Ok-clause-stops
@@ -28,8 +30,11 @@ returns-in-Ok-clause-stops c t p is image =
     IfErr-weaker c.done.result _ _
     (λ after other.
     subst (StopsRuns c.args.disk (λ (script : SourceMemory). script ≡ c.args.source) c.args.sink) (sym other.0)
-    (run_stops c.args.disk c.args.source c.args.sink c.serve.result c.serve.ensures.outside t p (c.serve.ensures.run c.in-Ok.ensures) (represented c.args.disk t p is image) other.1))
+    (run_stops c.args.disk c.args.source c.args.sink c.serve.result c.serve.ensures.outside t p
+    (c.serve.ensures.run c.in-Ok.ensures) (represented c.args.disk t p is image) other.1))
     c.done.ensures.ended
 
 pub returns-in-Err-clause-stops : goal.returns-in-Err-clause-stops
-returns-in-Err-clause-stops c t p is image = unrun_stops c.args.disk (λ (script : SourceMemory). script ≡ c.args.source) c.args.sink c.idle.result (ap (λ (ended : Ended). ended.status) c.idle.ensures)
+returns-in-Err-clause-stops c t p is image =
+    unrun_stops c.args.disk (λ (script : SourceMemory). script ≡ c.args.source)
+    c.args.sink c.idle.result (ap (λ (ended : Ended). ended.status) c.idle.ensures)

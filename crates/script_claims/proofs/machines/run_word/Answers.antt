@@ -4,4 +4,5 @@ use Rattle.script_claims.proofs.machines.run_word.Goals as goal
 
 pub returns : goal.returns
 unfolding request_of
-returns c = ap request_of (c.in_ok-push.ensures.ok ∙ ap (λ (words : List (List ℕ)). words ++ codes "run" ∷ []) c.new-words.ensures)
+returns c = ap request_of (c.in_ok-push.ensures.ok
+    ∙ ap (λ (words : List (List ℕ)). words ++ codes "run" ∷ []) c.new-words.ensures)

@@ -3,4 +3,5 @@ use Rattle.script_lines.proofs.CopyLemmas.{take_got}
 use Rattle.script_lines.proofs.copies.copy_children.Goals as goal
 
 pub loop-index-preserved : goal.loop-index-preserved
-loop-index-preserved c = take_got c.args.children.now c.loop-index.copy _ c.loop-index.index _ (omega arith) c.get-size.ensures.value c.loop-index.invariant c.in_ok-push.ensures.ok
+loop-index-preserved c = take_got c.args.children.now c.loop-index.copy _ c.loop-index.index _
+    (omega arith) c.get-size.ensures.value c.loop-index.invariant c.in_ok-push.ensures.ok

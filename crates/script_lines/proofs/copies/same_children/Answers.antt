@@ -8,10 +8,12 @@ pub returns-then-ne : goal.returns-then-ne
 returns-then-ne c =
     let one : Child = (c.get.result.0.now, c.get.result.1) in
     let other : Child = (c.get-in-loop-index.result.0.now, c.get-in-loop-index.result.1) in
-    pointwise_stops same_child c.args.one.now c.args.other.now c.loop-index.index one other (omega arith) (omega arith) c.get.ensures.value c.get-in-loop-index.ensures.value c.if-ne.ensures c.loop-index.invariant
+    pointwise_stops same_child c.args.one.now c.args.other.now c.loop-index.index one other (omega arith)
+    (omega arith) c.get.ensures.value c.get-in-loop-index.ensures.value c.if-ne.ensures c.loop-index.invariant
 
 pub loop-index-preserved : goal.loop-index-preserved
 loop-index-preserved c =
     let one : Child = (c.get.result.0.now, c.get.result.1) in
     let other : Child = (c.get-in-loop-index.result.0.now, c.get-in-loop-index.result.1) in
-    pointwise_goes same_child c.args.one.now c.args.other.now c.loop-index.index one other (omega arith) (omega arith) c.get.ensures.value c.get-in-loop-index.ensures.value c.if-ne.ensures c.loop-index.invariant
+    pointwise_goes same_child c.args.one.now c.args.other.now c.loop-index.index one other (omega arith)
+    (omega arith) c.get.ensures.value c.get-in-loop-index.ensures.value c.if-ne.ensures c.loop-index.invariant

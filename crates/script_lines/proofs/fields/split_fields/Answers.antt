@@ -8,5 +8,6 @@ returns-then-is_some-clause-value c =
     let first = rw c.in-Some.is at c.cut_field.ensures.parts in
     let second = rw c.in-Some-rest.is at c.cut_field-2.ensures.parts in
     let third = rw c.in-Some-rest-2.is at c.cut_field-3.ensures.parts in
-    let last = two_parts c.in-Some-rest-2.rest.now c.cut_field-4.result.0.now c.cut_field-4.result.1 c.cut_field-4.ensures.parts (sym some) in
+    let last = two_parts c.in-Some-rest-2.rest.now c.cut_field-4.result.0.now c.cut_field-4.result.1
+    c.cut_field-4.ensures.parts (sym some) in
     omega (arith, last, ap length first, ap length second, ap length third)

@@ -9,7 +9,8 @@ use Rattle.script_lines.proofs.session.read_ask.Goals as goal
 
 pub returns-in-Ok : goal.returns-in-Ok
 unfolding parse command_of
-returns-in-Ok c = c.put_question.ensures ∙ told_read is_question (Ask c.args.number) (short_ask c.args.number) (command_of_fields (parts_of c.args.text.now)) (parsing.command_of c.read_command.new.command) c.in-Ok.ensures
+returns-in-Ok c = c.put_question.ensures ∙ told_read is_question (Ask c.args.number) (short_ask c.args.number)
+    (command_of_fields (parts_of c.args.text.now)) (parsing.command_of c.read_command.new.command) c.in-Ok.ensures
 
 pub returns-in-Err : goal.returns-in-Err
 unfolding parse command_of
@@ -20,5 +21,6 @@ returns-in-Err c =
 pub returns-in-Err-2 : goal.returns-in-Err-2
 unfolding parse command_of
 returns-in-Err-2 c =
-    told_refused is_question (Ask c.args.number) (short_ask c.args.number) (command_of_fields (parts_of c.args.text.now)) c.in-Err.field-0 c.in-Err.ensures
+    told_refused is_question (Ask c.args.number) (short_ask c.args.number)
+    (command_of_fields (parts_of c.args.text.now)) c.in-Err.field-0 c.in-Err.ensures
     (question_by_word (parts_of c.args.text.now) false c.if-has_change_word.ensures)

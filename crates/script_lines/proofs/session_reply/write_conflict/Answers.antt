@@ -16,7 +16,8 @@ returns-in_err-write_conflict_line g c =
     let head = line (codes "conflict " ++ decimal c.args.question) in
     let was = reply_text (reply_of c.args.was.now) in
     let p = err_from_is_err_and c.from_residual.result c.from_residual.ensures.1 in
-    rw p.1 (IsPut-cut old new (head ++ was) _ p.0 _ (IsPut-cut {U = Unit {0}} old new head was _ _ c.in_err-write_conflict_line.ensures))
+    rw p.1 (IsPut-cut old new (head ++ was) _ p.0 _
+    (IsPut-cut {U = Unit {0}} old new head was _ _ c.in_err-write_conflict_line.ensures))
 
 pub returns-in_err-write_reply : goal.returns-in_err-write_reply
 unfolding session_text
@@ -27,8 +28,11 @@ returns-in_err-write_reply g c =
     let new = st c.write_reply.new.sink in
     let head = line (codes "conflict " ++ decimal c.args.question) in
     let was = reply_text (reply_of c.args.was.now) in
-    let p = err_from_is_err_and c.from_residual-in_err-write_reply.result c.from_residual-in_err-write_reply.ensures.1 in
-    rw p.1 (IsPut-cut old new (head ++ was) _ _ _ (IsPut-more {U = Unit {0}} old mid new head was _ _ c.in_ok-write_conflict_line.ensures c.in_err-write_reply.ensures))
+    let p = err_from_is_err_and c.from_residual-in_err-write_reply.result c.from_residual-in_err-write_reply.ensures.1
+    in
+    rw p.1 (IsPut-cut old new (head ++ was) _ _ _
+    (IsPut-more {U = Unit {0}} old mid new head was _ _
+    c.in_ok-write_conflict_line.ensures c.in_err-write_reply.ensures))
 
 pub returns : goal.returns
 unfolding session_text
@@ -39,4 +43,6 @@ returns g c =
     let next = st c.write_reply.new.sink in
     let head = line (codes "conflict " ++ decimal c.args.question) in
     let was = reply_text (reply_of c.args.was.now) in
-    IsPut-more old next (st c.write_reply-2.new.sink) (head ++ was) _ _ _ (IsPut-more {U = Unit {0}} old mid next head was _ _ c.in_ok-write_conflict_line.ensures c.in_ok-write_reply.ensures) c.write_reply-2.ensures
+    IsPut-more old next (st c.write_reply-2.new.sink) (head ++ was) _ _ _
+    (IsPut-more {U = Unit {0}} old mid next head was _ _
+    c.in_ok-write_conflict_line.ensures c.in_ok-write_reply.ensures) c.write_reply-2.ensures

@@ -7,7 +7,8 @@ pub returns : goal.returns
 returns c old image t p to same =
     let named = to.image_is in
     let long : length image ≡ image_len p.slots = same.same_length ∙ named.length_is in
-    let header = sym (take-scrubbed p.slots image long) ∙ ap (take 4096) same.scrubs ∙ take-scrubbed p.slots old named.length_is ∙ named.names.header_is in
+    let header = sym (take-scrubbed p.slots image long) ∙ ap (take 4096) same.scrubs
+    ∙ take-scrubbed p.slots old named.length_is ∙ named.names.header_is in
     record {
       image_is = record { names = record { in_range = named.names.in_range; header_is = header }; length_is = long };
       tree = to.tree;

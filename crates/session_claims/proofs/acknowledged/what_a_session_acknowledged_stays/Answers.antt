@@ -7,4 +7,5 @@ use Rattle.session_claims.proofs.acknowledged.what_a_session_acknowledged_stays.
 pub returns : goal.returns
 returns c t p only =
     IfOk-weaker c.hold.result _ _
-    (λ after answers. script_keeps_acknowledged ends_as_run t p c.args.disk c.args.source c.args.sink after (length-session_texts t c.args.source.left p) answers only) c.hold.ensures
+    (λ after answers. script_keeps_acknowledged ends_as_run t p c.args.disk c.args.source c.args.sink after
+    (length-session_texts t c.args.source.left p) answers only) c.hold.ensures

@@ -15,17 +15,28 @@ use Rattle.session_claims.proofs.crash.a_crash_leaves_whole_groups.Goals as goal
 
 pub returns-clause-first : goal.returns-clause-first
 returns-clause-first c t p only =
-    script_keeps_acknowledged ends_as_run t p c.new-failing.result c.args.source c.args.sink c.in_ok-first.first (length-session_texts t c.args.source.left p) c.in_ok-first.ensures
-    (subst (λ (disk : Memory). MayLeaveOnly (memory_state disk) (λ image. Represents image t p)) (sym c.new-failing.ensures.inner) only)
+    script_keeps_acknowledged ends_as_run t p c.new-failing.result c.args.source c.args.sink c.in_ok-first.first
+    (length-session_texts t c.args.source.left p) c.in_ok-first.ensures
+    (subst (λ (disk : Memory). MayLeaveOnly (memory_state disk) (λ image. Represents image t p))
+    (sym c.new-failing.ensures.inner) only)
 
 pub returns-clause-next : goal.returns-clause-next
 returns-clause-next c t p only =
     let below = c.new-failing.ensures.inner in
-    let leaves = subst (λ (disk : Memory). MayLeaveOnly (memory_state disk) (λ image. Represents image t p)) (sym below) only in
-    subst (λ (disk : Memory). LosesNothing (session_texts t c.args.source.left p) (committed_trees t c.args.source.left p) p disk c.args.sink c.args.left.now (record { first = c.in_ok-first.first; next = c.in_ok-next.next })) below
-    (script_loses_nothing ends_as_run t p c.new-failing.result c.args.source c.args.sink c.args.left.now (record { first = c.in_ok-first.first; next = c.in_ok-next.next })
+    let leaves = subst (λ (disk : Memory). MayLeaveOnly (memory_state disk) (λ image. Represents image t p))
+    (sym below) only in
+    subst (λ (disk : Memory). LosesNothing (session_texts t c.args.source.left p)
+    (committed_trees t c.args.source.left p) p disk c.args.sink c.args.left.now (record {
+      first = c.in_ok-first.first;
+      next = c.in_ok-next.next;
+    })) below
+    (script_loses_nothing ends_as_run t p c.new-failing.result c.args.source c.args.sink c.args.left.now (record {
+      first = c.in_ok-first.first;
+      next = c.in_ok-next.next;
+    })
     c.in_ok-first.ensures leaves
-    (committed_laid_out t p (bytes_of c.new-failing.result) c.args.source.left (read_is c.new-failing.result (λ image. Represents image t p) leaves))
+    (committed_laid_out t p (bytes_of c.new-failing.result)
+    c.args.source.left (read_is c.new-failing.result (λ image. Represents image t p) leaves))
     (λ u is. c.in_ok-next.ensures u p is))
 
 pub returns-clause-groups : goal.returns-clause-groups

@@ -12,5 +12,7 @@ use Rattle.session_claims.proofs.hold.hold.Goals as goal
 
 pub returns : goal.returns
 returns c =
-    subst (λ (trees : Tree → List ℕ → Parameters → ℕ → Tree). AnswersScript words.Session session_texts trees meaning source_state sink_state (outside_of c.args.disk c.args.source c.args.sink) c.serve.result)
+    subst (λ (trees : Tree → List ℕ → Parameters → ℕ → Tree).
+    AnswersScript words.Session session_texts trees meaning source_state sink_state
+    (outside_of c.args.disk c.args.source c.args.sink) c.serve.result)
     (same_trees c.every_history_is_serial.ensures.law) (c.serve.ensures.session c.in_ok-words.ensures)

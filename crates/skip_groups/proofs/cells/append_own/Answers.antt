@@ -10,7 +10,8 @@ use Rattle.skip_groups.proofs.cells.append_own.Goals as goal
 use Rattle.skip_groups.proofs.cells.append_own.Goals.{then-is_eq+in_ok-push_rising, else-is_eq}
 
 pub push_rising-requires : goal.push_rising-requires
-push_rising-requires c = let valid = c.loop-cell.invariant.valid in subst (λ n. AreCells n c.loop-cell.cells.cells) (sym valid.level_is) valid.cells
+push_rising-requires c = let valid = c.loop-cell.invariant.valid
+    in subst (λ n. AreCells n c.loop-cell.cells.cells) (sym valid.level_is) valid.cells
 
 pub loop-cell-preserved : goal.loop-cell-preserved
 loop-cell-preserved c =
@@ -21,19 +22,34 @@ loop-cell-preserved c =
     let item = c.cell-item.result in
     let before = c.loop-cell.invariant in
     let below : i < length own = omega arith in
-    let test : compares Equal key item ≡ c.is_eq.result = tied (key_cmp item.key key) ∙ ap is_eq (sym (c.cmp.ensures.value ∙ ap (λ (x : Cell). key_cmp x.key key) c.cell.view_is)) ∙ sym c.is_eq.ensures in
+    let test : compares Equal key item ≡ c.is_eq.result =
+    tied (key_cmp item.key key) ∙ ap is_eq
+    (sym (c.cmp.ensures.value ∙ ap (λ (x : Cell). key_cmp x.key key) c.cell.view_is)) ∙ sym c.is_eq.ensures in
     elim c.if-is_eq.branch [
       | then-is_eq+in_ok-push_rising w ↦ record {
-        valid = subst (IsRisingList old.level) (sym w.cells-is) (list_on c.loop-cell.cells.level old.level w.push_rising.new.cells before.valid.level_is w.in_ok-push_rising.ensures.valid);
+        valid = subst (IsRisingList old.level) (sym w.cells-is)
+            (list_on c.loop-cell.cells.level old.level w.push_rising.new.cells before.valid.level_is
+            w.in_ok-push_rising.ensures.valid);
         added = λ all.
-            let line = side_step Equal key old.cells own c.loop-cell.cells.cells i item below c.cell-item.is (test ∙ w.if-is_eq.true) (before.added all) in
-            let next = on_level c.loop-cell.cells.level old.level (c.loop-cell.cells.cells ++ item ∷ []) before.valid.level_is w.in_ok-push_rising.ensures.added in
-            ap (λ (list : CellList). list.cells) w.cells-is ∙ next (subst (AreCells old.level) line (side_within Equal key old.level old.cells own (i + 1) all)) ∙ sym line;
-        few = omega (arith, ap (λ (list : CellList). length list.cells) w.cells-is, w.in_ok-push_rising.ensures.few, before.few);
+            let line = side_step Equal key old.cells own c.loop-cell.cells.cells i item below
+            c.cell-item.is (test ∙ w.if-is_eq.true) (before.added all) in
+            let next = on_level c.loop-cell.cells.level old.level (c.loop-cell.cells.cells ++ item ∷ [])
+            before.valid.level_is w.in_ok-push_rising.ensures.added in
+            ap (λ (list : CellList). list.cells) w.cells-is
+            ∙ next (subst (AreCells old.level) line (side_within Equal key old.level old.cells own (i + 1) all))
+            ∙ sym line;
+        few = omega (
+          arith,
+          ap (λ (list : CellList). length list.cells) w.cells-is,
+          w.in_ok-push_rising.ensures.few,
+          before.few,
+        );
       }
       | else-is_eq w ↦ record {
         valid = subst (IsRisingList old.level) (sym w.cells-is) before.valid;
-        added = λ all. ap (λ (list : CellList). list.cells) w.cells-is ∙ before.added all ∙ ap (λ xs. old.cells ++ xs) (sym (side_stays Equal key own i item below c.cell-item.is (test ∙ w.if-is_eq.false)));
+        added = λ all. ap (λ (list : CellList). list.cells) w.cells-is ∙ before.added all
+            ∙ ap (λ xs. old.cells ++ xs)
+            (sym (side_stays Equal key own i item below c.cell-item.is (test ∙ w.if-is_eq.false)));
         few = omega (arith, ap (λ (list : CellList). length list.cells) w.cells-is, before.few);
       }
     ]

@@ -15,14 +15,19 @@ pub returns-clause-stays : goal.returns-clause-stays
 returns-clause-stays c below =
     let key = c.args.key.now in
     let cells = c.args.page.now.cells in
-    let less = less_from_test (key_cmp c.key.result key) (ap is_lt (sym c.cmp.ensures.value) ∙ sym c.is_lt.ensures ∙ below) in
+    let less = less_from_test (key_cmp c.key.result key)
+    (ap is_lt (sym c.cmp.ensures.value) ∙ sym c.is_lt.ensures ∙ below) in
     record {
       full = no_room c.is_last.result _ _ c.is_last.ensures c.if-is_last.false;
-      below = below_last key c.key.result cells (rising_from_map key_cmp (λ (x : Cell). x.key) cells c.len.ensures.valid.rising) (rw c.len.ensures.value at c.key.ensures.value) less;
+      below = below_last key c.key.result cells
+          (rising_from_map key_cmp (λ (x : Cell). x.key) cells c.len.ensures.valid.rising)
+          (rw c.len.ensures.value at c.key.ensures.value) less;
     }
 
 pub returns-clause-goes : goal.returns-clause-goes
 returns-clause-goes c other =
     let key = c.args.key.now in
     let tells = ap is_lt (sym c.cmp.ensures.value) ∙ sym c.is_lt.ensures ∙ other in
-    inr (ends_above key c.key.result c.args.page.now.cells c.len.ensures.valid.some_cell (rw c.len.ensures.value at c.key.ensures.value) (λ less. let wrong : true ≡ false = sym (ap is_lt less) ∙ tells in cc))
+    inr (ends_above key c.key.result c.args.page.now.cells c.len.ensures.valid.some_cell
+    (rw c.len.ensures.value at c.key.ensures.value)
+    (λ less. let wrong : true ≡ false = sym (ap is_lt less) ∙ tells in cc))

@@ -10,7 +10,15 @@ pub put_page-requires-clause-room : goal.put_page-requires-clause-room
 put_page-requires-clause-room g c o =
     let h = c.loop-i.invariant.call in
     let s = h.observed (h.hidden o) in
-    omega (arith, s.room, c.requires.room (h.hidden o), c.loop-i-test.true, c.max-all.ensures, c.page_count-filled.ensures, runs_few c.args.cells.now.level c.args.cells.now.cells)
+    omega (
+      arith,
+      s.room,
+      c.requires.room (h.hidden o),
+      c.loop-i-test.true,
+      c.max-all.ensures,
+      c.page_count-filled.ensures,
+      runs_few c.args.cells.now.level c.args.cells.now.cells,
+    )
 
 pub loop-i-preserved : goal.loop-i-preserved
 loop-i-preserved g c =
@@ -22,12 +30,19 @@ loop-i-preserved g c =
     let below : c.args.first + c.loop-i.i < 4294967296 = omega (arith, c.loop-i-test.true) in
     elim c.if-i-filled.branch [
       | then-i-filled+in_ok-put_page w ↦ rw w.pages-is (record {
-        call = run_puts old lead c.args.first c.args.count list now (g.P.Pages.state w.put_page.new.pages) c.loop-i.i h below _ (omega (arith, w.if-i-filled.true, c.page_count-filled.ensures)) w.in_ok-put_page.ensures.call;
-        follows = g.met.P.Pages.follows_trans c.args.pages.now c.loop-i.pages w.put_page.new.pages c.loop-i.invariant.follows w.in_ok-put_page.ensures.follows;
+        call = run_puts old lead c.args.first c.args.count list now (g.P.Pages.state w.put_page.new.pages) c.loop-i.i h
+            below _ (omega (arith, w.if-i-filled.true, c.page_count-filled.ensures)) w.in_ok-put_page.ensures.call;
+        follows = g.met.P.Pages.follows_trans c.args.pages.now c.loop-i.pages w.put_page.new.pages
+            c.loop-i.invariant.follows w.in_ok-put_page.ensures.follows;
       })
       | else-i-filled+in_ok-drop_page w ↦ rw w.pages-is (record {
-        call = run_drops old lead c.args.first c.args.count list now (g.P.Pages.state w.drop_page.new.self) c.loop-i.i h below _ w.label_in_group.result (w.label_in_group.ensures ∙ ap (λ n. label_of n lead (c.args.first + c.loop-i.i)) c.level-level.ensures.value)
-            (omega (arith, w.if-i-filled.false, c.page_count-filled.ensures)) (omega (arith, w.if-i-filled.false, c.loop-i-test.true, c.max-all.ensures)) w.in_ok-drop_page.ensures.call;
-        follows = g.met.P.Pages.follows_trans c.args.pages.now c.loop-i.pages w.drop_page.new.self c.loop-i.invariant.follows w.in_ok-drop_page.ensures.follows;
+        call = run_drops old lead c.args.first c.args.count list now (g.P.Pages.state w.drop_page.new.self) c.loop-i.i h
+            below _ w.label_in_group.result (w.label_in_group.ensures
+            ∙ ap (λ n. label_of n lead (c.args.first + c.loop-i.i)) c.level-level.ensures.value)
+            (omega (arith, w.if-i-filled.false, c.page_count-filled.ensures))
+            (omega (arith, w.if-i-filled.false, c.loop-i-test.true, c.max-all.ensures))
+            w.in_ok-drop_page.ensures.call;
+        follows = g.met.P.Pages.follows_trans c.args.pages.now c.loop-i.pages w.drop_page.new.self
+            c.loop-i.invariant.follows w.in_ok-drop_page.ensures.follows;
       })
     ]

@@ -6,7 +6,8 @@ use Rattle.skip_levels.proofs.pair_changes.take_from.Given as goal
 abbrev pub invariant-loop-level : goal.invariant-loop-level
 invariant-loop-level g l = record {
   below : l.level ≤ l.top;
-  down : TakenDown (g.P.Pages.state l.fn.pages) l.top (model_lead l.lead) l.key (g.P.Pages.state l.pages) l.level l.next;
+  down : TakenDown (g.P.Pages.state l.fn.pages) l.top (model_lead l.lead)
+      l.key (g.P.Pages.state l.pages) l.level l.next;
   follows : g.P.Pages.follows l.fn.pages l.pages;
 }
 

@@ -20,7 +20,8 @@ unfolding slot_bytes
 returns-in_default c = (
   λ zero. absurd (false≢true (sym c.if-is_zero.false ∙ c.is_zero.ensures.1 zero)),
   λ level holds.
-      let same = same_Some c.in-Some.page holds.page (sym c.in-Some.is ∙ c.decode_page.ensures.only holds.page holds.is_page (sym holds.bytes)) in
+      let same = same_Some c.in-Some.page holds.page (sym c.in-Some.is
+      ∙ c.decode_page.ensures.only holds.page holds.is_page (sym holds.bytes)) in
       let is : c.level.result ≡ holds.page.label.level = c.level.ensures ∙ ap (λ (p : Page). p.label.level) same in
       absurd (omega (arith, is, holds.level_is, holds.below, c.if-level-lt-MAX_HEIGHT.false)),
 )
@@ -29,5 +30,7 @@ pub returns-in_default-2 : goal.returns-in_default-2
 unfolding slot_bytes
 returns-in_default-2 c = (
   λ zero. absurd (false≢true (sym c.if-is_zero.false ∙ c.is_zero.ensures.1 zero)),
-  λ level holds. absurd (none-some holds.page (sym c.in_default.is ∙ c.decode_page.ensures.only holds.page holds.is_page (sym holds.bytes))),
+  λ level holds.
+      absurd (none-some holds.page (sym c.in_default.is
+      ∙ c.decode_page.ensures.only holds.page holds.is_page (sym holds.bytes))),
 )

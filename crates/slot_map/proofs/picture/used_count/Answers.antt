@@ -15,11 +15,15 @@ loop-char-preserved c =
     let counts = λ (x : ℕ). not (x == 46) in
     elim c.if-char-ne46.branch [
       | then-char-ne46 w ↦ record {
-        counted = w.used-is ∙ ap (λ (n : ℕ). n + 1) c.loop-char.invariant.counted ∙ sym (count_by_more_yes counts c.args.chars.now c.loop-char.char-index 0 c.loop-char-test.true (other _ _ w.if-char-ne46.true));
+        counted = w.used-is ∙ ap (λ (n : ℕ). n + 1) c.loop-char.invariant.counted
+            ∙ sym (count_by_more_yes counts c.args.chars.now c.loop-char.char-index 0
+            c.loop-char-test.true (other _ _ w.if-char-ne46.true));
         within = omega arith;
       }
       | else-char-ne46 w ↦ record {
-        counted = w.used-is ∙ c.loop-char.invariant.counted ∙ sym (count_by_more_no counts c.args.chars.now c.loop-char.char-index 0 c.loop-char-test.true (same _ _ w.if-char-ne46.false));
+        counted = w.used-is ∙ c.loop-char.invariant.counted
+            ∙ sym (count_by_more_no counts c.args.chars.now c.loop-char.char-index 0
+            c.loop-char-test.true (same _ _ w.if-char-ne46.false));
         within = omega arith;
       }
     ]

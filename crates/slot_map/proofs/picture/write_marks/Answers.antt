@@ -6,13 +6,19 @@ use Rattle.slot_map.proofs.Putting.{Puts-one, Puts-then, Puts-cut, Puts-as}
 use Rattle.slot_map.proofs.picture.write_marks.Goals as goal
 
 -- the marks of the slots, and the version's, by the characters of all
-of_slots : (slots : ℕ) (marks chars : List ℕ) → chars ≡ map mark_character marks → rows_text (take slots chars) ≡ rows_text (map mark_character (take slots marks))
-of_slots slots marks chars is = ap (λ (xs : List ℕ). rows_text (take slots xs)) is ∙ ap rows_text (take-map mark_character slots marks)
+of_slots : (slots : ℕ) (marks chars : List ℕ) → chars ≡ map mark_character marks
+    → rows_text (take slots chars) ≡ rows_text (map mark_character (take slots marks))
+of_slots slots marks chars is = ap (λ (xs : List ℕ). rows_text (take slots xs)) is
+    ∙ ap rows_text (take-map mark_character slots marks)
 
-of_version : (slots : ℕ) (marks chars : List ℕ) → chars ≡ map mark_character marks → version_text (take (length chars - slots) (drop slots chars)) ≡ version_text (map mark_character (drop slots marks))
+of_version : (slots : ℕ) (marks chars : List ℕ) → chars ≡ map mark_character marks
+    → version_text (take (length chars - slots) (drop slots chars))
+    ≡ version_text (map mark_character (drop slots marks))
 of_version slots marks chars is =
-    let whole : take (length chars - slots) (drop slots chars) ≡ drop slots chars = take_all (length chars - slots) (drop slots chars) (omega (arith, length-drop slots chars)) in
-    ap version_text whole ∙ ap (λ (xs : List ℕ). version_text (drop slots xs)) is ∙ ap version_text (drop-map mark_character slots marks)
+    let whole : take (length chars - slots) (drop slots chars) ≡ drop slots chars =
+    take_all (length chars - slots) (drop slots chars) (omega (arith, length-drop slots chars)) in
+    ap version_text whole ∙ ap (λ (xs : List ℕ). version_text (drop slots xs)) is
+    ∙ ap version_text (drop-map mark_character slots marks)
 
 pub returns-in_err-put : goal.returns-in_err-put
 unfolding marks_text
@@ -24,7 +30,8 @@ returns-in_err-put g c =
     let p = err_from_is_err_and c.from_residual.result c.from_residual.ensures.1 in
     rw p.1
     (Puts-cut (st c.args.sink.now) (st c.put.new.self) (title ++ rows) version p.0 p.0
-    (Puts-cut {U = Unit {0}} _ _ title rows _ p.0 (Puts-as _ _ _ title _ c.marks_title.ensures (Puts-one _ _ _ _ c.in_err-put.ensures))))
+    (Puts-cut {U = Unit {0}} _ _ title rows _
+    p.0 (Puts-as _ _ _ title _ c.marks_title.ensures (Puts-one _ _ _ _ c.in_err-put.ensures))))
 
 pub returns-in_err-write_rows : goal.returns-in_err-write_rows
 unfolding marks_text
@@ -38,8 +45,10 @@ returns-in_err-write_rows g c =
     let p = err_from_is_err_and c.from_residual-in_err-write_rows.result c.from_residual-in_err-write_rows.ensures.1 in
     rw p.1
     (Puts-cut (st c.args.sink.now) (st c.write_rows.new.sink) (title ++ rows) version _ p.0
-    (Puts-then (st c.args.sink.now) (st c.put.new.self) (st c.write_rows.new.sink) title rows _ _ (Puts-as _ _ _ title _ c.marks_title.ensures (Puts-one _ _ _ _ c.in_ok-put.ensures))
-    (Puts-as _ _ _ rows _ (of_slots slots marks c.show_marks.new.marks c.show_marks.ensures) c.in_err-write_rows.ensures)))
+    (Puts-then (st c.args.sink.now) (st c.put.new.self) (st c.write_rows.new.sink) title rows _ _
+    (Puts-as _ _ _ title _ c.marks_title.ensures (Puts-one _ _ _ _ c.in_ok-put.ensures))
+    (Puts-as _ _ _ rows _ (of_slots slots marks c.show_marks.new.marks c.show_marks.ensures)
+    c.in_err-write_rows.ensures)))
 
 pub returns : goal.returns
 unfolding marks_text
@@ -51,6 +60,9 @@ returns g c =
     let rows = rows_text (map mark_character (take slots marks)) in
     let version = version_text (map mark_character (drop slots marks)) in
     Puts-then (st c.args.sink.now) (st c.write_rows.new.sink) (st c.write_version.new.sink) (title ++ rows) version _ _
-    (Puts-then (st c.args.sink.now) (st c.put.new.self) (st c.write_rows.new.sink) title rows _ _ (Puts-as _ _ _ title _ c.marks_title.ensures (Puts-one _ _ _ _ c.in_ok-put.ensures))
-    (Puts-as _ _ _ rows _ (of_slots slots marks c.show_marks.new.marks c.show_marks.ensures) c.in_ok-write_rows.ensures))
-    (Puts-as _ _ _ version _ (of_version slots marks c.show_marks.new.marks c.show_marks.ensures) (Puts-one _ _ _ _ c.write_version.ensures))
+    (Puts-then (st c.args.sink.now) (st c.put.new.self) (st c.write_rows.new.sink) title rows _ _
+    (Puts-as _ _ _ title _ c.marks_title.ensures (Puts-one _ _ _ _ c.in_ok-put.ensures))
+    (Puts-as _ _ _ rows _ (of_slots slots marks c.show_marks.new.marks c.show_marks.ensures)
+    c.in_ok-write_rows.ensures))
+    (Puts-as _ _ _ version _ (of_version slots marks c.show_marks.new.marks c.show_marks.ensures)
+    (Puts-one _ _ _ _ c.write_version.ensures))

@@ -17,7 +17,9 @@ returns-in_err-write_title g c =
     let body = body_text p.slots c.args.flag c.args.chars.now c.args.marks.now in
     let fault = err_from_is_err_and c.from_residual.result c.from_residual.ensures.1 in
     let failed : Result (Unit {0}) SinkFault = Err c.in_err-write_title.field-0.0 in
-    rw fault.1 (IsPut-cut (st c.args.sink.now) (st c.write_title.new.sink) title body _ fault.0 (subst (λ (n : ℕ). IsPut (st c.args.sink.now) (st c.write_title.new.sink) (title_text p n) failed) c.used_count.ensures c.in_err-write_title.ensures))
+    rw fault.1 (IsPut-cut (st c.args.sink.now) (st c.write_title.new.sink) title body _
+    fault.0 (subst (λ (n : ℕ). IsPut (st c.args.sink.now) (st c.write_title.new.sink) (title_text p n) failed)
+    c.used_count.ensures c.in_err-write_title.ensures))
 
 pub returns : goal.returns
 unfolding picture_text
@@ -28,5 +30,8 @@ returns g c =
     let body = body_text p.slots c.args.flag c.args.chars.now c.args.marks.now in
     let written : Result (Unit {0}) SinkFault = Ok c.in_ok-write_title.field-0 in
     IsPut-from (st c.args.sink.now) (st c.write_title.new.sink) (st c.write_body.new.sink) title body _ _
-    (subst (λ (n : ℕ). IsPut (st c.args.sink.now) (st c.write_title.new.sink) (title_text p n) written) c.used_count.ensures c.in_ok-write_title.ensures)
-    (subst (λ (n : ℕ). Puts (st c.write_title.new.sink) (st c.write_body.new.sink) (body_text n c.args.flag c.args.chars.now c.args.marks.now) c.write_body.result) c.slots-slots.ensures.value c.write_body.ensures)
+    (subst (λ (n : ℕ). IsPut (st c.args.sink.now) (st c.write_title.new.sink) (title_text p n) written)
+    c.used_count.ensures c.in_ok-write_title.ensures)
+    (subst (λ (n : ℕ). Puts (st c.write_title.new.sink) (st c.write_body.new.sink)
+    (body_text n c.args.flag c.args.chars.now c.args.marks.now) c.write_body.result)
+    c.slots-slots.ensures.value c.write_body.ensures)

@@ -7,4 +7,7 @@ use Rattle.slot_map.proofs.table.read_slots.Given as goal
 abbrev pub invariant-loop-slot : goal.invariant-loop-slot
 invariant-loop-slot g l =
     let old = g.D.Disk.state l.fn.disk in
-    record { so_far : ReadsSoFar (AreShown l.slots old.bytes l.slot l.chars) old (g.D.Disk.state l.disk); length_is : length l.chars ≡ l.slots }
+    record {
+      so_far : ReadsSoFar (AreShown l.slots old.bytes l.slot l.chars) old (g.D.Disk.state l.disk);
+      length_is : length l.chars ≡ l.slots;
+    }

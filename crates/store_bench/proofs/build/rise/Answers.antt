@@ -4,4 +4,5 @@ use Rattle.std.proofs.lemmas.Map.Keys.{sorted_from_all_adjacent}
 use Rattle.store_bench.proofs.build.rise.Goals as goal
 
 pub returns : goal.returns
-returns c rises = sorted_from_all_adjacent nat_list_cmp_total c.args.keys.now [] (λ k low. c.loop-i.invariant k [] (omega (arith, low, c.loop-i-test.false)))
+returns c rises = sorted_from_all_adjacent nat_list_cmp_total c.args.keys.now []
+    (λ k low. c.loop-i.invariant k [] (omega (arith, low, c.loop-i-test.false)))

@@ -14,7 +14,9 @@ returns-then-rise c =
     let keys = c.in_ok-keys.keys.items in
     let sorted = c.sort.new.self.items in
     let rises : IsTrue c.rise.result = search rules in
-    let rising : IsStrictlySortedBy key_cmp sorted = subst (λ (xs : List (List ℕ)). IsStrictlySortedBy key_cmp xs) c.deref.ensures.value (c.rise.ensures rises) in
+    let rising : IsStrictlySortedBy key_cmp sorted =
+    subst (λ (xs : List (List ℕ)). IsStrictlySortedBy key_cmp xs) c.deref.ensures.value (c.rise.ensures rises) in
     subst (λ (xs : List (List ℕ)). IsDistinct (eq_by_cmp key_cmp) xs) c.in_ok-keys.ensures
-    (IsDistinct-IsPermutation (eq_by_cmp key_cmp) (eq_by_cmp_equiv nat_list_cmp_total).symm sorted keys (IsPermutation-sym keys sorted c.sort.ensures.permutation)
+    (IsDistinct-IsPermutation (eq_by_cmp key_cmp) (eq_by_cmp_equiv nat_list_cmp_total).symm sorted keys
+    (IsPermutation-sym keys sorted c.sort.ensures.permutation)
     (IsDistinct-from_sorted key_cmp sorted rising))

@@ -11,4 +11,5 @@ returns g c =
     let mid = g.D.Disk.state c.sync.new.self in
     let new = g.D.Disk.state c.find_image.result.0 in
     let sync = subst (λ (r : Result (Unit {0}) DiskFault). IsSync old mid r) c.in_default.is c.sync.ensures in
-    checked old mid new c.in_default.field-0 (g.met.D.Disk.sound c.sync.new.self) sync c.find_image.result.1 c.find_image.ensures
+    checked old mid new c.in_default.field-0 (g.met.D.Disk.sound c.sync.new.self) sync
+    c.find_image.result.1 c.find_image.ensures

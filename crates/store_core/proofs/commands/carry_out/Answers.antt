@@ -22,7 +22,9 @@ pub invariant_of-pairs : goal.invariant_of-pairs
 invariant_of-pairs g c =
     let s = c.pairs-in-Digest.inside in
     let new = c.tell_digest.new.staged in
-    keeps_stays g.D.Disk.state (any_draw s.draw) s.is_whole s.walk.known s.pages new (follows_stay g.D.Disk.state s.pages new c.tell_digest.ensures.follows c.tell_digest.ensures.map) c.pairs-in-Digest.invariant
+    keeps_stays g.D.Disk.state (any_draw s.draw) s.is_whole s.walk.known s.pages new
+    (follows_stay g.D.Disk.state s.pages new c.tell_digest.ensures.follows c.tell_digest.ensures.map)
+    c.pairs-in-Digest.invariant
 
 pub returns-in-Space-clause-call : goal.returns-in-Space-clause-call
 returns-in-Space-clause-call g c t list =
@@ -31,12 +33,17 @@ returns-in-Space-clause-call g c t list =
     let staged = c.args.pairs.now.pages in
     let to = step t Space p in
     let still = Follows-refl state staged (g.met.D.Disk.sound staged.disk) in
-    let told = subst (λ (v : TreeList g.row.D.Denot). IsObservable (state v.pages.disk) → AreAt state t p v.pages → reply_of c.tell_space.new.reply ≡ to.reply) c.pairs.view_is (λ observable at. c.tell_space.ensures observable t list.fitting at) in
+    let told = subst (λ (v : TreeList g.row.D.Denot). IsObservable (state v.pages.disk) → AreAt state t p v.pages
+    → reply_of c.tell_space.new.reply ≡ to.reply)
+    c.pairs.view_is (λ observable at. c.tell_space.ensures observable t list.fitting at) in
     let ends : EndsCommand state t to p staged staged (Ok c.tell_space.new.reply) = record {
-      step = read_step state t to.tree (IsReplyTo to) p staged staged (Ok c.tell_space.new.reply) list.fitting list.pages c.requires.runs still refl (λ e. cc) (λ observable. ap (λ (s : Step). s.tree) (space_step t p)) (λ observable. told observable list.pages);
+      step = read_step state t to.tree (IsReplyTo to) p staged staged
+          (Ok c.tell_space.new.reply) list.fitting list.pages c.requires.runs still refl (λ e. cc)
+          (λ observable. ap (λ (s : Step). s.tree) (space_step t p)) (λ observable. told observable list.pages);
       none_staged = same_staged state t p staged staged list.pages c.requires.runs still (λ observable. refl);
     } in
-    subst (λ (x : Command). EndsCommand state t (step t x p) p staged staged (Ok c.tell_space.new.reply)) (sym (ap command_of c.in-Space.is)) ends
+    subst (λ (x : Command). EndsCommand state t (step t x p) p staged staged (Ok c.tell_space.new.reply))
+    (sym (ap command_of c.in-Space.is)) ends
 
 -- the version lacks the command
 pub returns-then-lacks_version-clause-call : goal.returns-then-lacks_version-clause-call
@@ -49,7 +56,10 @@ returns-then-lacks_version-clause-call g c t list =
     let still = Follows-refl state staged (g.met.D.Disk.sound staged.disk) in
     let is = step_of_version t command p (sym c.lacks_version.ensures ∙ c.if-lacks_version.true) in
     let ends : EndsCommand state t (step t command p) p staged staged (Ok reply) = record {
-      step = read_step state t (step t command p).tree (IsReplyTo (step t command p)) p staged staged (Ok reply) list.fitting list.pages c.requires.runs still refl (λ e. cc) (λ observable. ap (λ (s : Step). s.tree) is) (λ observable. sym (ap (λ (s : Step). s.reply) is));
+      step = read_step state t (step t command p).tree (IsReplyTo (step t command p)) p staged staged
+          (Ok reply) list.fitting list.pages c.requires.runs still refl (λ e. cc)
+          (λ observable. ap (λ (s : Step). s.tree) is) (λ observable. sym (ap (λ (s : Step). s.reply) is));
       none_staged = same_staged state t p staged staged list.pages c.requires.runs still (λ observable. refl);
     } in
-    subst (λ (r : Reply). EndsCommand state t (step t command p) p staged staged (Ok r)) (sym c.put_refusal.ensures) ends
+    subst (λ (r : Reply). EndsCommand state t (step t command p) p staged staged (Ok r))
+    (sym c.put_refusal.ensures) ends

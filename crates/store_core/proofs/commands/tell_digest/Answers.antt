@@ -21,8 +21,11 @@ returns-in_err-digest g c = record {
       let new = c.digest.new.self in
       let failed = err_from_is_err_and c.from_residual.result c.from_residual.ensures.1 in
       let to = step t Digest p in
-      let step = read_step state t to.tree (IsReplyTo to) p old new (Err apply.Disk) fit at c.requires.runs c.digest.ensures.follows c.in_err-digest.ensures.calls.faults (λ e. cc) (λ observable. tt) (λ observable. tt) in
-      subst (λ (r : Result (Unit {0}) ApplyFault). EndsCommand state t to p old new (in_place c.args.reply.now r)) (sym (failed.1 ∙ ap Err failed.2)) (record {
+      let step = read_step state t to.tree (IsReplyTo to) p old new
+      (Err apply.Disk) fit at c.requires.runs c.digest.ensures.follows c.in_err-digest.ensures.calls.faults
+      (λ e. cc) (λ observable. tt) (λ observable. tt) in
+      subst (λ (r : Result (Unit {0}) ApplyFault). EndsCommand state t to p old new (in_place c.args.reply.now r))
+      (sym (failed.1 ∙ ap Err failed.2)) (record {
         step = step;
         none_staged = same_staged state t p old new at c.requires.runs c.digest.ensures.follows c.digest.ensures.map;
       });
@@ -39,9 +42,14 @@ returns g c = record {
       let to = step t Digest p in
       let digest = c.in_ok-digest.field-0 in
       record {
-        step = read_step state t to.tree (IsReplyTo to) p old new (Ok (replies.Digest digest)) fit at c.requires.runs c.digest.ensures.follows c.in_ok-digest.ensures.calls.faults (λ e. cc) (λ observable. ap (λ (s : Step). s.tree) (digest_step t p))
+        step = read_step state t to.tree (IsReplyTo to) p old new
+            (Ok (replies.Digest digest)) fit at
+            c.requires.runs c.digest.ensures.follows c.in_ok-digest.ensures.calls.faults (λ e. cc)
+            (λ observable. ap (λ (s : Step). s.tree) (digest_step t p))
             (λ observable.
-            ap ImageDigest (c.in_ok-digest.ensures.digest observable ∙ ap sha256 (at.held observable c.requires.runs).stands.layout_is) ∙ sym (ap (λ (s : Step). s.reply) (digest_step t p)));
+            ap ImageDigest (c.in_ok-digest.ensures.digest observable
+            ∙ ap sha256 (at.held observable c.requires.runs).stands.layout_is)
+            ∙ sym (ap (λ (s : Step). s.reply) (digest_step t p)));
         none_staged = same_staged state t p old new at c.requires.runs c.digest.ensures.follows c.digest.ensures.map;
       };
   map = c.digest.ensures.map;

@@ -9,5 +9,6 @@ pub returns : goal.returns
 returns g c observable t fit at =
     let p = c.args.params.now in
     let staged = c.args.staged.now in
-    let count = c.used.ensures observable c.requires.runs ∙ held_count t p staged.map (tree_holds t p staged.map fit (at.held observable c.requires.runs).map_is) in
+    let count = c.used.ensures observable c.requires.runs
+    ∙ held_count t p staged.map (tree_holds t p staged.map fit (at.held observable c.requires.runs).map_is) in
     ap₂ PagesUsed count c.slots.ensures.value ∙ sym (ap (λ (s : Step). s.reply) (space_step t p))

@@ -23,7 +23,10 @@ pub returns-in_default-clause-call : goal.returns-in_default-clause-call
 returns-in_default-clause-call g c = record {
   faults = refl;
   observable = λ seen. seen;
-  moved = λ seen place block value valid inside l key_is found fits. absurd (both_ways _ ((c.replant.ensures.none place block valid inside l key_is).0 (subst IsNone (sym (none_found c.replant.result c.in_default.not-Some)) refl)) fits);
+  moved = λ seen place block value valid inside l key_is found fits.
+      absurd (both_ways _
+      ((c.replant.ensures.none place block valid inside l key_is).0
+      (subst IsNone (sym (none_found c.replant.result c.in_default.not-Some)) refl)) fits);
 }
 
 pub returns-in_default-clause-follows : goal.returns-in_default-clause-follows
@@ -33,7 +36,8 @@ pub returns-in_err-value-clause-follows : goal.returns-in_err-value-clause-follo
 returns-in_err-value-clause-follows g c = c.take.ensures.follows
 
 pub returns-in_err-put-clause-follows : goal.returns-in_err-put-clause-follows
-returns-in_err-put-clause-follows g c = g.met.P.OrderedPairs.follows_trans _ _ _ c.take.ensures.follows c.put.ensures.follows
+returns-in_err-put-clause-follows g c =
+    g.met.P.OrderedPairs.follows_trans _ _ _ c.take.ensures.follows c.put.ensures.follows
 
 -- the value that was taken stands under the key of the new place
 pub returns-in_ok-put-clause-call : goal.returns-in_ok-put-clause-call
@@ -48,9 +52,13 @@ returns-in_ok-put-clause-call g c =
       moved = λ seen place block value valid inside l key_is found fits.
           let call = taken.observed seen in
           let new_key = key (replanted c.args.from.now c.args.to.now place) block in
-          let there : c.in-Some.moved ≡ new_key = of_found (λ k. k ≡ new_key) c.replant.result c.in-Some.moved c.in-Some.is (c.replant.ensures.value place block valid inside l key_is) in
+          let there : c.in-Some.moved ≡ new_key =
+          of_found (λ k. k ≡ new_key) c.replant.result c.in-Some.moved c.in-Some.is
+          (c.replant.ensures.value place block valid inside l key_is) in
           let some : Some c.in-Some-2.value ≡ Some value = sym c.in-Some-2.is ∙ call.found ∙ found in
           let same : c.in-Some-2.value ≡ value = cc some in
-          (stored.observed call.observable).changed ∙ ap (λ (k : List ℕ). put_in key_cmp k c.in-Some-2.value mid.pairs) there ∙ ap (λ (v : List ℕ). put_in key_cmp new_key v mid.pairs) same
+          (stored.observed call.observable).changed
+          ∙ ap (λ (k : List ℕ). put_in key_cmp k c.in-Some-2.value mid.pairs) there
+          ∙ ap (λ (v : List ℕ). put_in key_cmp new_key v mid.pairs) same
           ∙ ap (put_in key_cmp new_key value) call.changed;
     }

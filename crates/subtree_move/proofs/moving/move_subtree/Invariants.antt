@@ -13,6 +13,8 @@ abbrev pub invariant-loop : goal.invariant-loop
 invariant-loop g l = record {
   faults : (g.P.OrderedPairs.state l.pairs).faults ≡ (g.P.OrderedPairs.state l.fn.pairs).faults;
   observable : IsObservable (g.P.OrderedPairs.state l.fn.pairs) → IsObservable (g.P.OrderedPairs.state l.pairs);
-  part : IsObservable (g.P.OrderedPairs.state l.fn.pairs) → IsTrue (is_path l.to) → (t : Tree) (p : Parameters) → HoldsTree (g.P.OrderedPairs.state l.fn.pairs) t p → refusal_of t (Rename l.from l.to) ≡ None → IsPartMoved t p l.from l.to l.counter (g.P.OrderedPairs.state l.pairs).pairs;
+  part : IsObservable (g.P.OrderedPairs.state l.fn.pairs) → IsTrue (is_path l.to) → (t : Tree) (p : Parameters)
+      → HoldsTree (g.P.OrderedPairs.state l.fn.pairs) t p → refusal_of t (Rename l.from l.to) ≡ None
+      → IsPartMoved t p l.from l.to l.counter (g.P.OrderedPairs.state l.pairs).pairs;
   follows : g.P.OrderedPairs.follows l.fn.pairs l.pairs;
 }

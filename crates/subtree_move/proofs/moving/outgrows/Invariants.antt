@@ -8,6 +8,7 @@ use Rattle.subtree_move.proofs.moving.outgrows.Given as goal
 abbrev pub invariant-loop : goal.invariant-loop
 invariant-loop g l = record {
   walked : HasWalked (g.P.OrderedPairs.state l.fn.pairs) (g.P.OrderedPairs.state l.pairs);
-  part : IsObservable (g.P.OrderedPairs.state l.fn.pairs) → (t : Tree) (p : Parameters) → HoldsTree (g.P.OrderedPairs.state l.fn.pairs) t p → IsPartTested t p l.from l.to l.next l.counter;
+  part : IsObservable (g.P.OrderedPairs.state l.fn.pairs) → (t : Tree) (p : Parameters)
+      → HoldsTree (g.P.OrderedPairs.state l.fn.pairs) t p → IsPartTested t p l.from l.to l.next l.counter;
   follows : g.P.OrderedPairs.follows l.fn.pairs l.pairs;
 }

@@ -6,7 +6,8 @@ use Rattle.table_memory.proofs.differing.find_changes.Given as goal
 -- the slots that were found so far
 abbrev pub invariant-loop-at : goal.invariant-loop-at
 invariant-loop-at g l = record {
-  scanning : IsScanning l.slots l.fn.written.entries (g.D.Disk.state l.fn.disk) (g.D.Disk.state l.disk) l.changed.items l.written.entries;
+  scanning : IsScanning l.slots l.fn.written.entries (g.D.Disk.state l.fn.disk)
+      (g.D.Disk.state l.disk) l.changed.items l.written.entries;
   cached : IsSlotCacheOf l.slots (g.D.Disk.state l.disk) l.cache;
 }
 

@@ -4,6 +4,7 @@ use Rattle.table_order.proofs.check.check_round.Given as goal
 
 abbrev pub invariant-loop-place : goal.invariant-loop-place
 invariant-loop-place g l =
-    Checking (g.W.Draw.drawn l.draw) l.height l.round (g.S.ReadSlots.state l.fn.slots) (g.S.ReadSlots.state l.slots) l.fn.steps l.steps l.reach l.place l.run l.used
+    Checking (g.W.Draw.drawn l.draw) l.height l.round (g.S.ReadSlots.state l.fn.slots)
+    (g.S.ReadSlots.state l.slots) l.fn.steps l.steps l.reach l.place l.run l.used
     × g.S.ReadSlots.follows l.fn.slots l.slots
     × Noting (g.W.Draw.digests l.draw) l.round (g.S.ReadSlots.state l.fn.slots) l.entries l.place l.used

@@ -5,10 +5,13 @@ use Rattle.store_model.specs.Pages.{Page, IsPage}
 use Rattle.store_model.specs.Images.{page_bytes, slot_bytes}
 use Rattle.table_order.specs.Contents.{MayStand}
 use Rattle.table_order.proofs.content.content_of.Goals as goal
-use Rattle.table_order.proofs.content.content_of.Goals.{in_default-via-in-Some+else-level-height, in_default-via-in_default}
+use Rattle.table_order.proofs.content.content_of.Goals.{in_default-via-in-Some+else-level-height}
+use Rattle.table_order.proofs.content.content_of.Goals.{in_default-via-in_default}
 
--- nothing that may stand in a slot has its bytes, where they are not zero and it is no page below the height that they spell
-nothing_stands : (slot : List ℕ) (height : ℕ) → (slot ≡ slot_bytes None → ⊥) → ((page : Page) → IsPage page → page_bytes page ≡ slot → page.label.level < height → ⊥)
+-- nothing that may stand in a slot has its bytes, where they are not zero and it is no page below the height that
+-- they spell
+nothing_stands : (slot : List ℕ) (height : ℕ) → (slot ≡ slot_bytes None → ⊥)
+    → ((page : Page) → IsPage page → page_bytes page ≡ slot → page.label.level < height → ⊥)
     → (what : Option Page) → MayStand height what → slot ≡ slot_bytes what → ⊥
 unfolding slot_bytes
 nothing_stands slot height not_zero no_page None stands bytes = not_zero bytes
@@ -25,11 +28,13 @@ returns-in-Some c = record {
 
 pub returns-in_default : goal.returns-in_default
 returns-in_default c =
-    nothing_stands c.args.slot.now c.args.height (λ zero. absurd (false≢true (sym c.if-is_zero.false ∙ c.is_zero.ensures.1 zero)))
+    nothing_stands c.args.slot.now c.args.height
+    (λ zero. absurd (false≢true (sym c.if-is_zero.false ∙ c.is_zero.ensures.1 zero)))
     (elim c.in_default.branch [
       | in_default-via-in-Some+else-level-height w ↦ λ page is spells below.
           let same = same_Some w.in-Some.page page (sym w.in-Some.is ∙ c.decode_page.ensures.only page is spells) in
           let level : w.level.result ≡ page.label.level = w.level.ensures ∙ ap (λ (p : Page). p.label.level) same in
           absurd (omega (arith, level, below, w.if-level-height.false))
-      | in_default-via-in_default w ↦ λ page is spells below. w.in_default.not-Some page (c.decode_page.ensures.only page is spells)
+      | in_default-via-in_default w ↦ λ page is spells below.
+          w.in_default.not-Some page (c.decode_page.ensures.only page is spells)
     ])

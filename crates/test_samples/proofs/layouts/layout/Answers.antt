@@ -8,7 +8,8 @@ use Rattle.layout_scratch.specs.Sorting.{HasDistinctKeys}
 use Rattle.test_samples.proofs.layouts.layout.Goals as goal
 
 -- what is a placement has all slots
-placed_len : {E : Type 0} (d : Draw) (pages : List Page) (r : Result Table E) → IfOk r (λ table. table ≡ place d pages) → IfOk r (λ table. length table ≡ d.slots)
+placed_len : {E : Type 0} (d : Draw) (pages : List Page) (r : Result Table E) → IfOk r (λ table. table ≡ place d pages)
+    → IfOk r (λ table. length table ≡ d.slots)
 placed_len d pages (Ok table) is = ap length is ∙ length-place d pages
 placed_len d pages (Err fault) is = tt
 

@@ -7,4 +7,5 @@ pub returns-in-Some-clause-value : goal.returns-in-Some-clause-value
 returns-in-Some-clause-value c =
     let bytes = c.as_slice-bytes.result.now in
     let count : c.min.result ≡ min 200 (length bytes) = omega (arith, c.min.ensures) in
-    ap (λ n. take n bytes) count ∙ take_min 200 bytes ∙ ap (take 200) (c.as_slice-bytes.ensures.value ∙ sym (ap block_bytes c.in-Some.is))
+    ap (λ n. take n bytes) count ∙ take_min 200 bytes
+    ∙ ap (take 200) (c.as_slice-bytes.ensures.value ∙ sym (ap block_bytes c.in-Some.is))

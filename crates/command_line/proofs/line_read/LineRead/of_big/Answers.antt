@@ -10,5 +10,6 @@ returns-in_err-count c values held = absurd (none_there _ c.in_err-count.ensures
 
 pub returns : goal.returns
 returns c values held =
-    let read = same_values (c.in_ok-number.number.now ∷ c.in_ok-count.count.now ∷ []) values ((λ i. c.in_ok-number.ensures i ∷ c.in_ok-count.ensures i ∷ []) ∙ held) in
+    let read = same_values (c.in_ok-number.number.now ∷ c.in_ok-count.count.now ∷ []) values
+    ((λ i. c.in_ok-number.ensures i ∷ c.in_ok-count.ensures i ∷ []) ∙ held) in
     ap (λ rest. Some (codes "big" ∷ rest)) read

@@ -17,6 +17,8 @@ returns-in_err-seed c values held = absurd (none_there _ c.in_err-seed.ensures (
 
 pub returns : goal.returns
 returns c values held =
-    let read = same_values (c.in_ok-slots.slots.now ∷ c.in_ok-height.height.now ∷ c.in_ok-draw.draw.now ∷ c.in_ok-seed.seed.now ∷ []) values
-    ((λ i. c.in_ok-slots.ensures i ∷ c.in_ok-height.ensures i ∷ c.in_ok-draw.ensures i ∷ c.in_ok-seed.ensures i ∷ []) ∙ held) in
+    let read = same_values (c.in_ok-slots.slots.now ∷ c.in_ok-height.height.now ∷ c.in_ok-draw.draw.now
+    ∷ c.in_ok-seed.seed.now ∷ []) values
+    ((λ i. c.in_ok-slots.ensures i ∷ c.in_ok-height.ensures i ∷ c.in_ok-draw.ensures i ∷ c.in_ok-seed.ensures i ∷ [])
+    ∙ held) in
     ap (λ rest. Some (format_word c.args.version ∷ rest)) read

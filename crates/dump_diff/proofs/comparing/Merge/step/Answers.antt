@@ -7,7 +7,8 @@ use Rattle.dump_diff.proofs.Merging.{all_found}
 use Rattle.dump_diff.proofs.comparing.Merge.step.Goals as goal
 
 pub returns-in-None-clause-whole : goal.returns-in-None-clause-whole
-returns-in-None-clause-whole g c some = let none = c.in-None.ensures in all_found c.args.self.now some.one some.other some.between none.0 none.1
+returns-in-None-clause-whole g c some = let none = c.in-None.ensures
+    in all_found c.args.self.now some.one some.other some.between none.0 none.1
 
 pub returns-in_ok-take_first-in-Some-First-clause-more : goal.returns-in_ok-take_first-in-Some-First-clause-more
 returns-in_ok-take_first-in-Some-First-clause-more g c some =
@@ -18,7 +19,8 @@ returns-in_ok-take_first-in-Some-First-clause-more g c some =
       other = some.other;
       between = record {
         first = taken.ahead some.one ahead;
-        second = subst (λ (head : Head). IsAhead (g.B.DumpStream.came c.args.second.now) (g.B.DumpStream.whole c.args.second.now) head some.other) (sym taken.second) (some.between).second;
+        second = subst (λ (head : Head). IsAhead (g.B.DumpStream.came c.args.second.now)
+            (g.B.DumpStream.whole c.args.second.now) head some.other) (sym taken.second) (some.between).second;
         merged = taken.merged some.one some.other ahead (some.between).merged;
       };
     }
@@ -31,7 +33,8 @@ returns-in_ok-take_second-in-Some-Second-clause-more g c some =
       one = some.one;
       other = next_tree some.other (command_of c.args.self.now.second.command);
       between = record {
-        first = subst (λ (head : Head). IsAhead (g.A.DumpStream.came c.args.first.now) (g.A.DumpStream.whole c.args.first.now) head some.one) (sym taken.first) (some.between).first;
+        first = subst (λ (head : Head). IsAhead (g.A.DumpStream.came c.args.first.now)
+            (g.A.DumpStream.whole c.args.first.now) head some.one) (sym taken.first) (some.between).first;
         second = taken.ahead some.other ahead;
         merged = taken.merged some.one some.other ahead (some.between).merged;
       };

@@ -14,14 +14,17 @@ returns-clause-between g c some =
     let at' = (between.second).there c.requires.second_there in
     let behind = (between.merged).first_behind c.requires.first_there in
     let listed = (next_of some.one one at.extends).listed in
-    let judged = c.in_ok-judge.ensures.judged (record { listed = listed; tied = c.requires.tied }) ((between.merged).shown).rising behind.marked in
+    let judged = c.in_ok-judge.ensures.judged (record { listed = listed; tied = c.requires.tied })
+    ((between.merged).shown).rising behind.marked in
     let fetched = c.fetch.ensures.ahead (next_tree some.one one) (at.extends).is_tree at.came_now in
-    let later = IfOk-at_ok _ c.in_ok-map_err.was (on_ok_like _ c.fetch.result c.map_err.result c.map_err.ensures.variant fetched) in
+    let later = IfOk-at_ok _ c.in_ok-map_err.was
+    (on_ok_like _ c.fetch.result c.map_err.result c.map_err.ensures.variant fetched) in
     on_ok_like _ c.fetch-2.result c.map_err-2.result c.map_err-2.ensures.variant
     (on_ok_weaker c.fetch-2.result
     (λ later'. record {
       one = next_tree some.one one;
       other = next_tree some.other other;
-      between = both_taken c.args.self.now c.fetch.new.self c.fetch-2.new.self c.judge.new.self.found some.one some.other between judged c.requires.first_there c.requires.second_there c.requires.tied later later';
+      between = both_taken c.args.self.now c.fetch.new.self c.fetch-2.new.self c.judge.new.self.found some.one
+          some.other between judged c.requires.first_there c.requires.second_there c.requires.tied later later';
     })
     (c.fetch-2.ensures.ahead (next_tree some.other other) (at'.extends).is_tree at'.came_now))

@@ -11,5 +11,6 @@ returns-clause-merged g c t u ahead merged =
     let notes = c.in_ok-note.ensures.marks (merged.shown).rising behind.marked in
     let noted = c.in_ok-note.ensures.attributes (merged.shown).rising behind.marked in
     on_ok_like _ c.fetch.result c.map_err.result c.map_err.ensures.variant
-    (on_ok_weaker c.fetch.result (λ later. first_taken c.args.self.now c.fetch.new.self c.note.new.self t u ahead c.requires.there c.requires.lower merged notes noted later)
+    (on_ok_weaker c.fetch.result (λ later. first_taken c.args.self.now c.fetch.new.self c.note.new.self t u ahead
+    c.requires.there c.requires.lower merged notes noted later)
     (c.fetch.ensures.ahead (next_tree t (command_of c.args.self.now.first.command)) (at.extends).is_tree at.came_now))

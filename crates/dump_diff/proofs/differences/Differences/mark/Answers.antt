@@ -7,5 +7,6 @@ use Rattle.dump_diff.proofs.differences.Differences.mark.Goals as goal
 
 pub returns-in_ok-push-in-None-clause-marks : goal.returns-in_ok-push-in-None-clause-marks
 returns-in_ok-push-in-None-clause-marks c rising upto =
-    subst (λ (items : List Difference). MarksPath (marks_of c.args.self.now.paths.items) (marks_of items) c.args.path c.args.mark c.args.mark) (sym c.in_ok-push-in-None.ensures.items)
+    subst (λ (items : List Difference). MarksPath (marks_of c.args.self.now.paths.items)
+    (marks_of items) c.args.path c.args.mark c.args.mark) (sym c.in_ok-push-in-None.ensures.items)
     (marked_more c.args.self.now.paths.items c.args.path c.args.mark (c.in-None.ensures rising upto))

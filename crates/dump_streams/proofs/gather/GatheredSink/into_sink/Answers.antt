@@ -8,5 +8,7 @@ pub returns-clause-front : goal.returns-clause-front
 returns-clause-front g c =
     let sink_of = g.W.Sink.state in
     let sink = c.self.inside.sink in
-    subst (λ (v : Gathered g.row.W.Denot). IsObservable (sink_of sink) → IsFrontOf (sink_of sink).written ((sink_of v.before).written ++ v.held)) c.self.view_is
-    (front_put sink_of sink c.self.inside.before.value c.self.inside.held.items c.self.inside.is_broken c.self.invariant.2)
+    subst (λ (v : Gathered g.row.W.Denot). IsObservable (sink_of sink)
+    → IsFrontOf (sink_of sink).written ((sink_of v.before).written ++ v.held)) c.self.view_is
+    (front_put sink_of sink c.self.inside.before.value c.self.inside.held.items
+    c.self.inside.is_broken c.self.invariant.2)

@@ -7,8 +7,12 @@ returns-then-take_text-clause-next g c =
     let call = rw c.in-Text.is at c.in_ok-next_line.ensures in
     let takes = rw (c.text.ensures.value, c.if-take_text.true) at c.take_text.ensures in
     record {
-      came = λ t before. at_text g.R.Source.state c.args.self.now t before c.next_line.new.self c.saturating_add-self.result c.saturating_add-self.ensures call.ends call.answer c.take_text.new.reader (command_of c.take_text.new.command) call.source takes;
-      extends = λ t before. at_more g.R.Source.state c.args.self.now t before c.next_line.new.self c.saturating_add-self.result c.saturating_add-self.ensures call.ends call.answer c.take_text.new.reader (command_of c.take_text.new.command) call.source takes;
+      came = λ t before. at_text g.R.Source.state c.args.self.now t before
+          c.next_line.new.self c.saturating_add-self.result c.saturating_add-self.ensures call.ends call.answer
+          c.take_text.new.reader (command_of c.take_text.new.command) call.source takes;
+      extends = λ t before. at_more g.R.Source.state c.args.self.now t before
+          c.next_line.new.self c.saturating_add-self.result c.saturating_add-self.ensures call.ends call.answer
+          c.take_text.new.reader (command_of c.take_text.new.command) call.source takes;
       whole = λ t before. tt;
       failed = λ t before. tt;
     }
@@ -21,7 +25,9 @@ returns-else-take_text-clause-next g c =
       came = λ t before. tt;
       extends = λ t before. tt;
       whole = λ t before. tt;
-      failed = λ t before. at_bad g.R.Source.state c.args.self.now t before c.next_line.new.self c.saturating_add-self.result c.saturating_add-self.ensures call.ends call.answer c.take_text.new.reader (command_of c.take_text.new.command) takes;
+      failed = λ t before. at_bad g.R.Source.state c.args.self.now t before
+          c.next_line.new.self c.saturating_add-self.result c.saturating_add-self.ensures call.ends call.answer
+          c.take_text.new.reader (command_of c.take_text.new.command) takes;
     }
 
 pub returns-in-Long-clause-next : goal.returns-in-Long-clause-next
@@ -31,7 +37,9 @@ returns-in-Long-clause-next g c =
       came = λ t before. tt;
       extends = λ t before. tt;
       whole = λ t before. tt;
-      failed = λ t before. at_long g.R.Source.state c.args.self.now t before c.next_line.new.self c.saturating_add-self-in-Long.result c.saturating_add-self-in-Long.ensures call.ends call.answer;
+      failed = λ t before. at_long g.R.Source.state c.args.self.now t before
+          c.next_line.new.self c.saturating_add-self-in-Long.result
+          c.saturating_add-self-in-Long.ensures call.ends call.answer;
     }
 
 pub returns-in-End-clause-next : goal.returns-in-End-clause-next

@@ -11,5 +11,8 @@ returns-clause-given c =
     let rest_is : drop start bytes ≡ c.args.self.now.rest = ap (λ (r : Room). r.rest) c.self.view_is in
     let same_count : (start + count) - start ≡ count = omega arith in
     let fits : start + count ≤ length bytes = omega (arith, c.self.invariant, c.min-count.ensures) in
-    let piece_is : c.copy_from_slice.new.self ≡ take count (drop start bytes) = c.copy_from_slice.ensures.after ∙ ap (λ n. take n (drop start c.deref.result.now)) same_count ∙ ap (λ (xs : List ℕ). take count (drop start xs)) c.deref.ensures.value in
-    moved_slice bytes c.args.self.now.rest c.copy_from_slice.new.self c.args.into.now start count (sym rest_is) piece_is fits
+    let piece_is : c.copy_from_slice.new.self ≡ take count (drop start bytes) =
+    c.copy_from_slice.ensures.after ∙ ap (λ n. take n (drop start c.deref.result.now)) same_count
+    ∙ ap (λ (xs : List ℕ). take count (drop start xs)) c.deref.ensures.value in
+    moved_slice bytes c.args.self.now.rest c.copy_from_slice.new.self c.args.into.now start count
+    (sym rest_is) piece_is fits

@@ -9,5 +9,7 @@ pub returns-in-Ok-clause-ready : goal.returns-in-Ok-clause-ready
 returns-in-Ok-clause-ready g c bytes gave =
     let next = rw c.if-not-branch.false at c.in_ok-next.ensures.next in
     let came = gave.going c.requires.going in
-    ready_more g.S.DumpStream.came g.S.DumpStream.whole c.args.self.now _ bytes c.requires.going c.requires.none c.requires.going gave (next.came gave.tree came) (next.extends gave.tree came)
-    ((c.in-Ok.ensures.observed refl).appended ∙ ap (λ (r : Room). r.rest ++ line (command_text (command_of c.next.new.into))) c.clear.ensures)
+    ready_more g.S.DumpStream.came g.S.DumpStream.whole c.args.self.now _ bytes
+    c.requires.going c.requires.none c.requires.going gave (next.came gave.tree came) (next.extends gave.tree came)
+    ((c.in-Ok.ensures.observed refl).appended
+    ∙ ap (λ (r : Room). r.rest ++ line (command_text (command_of c.next.new.into))) c.clear.ensures)

@@ -4,9 +4,13 @@ use Rattle.store_model.specs.Parameters.{image_len}
 use Rattle.disk_model.specs.DiskState.{IsObservable}
 use Rattle.disk_model.proofs.Crashes.{IsObservable-call}
 use Rattle.gate_journal.specs.declared.fault.JournalFault.TheVariants.{Disk}
-use Rattle.gate_journal.proofs.Calls.{AreCalls-one, AreCalls-then, Makes-reads, Makes-short, Makes-behind, Makes-answered}
+use Rattle.gate_journal.proofs.Calls.{AreCalls-one, AreCalls-then, Makes-reads, Makes-short, Makes-behind}
+use Rattle.gate_journal.proofs.Calls.{Makes-answered}
 use Rattle.gate_journal.proofs.Areas.{marks_end, shadow_end, table_end}
-use Rattle.gate_journal.proofs.Formatting.{formats_failed, formats_answered, leaves_no_image, leaves_written, reads_no_image, handed_fault, fault_counted, fault_rose, fault_not_wrong, fault_not_image, ok_not_fault, other_fault, wrong_not_image, wrong_not_disk, image_not_disk, is_first, not_first}
+use Rattle.gate_journal.proofs.Formatting.{formats_failed, formats_answered, leaves_no_image, leaves_written}
+use Rattle.gate_journal.proofs.Formatting.{reads_no_image, handed_fault, fault_counted, fault_rose, fault_not_wrong}
+use Rattle.gate_journal.proofs.Formatting.{fault_not_image, ok_not_fault, other_fault, wrong_not_image, wrong_not_disk}
+use Rattle.gate_journal.proofs.Formatting.{image_not_disk, is_first, not_first}
 use Rattle.gate_journal.proofs.journal.Journal.format.Goals as goal
 
 pub is_image-requires : goal.is_image-requires
@@ -25,7 +29,9 @@ is_image-requires g c =
 pub returns-then-len-image_len : goal.returns-then-len-image_len
 returns-then-len-image_len g c =
     let old = g.D.Disk.state c.args.disk.now in
-    let wrong : old.size ≡ image_len c.args.params.now.slots → ⊥ = λ same. c.if-len-image_len.true (c.len.ensures ∙ same ∙ sym (c.image_len.ensures ∙ ap image_len c.slots.ensures.value)) in
+    let wrong : old.size ≡ image_len c.args.params.now.slots
+    → ⊥ = λ same. c.if-len-image_len.true (c.len.ensures ∙ same
+    ∙ sym (c.image_len.ensures ∙ ap image_len c.slots.ensures.value)) in
     record {
       size = refl;
       observable = refl;
@@ -50,7 +56,8 @@ pub returns-then-branch : goal.returns-then-branch
 returns-then-branch g c =
     let old = g.D.Disk.state c.args.disk.now in
     let read = c.in_ok-is_image.ensures.call in
-    let first = λ (observable : IsObservable old). is_first _ _ _ (c.in_ok-is_image.ensures.value observable) c.if-branch.true in
+    let first = λ (observable : IsObservable old).
+    is_first _ _ _ (c.in_ok-is_image.ensures.value observable) c.if-branch.true in
     record {
       size = read.size;
       observable = read.observable;
@@ -58,7 +65,12 @@ returns-then-branch g c =
       rise = read.rise;
       writes = read.writes;
       syncs = read.syncs;
-      wrong_length = (λ wrong. absurd (other_fault _ _ _ refl wrong (λ same. wrong_not_image (sym same))), λ differs. absurd (differs (sym c.len.ensures ∙ c.if-len-image_len.false ∙ c.image_len.ensures ∙ ap image_len c.slots.ensures.value)));
+      wrong_length = (
+        λ wrong. absurd (other_fault _ _ _ refl wrong (λ same. wrong_not_image (sym same))),
+        λ differs.
+            absurd (differs (sym c.len.ensures ∙ c.if-len-image_len.false ∙ c.image_len.ensures
+            ∙ ap image_len c.slots.ensures.value)),
+      );
       wrong_length_keeps = λ wrong. absurd (other_fault _ _ _ refl wrong (λ same. wrong_not_image (sym same)));
       already_image = λ observable image. first observable;
       image_is_kept = λ observable size _. c.is_image.ensures.reads observable;
@@ -86,7 +98,12 @@ returns-in_err-is_image g c =
       rise = call.rise;
       writes = call.writes;
       syncs = call.syncs;
-      wrong_length = (λ wrong. absurd (fault_not_wrong result is wrong), λ differs. absurd (differs (sym c.len.ensures ∙ c.if-len-image_len.false ∙ c.image_len.ensures ∙ ap image_len c.slots.ensures.value)));
+      wrong_length = (
+        λ wrong. absurd (fault_not_wrong result is wrong),
+        λ differs.
+            absurd (differs (sym c.len.ensures ∙ c.if-len-image_len.false ∙ c.image_len.ensures
+            ∙ ap image_len c.slots.ensures.value)),
+      );
       wrong_length_keeps = λ wrong. absurd (fault_not_wrong result is wrong);
       already_image = λ observable image. absurd (fault_not_image result is image);
       image_is_kept = λ observable size first. c.is_image.ensures.reads observable;
@@ -94,10 +111,13 @@ returns-in_err-is_image g c =
       image_is_found = λ observable size first. inr is;
       disk_failed = λ failed. fault_rose old.faults mid.faults call.faults;
       makes = λ observable size differs.
-          Makes-short old mid c.is_image.result result 0 0 _ _ c.from_residual.ensures.0 (omega arith) (omega arith) (Makes-reads old mid c.is_image.result c.is_image.result c.is_image.ensures.call (c.is_image.ensures.reads observable));
+          Makes-short old mid c.is_image.result result 0 0 _ _ c.from_residual.ensures.0 (omega arith) (omega arith)
+          (Makes-reads old mid c.is_image.result c.is_image.result c.is_image.ensures.call
+          (c.is_image.ensures.reads observable));
       formats = λ observable. formats_failed p mid result c.from_residual.ensures.0;
       reads = λ observable size differs. reads_no_image p old mid differs (c.is_image.ensures.reads observable);
-      crash = λ observable size differs durable. leaves_no_image p old mid durable differs (c.is_image.ensures.reads observable);
+      crash = λ observable size differs durable. leaves_no_image p old mid durable differs
+          (c.is_image.ensures.reads observable);
     }
 
 pub returns-in_err-write_image : goal.returns-in_err-write_image
@@ -109,7 +129,9 @@ returns-in_err-write_image g c =
     let result = c.from_residual-in_err-write_image.result in
     let failed = c.from_residual-in_err-write_image.ensures in
     let error = c.in_err-write_image.field-0.0 in
-    let both = AreCalls-then old mid new c.in_ok-is_image.field-0 (Err error) (AreCalls-one old mid (Ok c.in_ok-is_image.field-0) c.in_ok-is_image.ensures.call) (AreCalls-one mid new (Err error) c.in_err-write_image.ensures.call) in
+    let both = AreCalls-then old mid new c.in_ok-is_image.field-0 (Err error)
+    (AreCalls-one old mid (Ok c.in_ok-is_image.field-0) c.in_ok-is_image.ensures.call)
+    (AreCalls-one mid new (Err error) c.in_err-write_image.ensures.call) in
     let is : result ≡ Err Disk = handed_fault result failed.1 in
     record {
       size = both.size;
@@ -118,19 +140,29 @@ returns-in_err-write_image g c =
       rise = both.rise;
       writes = both.writes;
       syncs = both.syncs;
-      wrong_length = (λ wrong. absurd (fault_not_wrong result is wrong), λ differs. absurd (differs (sym c.len.ensures ∙ c.if-len-image_len.false ∙ c.image_len.ensures ∙ ap image_len c.slots.ensures.value)));
+      wrong_length = (
+        λ wrong. absurd (fault_not_wrong result is wrong),
+        λ differs.
+            absurd (differs (sym c.len.ensures ∙ c.if-len-image_len.false ∙ c.image_len.ensures
+            ∙ ap image_len c.slots.ensures.value)),
+      );
       wrong_length_keeps = λ wrong. absurd (fault_not_wrong result is wrong);
       already_image = λ observable image. absurd (fault_not_image result is image);
-      image_is_kept = λ observable size first. absurd (not_first _ _ _ (c.in_ok-is_image.ensures.value observable) c.if-branch.false first);
+      image_is_kept = λ observable size first.
+          absurd (not_first _ _ _ (c.in_ok-is_image.ensures.value observable) c.if-branch.false first);
       already_image_keeps = λ observable image. absurd (fault_not_image result is image);
       image_is_found = λ observable size first. inr is;
       disk_failed = λ fault. fault_rose old.faults new.faults both.faults;
       makes = λ observable size differs.
-          Makes-short old new c.write_image.result result _ _ _ _ failed.0 (le_refl _) (le_refl _) (Makes-behind old mid new c.write_image.result _ _ (c.is_image.ensures.reads observable) (c.write_image.ensures.makes (IsObservable-call old mid _ c.is_image.ensures.call observable)));
+          Makes-short old new c.write_image.result result _ _ _ _ failed.0 (le_refl _) (le_refl _)
+          (Makes-behind old mid new c.write_image.result _ _ (c.is_image.ensures.reads observable)
+          (c.write_image.ensures.makes (IsObservable-call old mid _ c.is_image.ensures.call observable)));
       formats = λ observable. formats_failed p new result failed.0;
-      reads = λ observable size differs. c.write_image.ensures.reads (IsObservable-call old mid _ c.is_image.ensures.call observable);
+      reads = λ observable size differs.
+          c.write_image.ensures.reads (IsObservable-call old mid _ c.is_image.ensures.call observable);
       crash = λ observable size differs durable.
-          leaves_written p old mid new durable differs (c.is_image.ensures.reads observable) (c.write_image.ensures.crash (IsObservable-call old mid _ c.is_image.ensures.call observable));
+          leaves_written p old mid new durable differs (c.is_image.ensures.reads observable)
+          (c.write_image.ensures.crash (IsObservable-call old mid _ c.is_image.ensures.call observable));
     }
 
 pub returns : goal.returns
@@ -141,7 +173,9 @@ returns g c =
     let new = g.D.Disk.state c.write_image.new.disk in
     let value = c.in_ok-write_image.field-0 in
     let written = c.in_ok-write_image.ensures in
-    let both = AreCalls-then old mid new c.in_ok-is_image.field-0 (Ok value) (AreCalls-one old mid (Ok c.in_ok-is_image.field-0) c.in_ok-is_image.ensures.call) (AreCalls-one mid new (Ok value) written.call) in
+    let both = AreCalls-then old mid new c.in_ok-is_image.field-0 (Ok value)
+    (AreCalls-one old mid (Ok c.in_ok-is_image.field-0) c.in_ok-is_image.ensures.call)
+    (AreCalls-one mid new (Ok value) written.call) in
     record {
       size = both.size;
       observable = both.observable;
@@ -149,17 +183,28 @@ returns g c =
       rise = both.rise;
       writes = both.writes;
       syncs = both.syncs;
-      wrong_length = (λ wrong. absurd (ok_not_fault _ _ wrong), λ differs. absurd (differs (sym c.len.ensures ∙ c.if-len-image_len.false ∙ c.image_len.ensures ∙ ap image_len c.slots.ensures.value)));
+      wrong_length = (
+        λ wrong. absurd (ok_not_fault _ _ wrong),
+        λ differs.
+            absurd (differs (sym c.len.ensures ∙ c.if-len-image_len.false ∙ c.image_len.ensures
+            ∙ ap image_len c.slots.ensures.value)),
+      );
       wrong_length_keeps = λ wrong. absurd (ok_not_fault _ _ wrong);
       already_image = λ observable image. absurd (ok_not_fault _ _ image);
-      image_is_kept = λ observable size first. absurd (not_first _ _ _ (c.in_ok-is_image.ensures.value observable) c.if-branch.false first);
+      image_is_kept = λ observable size first.
+          absurd (not_first _ _ _ (c.in_ok-is_image.ensures.value observable) c.if-branch.false first);
       already_image_keeps = λ observable image. absurd (ok_not_fault _ _ image);
-      image_is_found = λ observable size first. absurd (not_first _ _ _ (c.in_ok-is_image.ensures.value observable) c.if-branch.false first);
+      image_is_found = λ observable size first.
+          absurd (not_first _ _ _ (c.in_ok-is_image.ensures.value observable) c.if-branch.false first);
       disk_failed = λ failed. absurd (ok_not_fault _ _ failed);
       makes = λ observable size differs.
-          Makes-answered old new value _ _ _ (Makes-behind old mid new (Ok value) _ _ (c.is_image.ensures.reads observable) (written.makes (IsObservable-call old mid _ c.is_image.ensures.call observable)));
-      formats = λ observable. formats_answered p new value _ (written.formats (IsObservable-call old mid _ c.is_image.ensures.call observable));
+          Makes-answered old new value _ _ _
+          (Makes-behind old mid new (Ok value) _ _ (c.is_image.ensures.reads observable)
+          (written.makes (IsObservable-call old mid _ c.is_image.ensures.call observable)));
+      formats = λ observable. formats_answered p new value _
+          (written.formats (IsObservable-call old mid _ c.is_image.ensures.call observable));
       reads = λ observable size differs. written.reads (IsObservable-call old mid _ c.is_image.ensures.call observable);
       crash = λ observable size differs durable.
-          leaves_written p old mid new durable differs (c.is_image.ensures.reads observable) (written.crash (IsObservable-call old mid _ c.is_image.ensures.call observable));
+          leaves_written p old mid new durable differs (c.is_image.ensures.reads observable)
+          (written.crash (IsObservable-call old mid _ c.is_image.ensures.call observable));
     }

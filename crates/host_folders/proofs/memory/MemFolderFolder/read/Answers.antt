@@ -13,12 +13,22 @@ returns-clause-contract c =
     let into = c.args.into.now in
     let piece = c.copy_from_slice.new.self in
     let file = c.in-Some.file in
-    let read : Reading = record { path = file.path; entry = file.entry; at = file.at + count; is_ended = c.tells_end.result } in
+    let read : Reading = record {
+      path = file.path;
+      entry = file.entry;
+      at = file.at + count;
+      is_ended = c.tells_end.result;
+    } in
     record {
       observable = refl;
       within = omega (arith, length-append piece (drop count into), c.copy_from_slice.ensures.len);
-      read = λ _. subst (λ (is_ended : Bool). ReadsFile (folder_state c.args.self.now) (folder_state (record c.count_call.new.self { file = Some read })) (take count (piece ++ drop count into)) is_ended) c.tells_end.ensures
-          (reads_file c.args.self.now c.count_call.new.self (raised c.args.self.now.calls) file c.left-left.result.now piece (drop count into) count c.tells_end.result c.count_call.ensures.counted c.in-Some.is c.left-left.ensures.value (search rules) (omega arith));
+      read = λ _. subst (λ (is_ended : Bool). ReadsFile (folder_state c.args.self.now)
+          (folder_state (record c.count_call.new.self { file = Some read }))
+          (take count (piece ++ drop count into)) is_ended) c.tells_end.ensures
+          (reads_file c.args.self.now c.count_call.new.self (raised c.args.self.now.calls) file
+          c.left-left.result.now piece (drop count into) count
+          c.tells_end.result c.count_call.ensures.counted c.in-Some.is c.left-left.ensures.value (search rules)
+          (omega arith));
     }
 
 pub returns-clause-left : goal.returns-clause-left
@@ -27,6 +37,15 @@ returns-clause-left c =
     let into = c.args.into.now in
     let piece = c.copy_from_slice.new.self in
     let file = c.in-Some.file in
-    reads_left c.args.self.now c.count_call.new.self (raised c.args.self.now.calls) file c.left-left.result.now piece (drop count into) count c.tells_end.result
+    reads_left c.args.self.now c.count_call.new.self (raised c.args.self.now.calls) file c.left-left.result.now piece
+    (drop count into) count c.tells_end.result
     c.count_call.ensures.counted c.in-Some.is c.left-left.ensures.value (search rules) (omega arith)
-    (omega (arith, length-append piece (drop count into), length-drop count into, c.copy_from_slice.ensures.len, c.min-count.ensures, c.min.ensures, c.max.ensures))
+    (omega (
+      arith,
+      length-append piece (drop count into),
+      length-drop count into,
+      c.copy_from_slice.ensures.len,
+      c.min-count.ensures,
+      c.min.ensures,
+      c.max.ensures,
+    ))

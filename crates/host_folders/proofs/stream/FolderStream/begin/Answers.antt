@@ -9,12 +9,17 @@ pub returns-then-self-len-clause-next : goal.returns-then-self-len-clause-next
 returns-then-self-len-clause-next g c =
     let state = g.F.Folder.state in
     let stream = c.args.self.now in
-    next_whole (CameOf state stream) (CameOf state stream) (IsPacked state stream) (EndsBy stream) (command_of c.args.into.now) (λ t was. came_whole state stream t c.requires (omega arith) was)
+    next_whole (CameOf state stream) (CameOf state stream) (IsPacked state stream) (EndsBy stream)
+    (command_of c.args.into.now) (λ t was. came_whole state stream t c.requires (omega arith) was)
 
 pub returns-in_err-begin_folder-in-Directory-clause-next : goal.returns-in_err-begin_folder-in-Directory-clause-next
 returns-in_err-begin_folder-in-Directory-clause-next g c =
-    next_failed _ _ _ (EndsBy c.begin_folder.new.self) _ c.from_residual.result c.in_err-begin_folder-in-Directory.field-0.0 c.from_residual.ensures.1 c.in_err-begin_folder-in-Directory.ensures.failed
+    next_failed _ _ _ (EndsBy c.begin_folder.new.self) _
+    c.from_residual.result c.in_err-begin_folder-in-Directory.field-0.0 c.from_residual.ensures.1
+    c.in_err-begin_folder-in-Directory.ensures.failed
 
 pub returns-in_err-begin_file-in-File-clause-next : goal.returns-in_err-begin_file-in-File-clause-next
 returns-in_err-begin_file-in-File-clause-next g c =
-    next_failed _ _ _ (EndsBy c.begin_file.new.self) _ c.from_residual-in_err-begin_file-in-File.result c.in_err-begin_file-in-File.field-0.0 c.from_residual-in_err-begin_file-in-File.ensures.1 c.in_err-begin_file-in-File.ensures.failed
+    next_failed _ _ _ (EndsBy c.begin_file.new.self) _
+    c.from_residual-in_err-begin_file-in-File.result c.in_err-begin_file-in-File.field-0.0
+    c.from_residual-in_err-begin_file-in-File.ensures.1 c.in_err-begin_file-in-File.ensures.failed

@@ -15,9 +15,25 @@ returns-clause-gives g c =
     let old = c.args.self.now in
     let found = c.args.found.now in
     let command = command_of c.read_piece.new.into in
-    subst (λ (stream : FolderStream g.row.F.Denot). Gives (CameOf state old) (CameOf state (record stream { at = stream.at + 1; place = c.place_behind-self.result })) command (Ok tt)) (sym c.add.ensures.same)
-    (subst (λ (place : Place). Gives (CameOf state old) (CameOf state (record old { folder = c.read_piece.new.folder; at = old.at + 1; place = place; reader = c.add.new.self.reader })) command (Ok tt)) (sym c.place_behind-self.ensures)
-    (gives_file state old found c.requires.kind.0 c.open.new.self c.read_piece.new.folder command c.in_ok-count.count c.add.new.self.reader (record { start = c.requires.start; more = c.requires.more; here = c.requires.here }) c.requires.kind.1 c.in_ok-open.ensures
+    subst (λ (stream : FolderStream g.row.F.Denot).
+    Gives (CameOf state old)
+    (CameOf state (record stream { at = stream.at + 1; place = c.place_behind-self.result })) command (Ok tt))
+    (sym c.add.ensures.same)
+    (subst (λ (place : Place). Gives (CameOf state old)
+    (CameOf state (record old {
+      folder = c.read_piece.new.folder;
+      at = old.at + 1;
+      place = place;
+      reader = c.add.new.self.reader;
+    })) command (Ok tt))
+    (sym c.place_behind-self.ensures)
+    (gives_file state old found c.requires.kind.0 c.open.new.self c.read_piece.new.folder command
+    c.in_ok-count.count c.add.new.self.reader (record {
+      start = c.requires.start;
+      more = c.requires.more;
+      here = c.requires.here;
+    })
+    c.requires.kind.1 c.in_ok-open.ensures
     c.read_piece.ensures.observable c.in_ok-count.ensures.piece c.in_ok-add.ensures.added))
 
 pub returns-in_err-add-clause-failed : goal.returns-in_err-add-clause-failed
@@ -26,7 +42,16 @@ returns-in_err-add-clause-failed g c t was =
     let old = c.args.self.now in
     let found = c.args.found.now in
     let command = command_of c.read_piece.new.into in
-    let here = ap (λ (s : FolderStream g.row.F.Denot). found_at s.place s.at s.found.items) c.add.ensures.same ∙ begun_here state old found (record { start = c.requires.start; more = c.requires.more; here = c.requires.here }) in
-    let asks : AsksFor found command = subst (λ (d : Command). AsksFor found d) (sym c.in_ok-count.ensures.piece.command_is) (refl, c.requires.kind) in
-    err_of c.from_residual-in_err-add.result c.in_err-add.field-0.0 (EndsBy c.add.new.self t) c.from_residual-in_err-add.ensures.1
-    (ends_so state old c.add.new.self t found command c.add.new.self.reader c.in_err-add.field-0.0 c.in_err-add.ensures.fault was c.in_err-add.ensures.refused here asks)
+    let here = ap (λ (s : FolderStream g.row.F.Denot). found_at s.place s.at s.found.items) c.add.ensures.same
+    ∙ begun_here state old found (record {
+      start = c.requires.start;
+      more = c.requires.more;
+      here = c.requires.here;
+    }) in
+    let asks : AsksFor found command =
+    subst (λ (d : Command). AsksFor found d) (sym c.in_ok-count.ensures.piece.command_is) (refl, c.requires.kind) in
+    err_of c.from_residual-in_err-add.result c.in_err-add.field-0.0 (EndsBy c.add.new.self t)
+    c.from_residual-in_err-add.ensures.1
+    (ends_so state old c.add.new.self t found command
+    c.add.new.self.reader c.in_err-add.field-0.0 c.in_err-add.ensures.fault was
+    c.in_err-add.ensures.refused here asks)

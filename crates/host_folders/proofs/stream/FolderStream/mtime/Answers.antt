@@ -20,12 +20,19 @@ returns-clause-next g c =
     let seconds = c.in-Some.seconds in
     let reader = c.add.new.self.reader in
     let new = record old { place = places.Start; reader = reader } in
-    let digits : c.new.result ≡ decimal seconds = cc (c.new.ensures, c.as_slice.ensures, c.push_long.ensures.value, c.new-digits.ensures) in
+    let digits : c.new.result ≡ decimal seconds =
+    cc (c.new.ensures, c.as_slice.ensures, c.push_long.ensures.value, c.new-digits.ensures) in
     let is = ap₂ (λ (name bytes : List ℕ). SetAttribute path name bytes) c.attribute_name.ensures.value digits in
-    subst (λ (stream : FolderStream g.row.F.Denot). let end = record stream { place = places.Start } in IsNext (CameOf state old) (CameOf state end) (IsPacked state end) (EndsBy end) (SetAttribute path c.attribute_name.result c.new.result) (Ok true)) (sym c.add.ensures.same)
-    (subst (λ (command : Command). IsNext (CameOf state old) (CameOf state new) (IsPacked state new) (EndsBy new) command (Ok true)) (sym is)
-    (next_given (CameOf state old) (CameOf state new) (IsPacked state new) (EndsBy new) (SetAttribute path (codes "mtime") (decimal seconds))
-    (gives_mtime state old c.args.found.now seconds reader c.requires c.in-Some.is (subst (λ (command : Command). AddsCommand old.reader reader command true) is c.in_ok-add.ensures.added))))
+    subst (λ (stream : FolderStream g.row.F.Denot). let end = record stream { place = places.Start }
+    in IsNext (CameOf state old) (CameOf state end) (IsPacked state end) (EndsBy end)
+    (SetAttribute path c.attribute_name.result c.new.result) (Ok true)) (sym c.add.ensures.same)
+    (subst (λ (command : Command). IsNext (CameOf state old) (CameOf state new) (IsPacked state new)
+    (EndsBy new) command (Ok true)) (sym is)
+    (next_given (CameOf state old) (CameOf state new) (IsPacked state new) (EndsBy new)
+    (SetAttribute path (codes "mtime") (decimal seconds))
+    (gives_mtime state old c.args.found.now seconds reader
+    c.requires c.in-Some.is (subst (λ (command : Command). AddsCommand old.reader reader command true) is
+    c.in_ok-add.ensures.added))))
 
 pub returns-in_err-add-clause-next : goal.returns-in_err-add-clause-next
 returns-in_err-add-clause-next g c =
@@ -33,10 +40,17 @@ returns-in_err-add-clause-next g c =
     let old = c.args.self.now in
     let found = c.args.found.now in
     let seconds = c.in-Some.seconds in
-    let here = ap (λ (s : FolderStream g.row.F.Denot). found_at s.place s.at s.found.items) c.add.ensures.same ∙ ap (λ (p : Place). found_at p old.at old.found.items) c.requires in
-    let digits : c.new.result ≡ decimal seconds = cc (c.new.ensures, c.as_slice.ensures, c.push_long.ensures.value, c.new-digits.ensures) in
+    let here = ap (λ (s : FolderStream g.row.F.Denot). found_at s.place s.at s.found.items) c.add.ensures.same
+    ∙ ap (λ (p : Place). found_at p old.at old.found.items) c.requires in
+    let digits : c.new.result ≡ decimal seconds =
+    cc (c.new.ensures, c.as_slice.ensures, c.push_long.ensures.value, c.new-digits.ensures) in
     let command = SetAttribute found.path c.attribute_name.result c.new.result in
     let is = ap₂ (λ (name bytes : List ℕ). SetAttribute found.path name bytes) c.attribute_name.ensures.value digits in
-    let asks : AsksFor found command = subst (λ (d : Command). AsksFor found d) (sym is) (refl, mtime_asked found seconds c.in-Some.is) in
-    next_failed (CameOf state old) (CameOf state c.add.new.self) (IsPacked state c.add.new.self) (EndsBy c.add.new.self) command c.from_residual.result c.in_err-add.field-0.0 c.from_residual.ensures.1 (λ t was.
-    ends_so state old c.add.new.self t found command c.add.new.self.reader c.in_err-add.field-0.0 c.in_err-add.ensures.fault was c.in_err-add.ensures.refused here asks)
+    let asks : AsksFor found command =
+    subst (λ (d : Command). AsksFor found d) (sym is) (refl, mtime_asked found seconds c.in-Some.is) in
+    next_failed (CameOf state old) (CameOf state c.add.new.self) (IsPacked state c.add.new.self)
+    (EndsBy c.add.new.self) command c.from_residual.result c.in_err-add.field-0.0
+    c.from_residual.ensures.1 (λ t was.
+    ends_so state old c.add.new.self t found command
+    c.add.new.self.reader c.in_err-add.field-0.0 c.in_err-add.ensures.fault was
+    c.in_err-add.ensures.refused here asks)

@@ -6,7 +6,8 @@ use Rattle.store_model.proofs.PlacementLemmas.{length-place}
 use Rattle.layout_opinion.proofs.tests.table.layout_of.Goals as goal
 
 -- what is a placement has all slots
-placed_len : {E : Type 0} (d : Draw) (pages : List Page) (r : Result Table E) → IfOk r (λ table. table ≡ place d pages) → IfOk r (λ table. length table ≡ d.slots)
+placed_len : {E : Type 0} (d : Draw) (pages : List Page) (r : Result Table E) → IfOk r (λ table. table ≡ place d pages)
+    → IfOk r (λ table. length table ≡ d.slots)
 placed_len d pages (Ok table) is = ap length is ∙ length-place d pages
 placed_len d pages (Err fault) is = tt
 

@@ -27,5 +27,14 @@ pub returns-clause-tree : goal.returns-clause-tree
 unfolding everything
 returns-clause-tree c = record {
   sorted = refl;
-  entries = (record { path = refl; below_root = refl; parent_directory = refl; node = tt; attributes = record { sorted = refl; each = (none, (one, (longest, tt))) } }, tt);
+  entries = (
+    record {
+      path = refl;
+      below_root = refl;
+      parent_directory = refl;
+      node = tt;
+      attributes = record { sorted = refl; each = (none, (one, (longest, tt))) };
+    },
+    tt,
+  );
 }

@@ -34,7 +34,14 @@ is_page = record {
   label = record { level = omega arith; lead = tt; index = omega arith };
   some_cell = omega arith;
   room = omega arith;
-  cells = (record { key_length = refl; key_bytes = bytes_of_key; value = (refl, (omega arith, omega arith, bytes_from_all (1 ∷ []) (omega arith, tt))) }, tt);
+  cells = (
+    record {
+      key_length = refl;
+      key_bytes = bytes_of_key;
+      value = (refl, (omega arith, omega arith, bytes_from_all (1 ∷ []) (omega arith, tt)));
+    },
+    tt,
+  );
   rising = rising_one key_cmp (key_of (codes "a"));
 }
 

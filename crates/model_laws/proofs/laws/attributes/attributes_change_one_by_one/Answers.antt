@@ -1,4 +1,5 @@
-use Rattle.model_laws.proofs.AttributesLemmas.{nodes_after_set, nodes_after_unset, attribute_at-set_step, attribute_at-unset_step}
+use Rattle.model_laws.proofs.AttributesLemmas.{nodes_after_set, nodes_after_unset, attribute_at-set_step}
+use Rattle.model_laws.proofs.AttributesLemmas.{attribute_at-unset_step}
 use Rattle.model_laws.proofs.laws.attributes.attributes_change_one_by_one.Goals as goal
 
 pub returns-clause-nodes_after_set : goal.returns-clause-nodes_after_set

@@ -1,4 +1,5 @@
-use Rattle.model_laws.proofs.AttributesLemmas.{attributes_at-remove_step, attributes_at-prune_step, attributes_at-rename_step}
+use Rattle.model_laws.proofs.AttributesLemmas.{attributes_at-remove_step, attributes_at-prune_step}
+use Rattle.model_laws.proofs.AttributesLemmas.{attributes_at-rename_step}
 use Rattle.model_laws.proofs.laws.attributes.attributes_go_with_their_paths.Goals as goal
 
 pub returns-clause-rename : goal.returns-clause-rename

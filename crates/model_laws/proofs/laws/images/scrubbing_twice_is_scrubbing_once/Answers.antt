@@ -1,4 +1,6 @@
-use Rattle.store_model.proofs.ImagesLemmasScrubbed.{scrubbed_slot-zero, scrubbed_slot-kept, length-scrubbed, scrubbed-layout, scrubbed-scrubbed, scrubbed-recovered, recovered-scrubbed}
+use Rattle.store_model.proofs.ImagesLemmasScrubbed.{scrubbed_slot-zero, scrubbed_slot-kept, length-scrubbed}
+use Rattle.store_model.proofs.ImagesLemmasScrubbed.{scrubbed-layout, scrubbed-scrubbed, scrubbed-recovered}
+use Rattle.store_model.proofs.ImagesLemmasScrubbed.{recovered-scrubbed}
 use Rattle.model_laws.proofs.laws.images.scrubbing_twice_is_scrubbing_once.Goals as goal
 
 pub returns-clause-zero : goal.returns-clause-zero

@@ -1,4 +1,6 @@
-use Rattle.store_model.proofs.PageMapsLemmas.{rising_page_map, pages_of_page_map, map_of_pages-pages_of_map, len-pages_of_map, pages_of_map-map_of_pages, pages_of_rising_map, pages_of_pairs_map, pages_of_map-with_page, pages_of_map-without_page}
+use Rattle.store_model.proofs.PageMapsLemmas.{rising_page_map, pages_of_page_map, map_of_pages-pages_of_map}
+use Rattle.store_model.proofs.PageMapsLemmas.{len-pages_of_map, pages_of_map-map_of_pages, pages_of_rising_map}
+use Rattle.store_model.proofs.PageMapsLemmas.{pages_of_pairs_map, pages_of_map-with_page, pages_of_map-without_page}
 use Rattle.model_laws.proofs.laws.page_maps.maps_list_their_pages_by_rank.Goals as goal
 
 pub returns-clause-rise : goal.returns-clause-rise

@@ -1,4 +1,6 @@
-use Rattle.store_model.proofs.PageMapsLemmas.{HoldsPages-slots_of, table_of_held_map, HoldsPages-table_of, one_held_map, found_stands, standing_found, HoldsPages-lookups, HoldsPages-place, HoldsPages-tree}
+use Rattle.store_model.proofs.PageMapsLemmas.{HoldsPages-slots_of, table_of_held_map, HoldsPages-table_of, one_held_map}
+use Rattle.store_model.proofs.PageMapsLemmas.{found_stands, standing_found, HoldsPages-lookups, HoldsPages-place}
+use Rattle.store_model.proofs.PageMapsLemmas.{HoldsPages-tree}
 use Rattle.model_laws.proofs.laws.page_maps.ordered_tables_hold_their_pages.Goals as goal
 
 pub returns-clause-held : goal.returns-clause-held

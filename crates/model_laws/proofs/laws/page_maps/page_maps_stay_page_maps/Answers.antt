@@ -1,4 +1,5 @@
-use Rattle.store_model.proofs.PageMapsLemmas.{IsPageMap-empty, IsPageMap-with_page, IsPageMap-without_page, IsPageMap-map_of_pages, IsPageMap-pages_of_pairs}
+use Rattle.store_model.proofs.PageMapsLemmas.{IsPageMap-empty, IsPageMap-with_page, IsPageMap-without_page}
+use Rattle.store_model.proofs.PageMapsLemmas.{IsPageMap-map_of_pages, IsPageMap-pages_of_pairs}
 use Rattle.model_laws.proofs.laws.page_maps.page_maps_stay_page_maps.Goals as goal
 
 pub returns-clause-empty : goal.returns-clause-empty

@@ -1,4 +1,5 @@
-use Rattle.store_model.proofs.PageMapsLemmas.{page_at-with_page, page_at-without_page, page_at-map_of_pages, found_where_listed}
+use Rattle.store_model.proofs.PageMapsLemmas.{page_at-with_page, page_at-without_page, page_at-map_of_pages}
+use Rattle.store_model.proofs.PageMapsLemmas.{found_where_listed}
 use Rattle.model_laws.proofs.laws.page_maps.pages_are_found_under_their_labels.Goals as goal
 
 pub returns-clause-with_page : goal.returns-clause-with_page

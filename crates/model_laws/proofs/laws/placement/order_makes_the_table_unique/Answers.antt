@@ -1,5 +1,6 @@
 use Rattle.store_model.proofs.PlacementLemmasOrder.{one_table_in_order, place_is_the_only_order}
-use Rattle.store_model.proofs.PlacementLemmasTables.{one_ordered_table, ordered_table_is_place, distinct_labels_of_table}
+use Rattle.store_model.proofs.PlacementLemmasTables.{one_ordered_table, ordered_table_is_place}
+use Rattle.store_model.proofs.PlacementLemmasTables.{distinct_labels_of_table}
 use Rattle.model_laws.proofs.laws.placement.order_makes_the_table_unique.Goals as goal
 
 pub returns-clause-one_ordered_table : goal.returns-clause-one_ordered_table

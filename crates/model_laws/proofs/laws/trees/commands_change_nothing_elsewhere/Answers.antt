@@ -1,4 +1,5 @@
-use Rattle.model_laws.proofs.WithinLemmas.{node_at-step_elsewhere, attributes_at-step_elsewhere, node_at-lines_elsewhere, attributes_at-lines_elsewhere}
+use Rattle.model_laws.proofs.WithinLemmas.{node_at-step_elsewhere, attributes_at-step_elsewhere}
+use Rattle.model_laws.proofs.WithinLemmas.{node_at-lines_elsewhere, attributes_at-lines_elsewhere}
 use Rattle.model_laws.proofs.laws.trees.commands_change_nothing_elsewhere.Goals as goal
 
 pub returns-clause-command : goal.returns-clause-command

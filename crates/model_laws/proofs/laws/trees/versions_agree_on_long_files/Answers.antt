@@ -17,18 +17,24 @@ long_is_not_inline One n long = refl
 long_is_not_inline Two n long = lt-leb n 200 long
 
 -- what stands at a path has the same pairs
-same_node : (path : Path) (node : Node) (p : Parameters) (version : Version) → ((bytes : List ℕ) → node ≡ File bytes → 200 < length bytes) → node_pairs path node (with_version p version) ≡ node_pairs path node p
+same_node : (path : Path) (node : Node) (p : Parameters) (version : Version)
+    → ((bytes : List ℕ) → node ≡ File bytes → 200 < length bytes)
+    → node_pairs path node (with_version p version) ≡ node_pairs path node p
 unfolding node_pairs
 same_node path Directory p version none = refl
 same_node path (File bytes) p version none =
     let long = none bytes refl in
-    ap (λ (b : Bool). file_pairs b path bytes) (long_is_not_inline version (length bytes) long ∙ sym (long_is_not_inline p.version (length bytes) long))
+    ap (λ (b : Bool). file_pairs b path bytes)
+    (long_is_not_inline version (length bytes) long ∙ sym (long_is_not_inline p.version (length bytes) long))
 
 -- and so has a tree
-same_pairs : (t : Tree) (p : Parameters) (version : Version) → AllByRecursion HasNoShortFile t → pairs t (with_version p version) ≡ pairs t p
+same_pairs : (t : Tree) (p : Parameters) (version : Version) → AllByRecursion HasNoShortFile t
+    → pairs t (with_version p version) ≡ pairs t p
 unfolding pairs
 same_pairs [] p version none = refl
-same_pairs (e ∷ t) p version none = ap₂ ◌++◌ (ap (λ node. node ++ attribute_pairs e.0 e.1.attributes) (same_node e.0 e.1.node p version none.0)) (same_pairs t p version none.1)
+same_pairs (e ∷ t) p version none =
+    ap₂ ◌++◌ (ap (λ node. node ++ attribute_pairs e.0 e.1.attributes) (same_node e.0 e.1.node p version none.0))
+    (same_pairs t p version none.1)
 
 pub returns : goal.returns
 returns c = same_pairs

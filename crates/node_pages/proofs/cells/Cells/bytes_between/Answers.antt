@@ -8,12 +8,29 @@ use Rattle.node_pages.proofs.cells.Cells.bytes_between.Goals as goal
 
 pub cells_between-requires-clause-within : goal.cells_between-requires-clause-within
 cells_between-requires-clause-within c =
-    let within : c.args.past ≤ c.self.inside.count = omega (arith, c.requires.within, listed c.self.inside.level c.self.inside.count c.self.inside.bytes.items c.args.self.now c.self.view_is) in
-    subst (λ (xs : List ℕ). cell_size c.self.inside.level * c.args.past ≤ length xs) (sym c.deref.ensures.value) (packed_within c.self.inside.level c.self.inside.count c.args.past c.self.inside.bytes.items c.self.invariant within)
+    let within : c.args.past ≤ c.self.inside.count =
+    omega (
+      arith,
+      c.requires.within,
+      listed c.self.inside.level c.self.inside.count c.self.inside.bytes.items
+          c.args.self.now c.self.view_is,
+    ) in
+    subst (λ (xs : List ℕ). cell_size c.self.inside.level * c.args.past ≤ length xs) (sym c.deref.ensures.value)
+    (packed_within c.self.inside.level c.self.inside.count c.args.past c.self.inside.bytes.items
+    c.self.invariant within)
 
 pub returns : goal.returns
 returns c =
-    let within : c.args.past ≤ c.self.inside.count = omega (arith, c.requires.within, listed c.self.inside.level c.self.inside.count c.self.inside.bytes.items c.args.self.now c.self.view_is) in
-    c.cells_between.ensures ∙ ap (λ (xs : List ℕ). drop (cell_size c.self.inside.level * c.args.first) (take (cell_size c.self.inside.level * c.args.past) xs)) c.deref.ensures.value
-    ∙ packed_between c.self.inside.level c.self.inside.count c.args.first c.args.past c.self.inside.bytes.items c.self.invariant c.requires.order within
+    let within : c.args.past ≤ c.self.inside.count =
+    omega (
+      arith,
+      c.requires.within,
+      listed c.self.inside.level c.self.inside.count c.self.inside.bytes.items
+          c.args.self.now c.self.view_is,
+    ) in
+    c.cells_between.ensures
+    ∙ ap (λ (xs : List ℕ). drop (cell_size c.self.inside.level * c.args.first)
+    (take (cell_size c.self.inside.level * c.args.past) xs)) c.deref.ensures.value
+    ∙ packed_between c.self.inside.level c.self.inside.count c.args.first c.args.past c.self.inside.bytes.items
+    c.self.invariant c.requires.order within
     ∙ ap (λ (l : CellList). flat_map cell_bytes (drop c.args.first (take c.args.past l.cells))) c.self.view_is

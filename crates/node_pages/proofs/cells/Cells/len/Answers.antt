@@ -8,4 +8,5 @@ returns-clause-value c =
 
 pub returns-clause-valid : goal.returns-clause-valid
 returns-clause-valid c =
-    list_valid c.self.inside.level c.self.inside.count c.self.inside.bytes.items c.args.self.now c.self.invariant c.self.view_is
+    list_valid c.self.inside.level c.self.inside.count c.self.inside.bytes.items c.args.self.now
+    c.self.invariant c.self.view_is

@@ -13,4 +13,5 @@ returns c =
     let level = c.self.inside.level in
     let cells = cells_in level c.self.inside.count c.self.inside.bytes.items in
     subst (λ (l : CellList). c.div_ceil.result ≡ length (runs (page_room l.level) l.cells)) c.self.view_is
-    (c.div_ceil.ensures ∙ ap₂ div_ceil (sym (length-cells_in level c.self.inside.count c.self.inside.bytes.items)) (c.from.ensures ∙ c.room.ensures) ∙ div_ceil-room level (length cells) ∙ sym (length-runs level cells))
+    (c.div_ceil.ensures ∙ ap₂ div_ceil (sym (length-cells_in level c.self.inside.count c.self.inside.bytes.items))
+    (c.from.ensures ∙ c.room.ensures) ∙ div_ceil-room level (length cells) ∙ sym (length-runs level cells))

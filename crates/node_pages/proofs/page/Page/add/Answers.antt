@@ -10,7 +10,8 @@ pub append-requires-clause-room : goal.append-requires-clause-room
 append-requires-clause-room c =
     let page = page_in c.self.inside.label c.self.inside.slot in
     let room = subst (λ (p : Page). length p.cells < page_room p.label.level) (sym c.self.view_is) c.requires.room in
-    subst (λ n. n < page_room page.label.level) (sym (count_in_slot page c.self.inside.slot c.self.invariant.page.label c.self.invariant.bytes)) room
+    subst (λ n. n < page_room page.label.level)
+    (sym (count_in_slot page c.self.inside.slot c.self.invariant.page.label c.self.invariant.bytes)) room
 
 pub append-requires-clause-blank : goal.append-requires-clause-blank
 append-requires-clause-blank c =
@@ -22,16 +23,22 @@ invariant_of-self c =
     let page = page_in c.self.inside.label c.self.inside.slot in
     let cell = subst (λ (p : Page). IsCell p.label.level c.args.cell.now) (sym c.self.view_is) c.requires.cell in
     let room = subst (λ (p : Page). length p.cells < page_room p.label.level) (sym c.self.view_is) c.requires.room in
-    let rising = subst (λ (p : Page). IsStrictlySortedBy key_cmp (map (λ (x : Cell). x.key) (p.cells ++ c.args.cell.now ∷ []))) (sym c.self.view_is) c.requires.rising in
-    (grown page c.self.inside.slot c.append.new.slot c.args.cell.now c.self.invariant.page.label c.self.invariant.page.cells c.self.invariant.bytes cell room rising c.append.ensures).holds
+    let rising =
+    subst (λ (p : Page). IsStrictlySortedBy key_cmp (map (λ (x : Cell). x.key) (p.cells ++ c.args.cell.now ∷ [])))
+    (sym c.self.view_is) c.requires.rising in
+    (grown page c.self.inside.slot c.append.new.slot c.args.cell.now c.self.invariant.page.label
+    c.self.invariant.page.cells c.self.invariant.bytes cell room rising c.append.ensures).holds
 
 pub returns-clause-value : goal.returns-clause-value
 returns-clause-value c =
     let page = page_in c.self.inside.label c.self.inside.slot in
     let cell = subst (λ (p : Page). IsCell p.label.level c.args.cell.now) (sym c.self.view_is) c.requires.cell in
     let room = subst (λ (p : Page). length p.cells < page_room p.label.level) (sym c.self.view_is) c.requires.room in
-    let rising = subst (λ (p : Page). IsStrictlySortedBy key_cmp (map (λ (x : Cell). x.key) (p.cells ++ c.args.cell.now ∷ []))) (sym c.self.view_is) c.requires.rising in
-    (grown page c.self.inside.slot c.append.new.slot c.args.cell.now c.self.invariant.page.label c.self.invariant.page.cells c.self.invariant.bytes cell room rising c.append.ensures).read
+    let rising =
+    subst (λ (p : Page). IsStrictlySortedBy key_cmp (map (λ (x : Cell). x.key) (p.cells ++ c.args.cell.now ∷ [])))
+    (sym c.self.view_is) c.requires.rising in
+    (grown page c.self.inside.slot c.append.new.slot c.args.cell.now c.self.invariant.page.label
+    c.self.invariant.page.cells c.self.invariant.bytes cell room rising c.append.ensures).read
     ∙ ap (λ (p : Page). record { label = p.label; cells = p.cells ++ c.args.cell.now ∷ [] }) c.self.view_is
 
 pub returns-clause-valid : goal.returns-clause-valid

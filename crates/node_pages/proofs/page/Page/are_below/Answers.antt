@@ -13,7 +13,10 @@ returns-else-past-eq0 c =
     let within : i < length cells = omega (arith, c.requires) in
     let last = c.key_bytes.result.now in (
       λ yes. subst (λ n. AllByRecursion (λ k. key_cmp k key ≡ Less) (keys (take n cells))) next
-          (all_below i cells last key c.key_bytes.ensures.valid.0.rising within c.key_bytes.ensures.value (subst (λ k. key_cmp last k ≡ Less) c.as_bytes.ensures.value (c.is_below.ensures.0 yes))),
+          (all_below i cells last key c.key_bytes.ensures.valid.0.rising within
+          c.key_bytes.ensures.value (subst (λ k. key_cmp last k ≡ Less)
+          c.as_bytes.ensures.value (c.is_below.ensures.0 yes))),
       λ all. c.is_below.ensures.1 (subst (λ k. key_cmp last k ≡ Less) (sym c.as_bytes.ensures.value)
-          (last_below i cells last key within c.key_bytes.ensures.value (subst (λ n. AllByRecursion (λ k. key_cmp k key ≡ Less) (keys (take n cells))) (sym next) all))),
+          (last_below i cells last key within c.key_bytes.ensures.value
+          (subst (λ n. AllByRecursion (λ k. key_cmp k key ≡ Less) (keys (take n cells))) (sym next) all))),
     )

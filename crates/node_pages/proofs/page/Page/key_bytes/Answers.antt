@@ -4,10 +4,24 @@ use Rattle.node_pages.proofs.Packed.{cell_at, key_at}
 use Rattle.node_pages.proofs.page.Page.key_bytes.Goals as goal
 
 pub key_part-requires : goal.key_part-requires
-key_part-requires c = omega (arith, (cell_at c.args.self.now.label.level c.args.i c.args.self.now.cells c.bytes_between.result.now c.reveal.ensures.valid.cells c.requires c.bytes_between.ensures).long, key_within c.args.self.now.label.level)
+key_part-requires c =
+    omega (
+      arith,
+      (cell_at c.args.self.now.label.level c.args.i c.args.self.now.cells c.bytes_between.result.now
+          c.reveal.ensures.valid.cells c.requires c.bytes_between.ensures).long,
+      key_within c.args.self.now.label.level,
+    )
 
 pub returns-clause-value : goal.returns-clause-value
-returns-clause-value c = (key_at c.args.self.now.label.level c.args.i c.args.self.now.cells c.bytes_between.result.now c.key_part.result.now (cell_at c.args.self.now.label.level c.args.i c.args.self.now.cells c.bytes_between.result.now c.reveal.ensures.valid.cells c.requires c.bytes_between.ensures) c.key_part.ensures).0
+returns-clause-value c =
+    (key_at c.args.self.now.label.level c.args.i c.args.self.now.cells c.bytes_between.result.now c.key_part.result.now
+    (cell_at c.args.self.now.label.level c.args.i c.args.self.now.cells c.bytes_between.result.now
+    c.reveal.ensures.valid.cells c.requires c.bytes_between.ensures) c.key_part.ensures).0
 
 pub returns-clause-valid : goal.returns-clause-valid
-returns-clause-valid c = (c.reveal.ensures.valid, (key_at c.args.self.now.label.level c.args.i c.args.self.now.cells c.bytes_between.result.now c.key_part.result.now (cell_at c.args.self.now.label.level c.args.i c.args.self.now.cells c.bytes_between.result.now c.reveal.ensures.valid.cells c.requires c.bytes_between.ensures) c.key_part.ensures).1)
+returns-clause-valid c = (
+  c.reveal.ensures.valid,
+  (key_at c.args.self.now.label.level c.args.i c.args.self.now.cells c.bytes_between.result.now c.key_part.result.now
+      (cell_at c.args.self.now.label.level c.args.i c.args.self.now.cells c.bytes_between.result.now
+      c.reveal.ensures.valid.cells c.requires c.bytes_between.ensures) c.key_part.ensures).1,
+)

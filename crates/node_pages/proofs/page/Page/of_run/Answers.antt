@@ -9,8 +9,16 @@ fill-requires-clause-room c =
 
 pub invariant_of-result : goal.invariant_of-result
 invariant_of-result c =
-    IsSlotOf-page_bytes (record { label = c.args.label; cells = cells_in c.args.label.level c.args.count c.args.run.now }) c.fill.new.slot c.requires.page (sym c.fill.ensures)
+    IsSlotOf-page_bytes (record {
+      label = c.args.label;
+      cells = cells_in c.args.label.level c.args.count c.args.run.now;
+    })
+    c.fill.new.slot c.requires.page (sym c.fill.ensures)
 
 pub returns : goal.returns
 returns c =
-    page_in-page_bytes (record { label = c.args.label; cells = cells_in c.args.label.level c.args.count c.args.run.now }) c.fill.new.slot c.requires.page.label c.requires.page.cells (sym c.fill.ensures)
+    page_in-page_bytes (record {
+      label = c.args.label;
+      cells = cells_in c.args.label.level c.args.count c.args.run.now;
+    })
+    c.fill.new.slot c.requires.page.label c.requires.page.cells (sym c.fill.ensures)

@@ -5,10 +5,13 @@ use Rattle.node_pages.proofs.page.Page.value.Goals as goal
 
 pub value_part-requires : goal.value_part-requires
 value_part-requires c =
-    let at = page_cell_at c.self.inside.label c.self.inside.slot c.args.i c.level_of.result c.bytes_between.result.now c.args.self.now c.self.invariant c.self.view_is c.level_of.ensures c.requires c.bytes_between.ensures in
+    let at = page_cell_at c.self.inside.label c.self.inside.slot c.args.i c.level_of.result c.bytes_between.result.now
+    c.args.self.now c.self.invariant c.self.view_is c.level_of.ensures c.requires c.bytes_between.ensures in
     record { long = at.long; valid = at.spells }
 
 pub returns : goal.returns
 returns c =
-    let at = page_cell_at c.self.inside.label c.self.inside.slot c.args.i c.level_of.result c.bytes_between.result.now c.args.self.now c.self.invariant c.self.view_is c.level_of.ensures c.requires c.bytes_between.ensures in
-    subst (λ found. IfSome found (λ (cell : Cell). cell.value ≡ c.value_part.result)) (sym at.got) (sym c.value_part.ensures)
+    let at = page_cell_at c.self.inside.label c.self.inside.slot c.args.i c.level_of.result c.bytes_between.result.now
+    c.args.self.now c.self.invariant c.self.view_is c.level_of.ensures c.requires c.bytes_between.ensures in
+    subst (λ found. IfSome found (λ (cell : Cell). cell.value ≡ c.value_part.result)) (sym at.got)
+    (sym c.value_part.ensures)

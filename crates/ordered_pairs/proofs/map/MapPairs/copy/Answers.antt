@@ -11,7 +11,8 @@ loop-key-preserved c = grind (arith, common_steps, c.in_ok-push.ensures.items, c
 -- all pairs are copied
 pub invariant_of-result : goal.invariant_of-result
 invariant_of-result c =
-    let copied = c.loop-key.invariant ∙ take_all c.loop-key.key-index c.deref-key-items.result.now c.loop-key-test.false ∙ c.deref-key-items.ensures.value in
+    let copied = c.loop-key.invariant ∙ take_all c.loop-key.key-index c.deref-key-items.result.now c.loop-key-test.false
+    ∙ c.deref-key-items.ensures.value in
     record {
       valid = subst IsPairs (sym copied) c.args.self.now.valid;
       few = subst (λ s. length s ≤ most_pairs) (sym copied) c.args.self.now.few;

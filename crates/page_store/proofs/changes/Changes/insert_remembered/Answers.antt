@@ -20,5 +20,7 @@ returns-clause-ok c =
     let takes = subst (λ (x : Page). TakesCell x at cell) same (c.insert.ensures.takes.0 c.if-not-insert.false) in
     let is = c.insert.ensures.value c.if-not-insert.false ∙ ap (λ (x : Page). with_cell x at cell) same in
     on_ok_weaker c.keep.result
-    (λ put. put_cell old c.keep.new.self.pages.entries memo l at cell page c.requires (subst (IsRemembered memo l) c.in-Some-Some.field-0-is c.in-Some-Some.ensures.found) takes (put ∙ ap (λ (x : Page). insert_entry label_cmp old l (Some x)) is))
+    (λ put. put_cell old c.keep.new.self.pages.entries memo l at cell page
+    c.requires (subst (IsRemembered memo l) c.in-Some-Some.field-0-is c.in-Some-Some.ensures.found) takes
+    (put ∙ ap (λ (x : Page). insert_entry label_cmp old l (Some x)) is))
     c.keep.ensures.ok

@@ -14,7 +14,9 @@ returns-in-Some-clause-done c = λ memo is.
     let old = c.args.self.now.pages.entries in
     let now = c.insert_into.new.change in
     let did : c.insert_into.result ≡ true = cc in
-    written_cell old (c.get_mut.follows.lender now).entries memo c.args.label.now c.args.at c.args.cell.now c.in-Some.change.now now (sym c.in-Some.ensures.value) (c.insert_into.ensures.done did) (c.get_mut.follows.holds now).0
+    written_cell old (c.get_mut.follows.lender now).entries memo
+    c.args.label.now c.args.at c.args.cell.now c.in-Some.change.now now (sym c.in-Some.ensures.value)
+    (c.insert_into.ensures.done did) (c.get_mut.follows.holds now).0
 
 pub returns-in-Some-clause-kept : goal.returns-in-Some-clause-kept
 returns-in-Some-clause-kept c = λ is_not.

@@ -15,7 +15,9 @@ returns-in-Some-clause-call g c =
     found_by_read _ _ _ changes label c.in-Some.page.now c.is_some.result read c.is_some.ensures
 
 pub returns-clause-call : goal.returns-clause-call
-returns-clause-call g c = found_by_place _ _ _ c.args.changes.now.pages.entries c.args.label.now c.in_ok-at.at c.is_some-2.result (sym (c.in_default.ensures.unstaged refl)) c.in_ok-at.ensures.call c.is_some-2.ensures
+returns-clause-call g c = found_by_place _ _ _
+    c.args.changes.now.pages.entries c.args.label.now c.in_ok-at.at c.is_some-2.result
+    (sym (c.in_default.ensures.unstaged refl)) c.in_ok-at.ensures.call c.is_some-2.ensures
 
 pub invariant_of-self : goal.invariant_of-self
 invariant_of-self g c =
@@ -25,5 +27,7 @@ invariant_of-self g c =
     let new = slots_seen g.D.Disk.state c.locate.new.slots in
     record {
       drawn = rw c.locate.ensures.draw (ap (λ (p : Parameters). p.slots) c.locate.ensures.follows.params ∙ s.drawn);
-      remembered = rw c.locate.ensures.draw (memo_read d old new s.memo c.locate.result c.locate.ensures.call.calls c.locate.ensures.call.reads s.remembered);
+      remembered =
+          rw c.locate.ensures.draw (memo_read d old new
+          s.memo c.locate.result c.locate.ensures.call.calls c.locate.ensures.call.reads s.remembered);
     }

@@ -12,10 +12,12 @@ invariant_of-self-2 g c =
     let d = g.W.Draw.drawn s.finder.draw in
     let old = slots_seen g.D.Disk.state s.overlay in
     let new = slots_seen g.D.Disk.state c.get.new.self in
-    let read = page_read d old old new c.args.label.now c.args.at c.get.new.into c.decode_page.result c.requires c.in_ok-get.ensures.call c.decode_page.ensures.only in
+    let read = page_read d old old new c.args.label.now c.args.at c.get.new.into c.decode_page.result c.requires
+    c.in_ok-get.ensures.call c.decode_page.ensures.only in
     record {
       drawn = ap (λ (p : Parameters). p.slots) c.in_ok-get.ensures.follows.params ∙ s.drawn;
-      remembered = memo_more d old new s.memo c.remember.new.self c.args.label.now _ read s.remembered c.remember.ensures;
+      remembered = memo_more d old new s.memo c.remember.new.self c.args.label.now _ read
+          s.remembered c.remember.ensures;
     }
 
 pub returns-clause-call : goal.returns-clause-call

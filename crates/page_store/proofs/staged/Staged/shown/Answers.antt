@@ -13,6 +13,11 @@ returns-in-Some-clause-found g c =
     let d = g.W.Draw.drawn s.lookup.finder.draw in
     let p = s.lookup.overlay.params in
     let label = c.args.label.now in
-    let read = known_read d _ s.changes.pages.entries s.lookup.memo label c.in-Some.page.now s.lookup.remembered c.in-Some.ensures.found in
-    subst (λ (x : StagedState g.row.D.Denot g.row.W.Denot). IsTold state x → option_copied c.behind.result ≡ page_at x.map label) c.self.view_is
-    (λ told. c.behind.ensures ∙ read.found (pages_in_table p.slots (state s.lookup.overlay.disk).bytes) told.disk (held_over d p (state s.lookup.overlay.disk) s.lookup.overlay.touched.entries s.changes.pages.entries s.used s.settled s.is_spent c.self.invariant told.disk told.runs))
+    let read = known_read d _ s.changes.pages.entries s.lookup.memo label
+    c.in-Some.page.now s.lookup.remembered c.in-Some.ensures.found in
+    subst (λ (x : StagedState g.row.D.Denot g.row.W.Denot). IsTold state x
+    → option_copied c.behind.result ≡ page_at x.map label) c.self.view_is
+    (λ told. c.behind.ensures ∙ read.found (pages_in_table p.slots (state s.lookup.overlay.disk).bytes)
+    told.disk (held_over d p (state s.lookup.overlay.disk)
+    s.lookup.overlay.touched.entries s.changes.pages.entries s.used s.settled s.is_spent
+    c.self.invariant told.disk told.runs))

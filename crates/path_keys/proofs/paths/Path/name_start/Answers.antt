@@ -9,12 +9,14 @@ slice_bounds-last_start-count c = len_above_zero _ _ _ (field_of_view _ _ _ c.se
 
 pub returns-clause-value : goal.returns-clause-value
 returns-clause-value c =
-    start_found c.self.inside.bytes c.self.inside.len c.args.self.now c.last_start.result (field_of_view _ _ _ c.self.invariant c.self.view_is) c.requires
+    start_found c.self.inside.bytes c.self.inside.len c.args.self.now c.last_start.result
+    (field_of_view _ _ _ c.self.invariant c.self.view_is) c.requires
     c.last_start.ensures.front c.last_start.ensures.within c.last_start.ensures.behind
 
 pub returns-clause-within : goal.returns-clause-within
 returns-clause-within c =
     subst (λ n. n < field_len c.args.self.now)
-    (sym (start_found c.self.inside.bytes c.self.inside.len c.args.self.now c.last_start.result (field_of_view _ _ _ c.self.invariant c.self.view_is) c.requires
+    (sym (start_found c.self.inside.bytes c.self.inside.len c.args.self.now c.last_start.result
+    (field_of_view _ _ _ c.self.invariant c.self.view_is) c.requires
     c.last_start.ensures.front c.last_start.ensures.within c.last_start.ensures.behind))
     (start_within _ _ _ (field_of_view _ _ _ c.self.invariant c.self.view_is) c.requires)

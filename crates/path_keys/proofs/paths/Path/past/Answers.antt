@@ -11,7 +11,8 @@ overflow_sub-bytes c = len_above_zero _ _ _ (field_of_view _ _ _ c.self.invarian
 
 pub returns-clause-value : goal.returns-clause-value
 returns-clause-value c =
-    c.new.ensures.value ∙ ap₂ (λ t n. set t (n - 1) 1) (c.as_bytes.ensures.value ∙ c.key.ensures.value) (field_of_view _ _ _ c.self.invariant c.self.view_is).len_is
+    c.new.ensures.value ∙ ap₂ (λ t n. set t (n - 1) 1) (c.as_bytes.ensures.value ∙ c.key.ensures.value)
+    (field_of_view _ _ _ c.self.invariant c.self.view_is).len_is
 
 pub returns-clause-above : goal.returns-clause-above
 returns-clause-above c q block h inside =
@@ -21,9 +22,12 @@ returns-clause-above c q block h inside =
 pub returns-clause-below : goal.returns-clause-below
 returns-clause-below c q block h apart less =
     ap (λ t. model.key_cmp t (model.key q block)) (returns-clause-value c ∙ past_written c.args.self.now c.requires)
-    ∙ past_before_later c.args.self.now q block c.requires (field_of_view _ _ _ c.self.invariant c.self.view_is).path h apart less
+    ∙ past_before_later c.args.self.now q block
+    c.requires (field_of_view _ _ _ c.self.invariant c.self.view_is).path h apart less
 
 pub returns-clause-not_above : goal.returns-clause-not_above
 returns-clause-not_above c q block h apart less =
-    ap (λ t. is_le (model.key_cmp t (model.key q block))) (returns-clause-value c ∙ past_written c.args.self.now c.requires)
-    ∙ past_not_above c.args.self.now q block c.requires (field_of_view _ _ _ c.self.invariant c.self.view_is).path h apart less
+    ap (λ t. is_le (model.key_cmp t (model.key q block)))
+    (returns-clause-value c ∙ past_written c.args.self.now c.requires)
+    ∙ past_not_above c.args.self.now q block c.requires (field_of_view _ _ _ c.self.invariant c.self.view_is).path h
+    apart less

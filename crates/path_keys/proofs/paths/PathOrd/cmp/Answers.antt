@@ -9,4 +9,6 @@ pub returns-clause-value : goal.returns-clause-value
 returns-clause-value c =
     let ours = field_of_view _ _ _ c.self.invariant c.self.view_is in
     let others = field_of_view _ _ _ c.other.invariant c.other.view_is in
-    c.cmp.ensures ∙ ap₂ (slice_cmp nat_cmp) ours.bytes_are others.bytes_are ∙ order_of_fields c.args.self.now c.args.other.now (place_of_path c.args.self.now ours.path) (place_of_path c.args.other.now others.path)
+    c.cmp.ensures ∙ ap₂ (slice_cmp nat_cmp) ours.bytes_are others.bytes_are
+    ∙ order_of_fields c.args.self.now c.args.other.now (place_of_path c.args.self.now ours.path)
+    (place_of_path c.args.other.now others.path)

@@ -19,8 +19,11 @@ returns-in_err-place g c =
     let kept = c.in_err-place.ensures in
     record {
       call =
-          subst (λ (r : Result Committed SessionFault). CallsSessions g.D.Disk.state (Commit c.args.id) committed_answer old old r) (sym (fault.1 ∙ ap (λ (f : SessionFault). Err f) fault.2))
-          (calls_unfound g.D.Disk.state g.met.D.Disk.sound (Commit c.args.id) committed_answer old kept.sized kept.kept c.args.id (ap unknown_of) c.in_err-place.field-0.0 kept.found);
+          subst (λ (r : Result Committed SessionFault).
+          CallsSessions g.D.Disk.state (Commit c.args.id) committed_answer old old r)
+          (sym (fault.1 ∙ ap (λ (f : SessionFault). Err f) fault.2))
+          (calls_unfound g.D.Disk.state g.met.D.Disk.sound (Commit c.args.id) committed_answer old
+          kept.sized kept.kept c.args.id (ap unknown_of) c.in_err-place.field-0.0 kept.found);
     }
 
 pub returns : goal.returns
@@ -29,10 +32,18 @@ returns g c =
     let inside = c.self.inside in
     let kept = c.in_ok-place.ensures in
     let now = c.commit_in.new in
-    let here = found_at old inside.store inside.places.items c.self.view_is c.in_ok-place.place c.args.id kept.found.1 kept.found.2 c.index_mut.result.now c.index_mut.ensures.value in
-    let commits = subst (λ (s : StoreState g.row.D.Denot). CommitsIn g.D.Disk.state s now.store c.index_mut.result.now now.place c.commit_in.result) (ap (λ (s : SessionsState g.row.D.Denot). s.store) c.self.view_is) c.commit_in.ensures in
+    let here = found_at old inside.store inside.places.items c.self.view_is c.in_ok-place.place c.args.id kept.found.1
+    kept.found.2 c.index_mut.result.now c.index_mut.ensures.value in
+    let commits = subst (λ (s : StoreState g.row.D.Denot).
+    CommitsIn g.D.Disk.state s now.store c.index_mut.result.now now.place c.commit_in.result)
+    (ap (λ (s : SessionsState g.row.D.Denot). s.store) c.self.view_is) c.commit_in.ensures in
     record {
       call =
-          subst (λ (s : SessionsState g.row.D.Denot). CallsSessions g.D.Disk.state (Commit c.args.id) committed_answer old s c.commit_in.result) (sym (same_new old inside.store inside.places.items c.self.view_is c.in_ok-place.place c.args.id kept.found.1 now.store now.place))
-          (commit_place g.D.Disk.state g.met.D.Disk.sound old kept.sized kept.kept kept.found.0 c.args.id now.store c.index_mut.result.now now.place here c.commit_in.result commits);
+          subst (λ (s : SessionsState g.row.D.Denot).
+          CallsSessions g.D.Disk.state (Commit c.args.id) committed_answer old s c.commit_in.result)
+          (sym (same_new old inside.store inside.places.items c.self.view_is c.in_ok-place.place c.args.id
+          kept.found.1 now.store now.place))
+          (commit_place g.D.Disk.state g.met.D.Disk.sound old
+          kept.sized kept.kept kept.found.0 c.args.id now.store c.index_mut.result.now now.place here
+          c.commit_in.result commits);
     }

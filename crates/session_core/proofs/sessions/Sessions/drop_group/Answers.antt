@@ -14,31 +14,48 @@ returns-in_err-place-clause-call g c =
     let old = c.args.self.now in
     let fault = err_from_is_err_and c.from_residual.result c.from_residual.ensures.1 in
     let kept = c.in_err-place.ensures in
-    subst (λ (r : Result (Unit {0}) SessionFault). CallsSessions g.D.Disk.state (Leave c.args.id) (λ (u : Unit {0}). Done) old old r) (sym (fault.1 ∙ ap (λ (f : SessionFault). Err f) fault.2))
-    (calls_unfound g.D.Disk.state g.met.D.Disk.sound (Leave c.args.id) (λ (u : Unit {0}). Done) old kept.sized kept.kept c.args.id (ap unknown_of) c.in_err-place.field-0.0 kept.found)
+    subst (λ (r : Result (Unit {0}) SessionFault).
+    CallsSessions g.D.Disk.state (Leave c.args.id) (λ (u : Unit {0}). Done) old old r)
+    (sym (fault.1 ∙ ap (λ (f : SessionFault). Err f) fault.2))
+    (calls_unfound g.D.Disk.state g.met.D.Disk.sound (Leave c.args.id)
+    (λ (u : Unit {0}). Done) old kept.sized kept.kept c.args.id (ap unknown_of) c.in_err-place.field-0.0 kept.found)
 
 pub returns-in_err-place-clause-alone : goal.returns-in_err-place-clause-alone
 returns-in_err-place-clause-alone g c =
     let old = c.args.self.now in
     let fault = err_from_is_err_and c.from_residual.result c.from_residual.ensures.1 in
     let kept = c.in_err-place.ensures in
-    subst (λ (r : Result (Unit {0}) SessionFault). IsOfSessions (Leave c.args.id) (λ (u : Unit {0}). Done) old old r) (sym (fault.1 ∙ ap (λ (f : SessionFault). Err f) fault.2))
-    (alone_unfound g.D.Disk.state g.met.D.Disk.sound (Leave c.args.id) (λ (u : Unit {0}). Done) old kept.sized kept.kept c.args.id (ap unknown_of) c.in_err-place.field-0.0 kept.found)
+    subst (λ (r : Result (Unit {0}) SessionFault). IsOfSessions (Leave c.args.id) (λ (u : Unit {0}). Done) old old r)
+    (sym (fault.1 ∙ ap (λ (f : SessionFault). Err f) fault.2))
+    (alone_unfound g.D.Disk.state g.met.D.Disk.sound (Leave c.args.id)
+    (λ (u : Unit {0}). Done) old kept.sized kept.kept c.args.id (ap unknown_of) c.in_err-place.field-0.0 kept.found)
 
 pub returns-clause-call : goal.returns-clause-call
 returns-clause-call g c =
     let old = c.args.self.now in
     let inside = c.self.inside in
     let kept = c.in_ok-place.ensures in
-    let here = found_at old inside.store inside.places.items c.self.view_is c.in_ok-place.place c.args.id kept.found.1 kept.found.2 c.index_mut.result.now c.index_mut.ensures.value in
-    subst (λ (s : SessionsState g.row.D.Denot). CallsSessions g.D.Disk.state (Leave c.args.id) (λ (u : Unit {0}). Done) old s c.drop_in.result) (sym (same_alone old inside.store inside.places.items c.self.view_is c.in_ok-place.place c.args.id kept.found.1 c.drop_in.new.place))
-    (leave_place g.D.Disk.state g.met.D.Disk.sound old kept.sized kept.kept kept.found.0 c.args.id c.index_mut.result.now c.drop_in.new.place here c.drop_in.result c.drop_in.ensures).0
+    let here = found_at old inside.store inside.places.items c.self.view_is c.in_ok-place.place c.args.id kept.found.1
+    kept.found.2 c.index_mut.result.now c.index_mut.ensures.value in
+    subst (λ (s : SessionsState g.row.D.Denot). CallsSessions g.D.Disk.state (Leave c.args.id)
+    (λ (u : Unit {0}). Done) old s c.drop_in.result)
+    (sym (same_alone old inside.store inside.places.items c.self.view_is c.in_ok-place.place c.args.id
+    kept.found.1 c.drop_in.new.place))
+    (leave_place g.D.Disk.state g.met.D.Disk.sound old
+    kept.sized kept.kept kept.found.0 c.args.id c.index_mut.result.now c.drop_in.new.place here
+    c.drop_in.result c.drop_in.ensures).0
 
 pub returns-clause-alone : goal.returns-clause-alone
 returns-clause-alone g c =
     let old = c.args.self.now in
     let inside = c.self.inside in
     let kept = c.in_ok-place.ensures in
-    let here = found_at old inside.store inside.places.items c.self.view_is c.in_ok-place.place c.args.id kept.found.1 kept.found.2 c.index_mut.result.now c.index_mut.ensures.value in
-    subst (λ (s : SessionsState g.row.D.Denot). IsOfSessions (Leave c.args.id) (λ (u : Unit {0}). Done) old s c.drop_in.result) (sym (same_alone old inside.store inside.places.items c.self.view_is c.in_ok-place.place c.args.id kept.found.1 c.drop_in.new.place))
-    (leave_place g.D.Disk.state g.met.D.Disk.sound old kept.sized kept.kept kept.found.0 c.args.id c.index_mut.result.now c.drop_in.new.place here c.drop_in.result c.drop_in.ensures).1
+    let here = found_at old inside.store inside.places.items c.self.view_is c.in_ok-place.place c.args.id kept.found.1
+    kept.found.2 c.index_mut.result.now c.index_mut.ensures.value in
+    subst (λ (s : SessionsState g.row.D.Denot). IsOfSessions (Leave c.args.id)
+    (λ (u : Unit {0}). Done) old s c.drop_in.result)
+    (sym (same_alone old inside.store inside.places.items c.self.view_is c.in_ok-place.place c.args.id
+    kept.found.1 c.drop_in.new.place))
+    (leave_place g.D.Disk.state g.met.D.Disk.sound old
+    kept.sized kept.kept kept.found.0 c.args.id c.index_mut.result.now c.drop_in.new.place here
+    c.drop_in.result c.drop_in.ensures).1

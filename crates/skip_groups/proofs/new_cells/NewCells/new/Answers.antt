@@ -14,7 +14,10 @@ returns-clause-valid c = record {
 }
 
 pub returns-clause-set : goal.returns-clause-set
-returns-clause-set c key own = set_none c.args.level (model_lead c.args.lead.now) key own c.args.lead.now c.new.result refl (ap (λ (list : CellList). list.cells) c.new.ensures)
+returns-clause-set c key own = set_none c.args.level (model_lead c.args.lead.now) key own
+    c.args.lead.now c.new.result refl (ap (λ (list : CellList). list.cells) c.new.ensures)
 
 pub returns-clause-parted : goal.returns-clause-parted
-returns-clause-parted c key start = part_none c.args.level (model_lead c.args.lead.now) key start c.args.lead.now c.new.result refl (ap (λ (list : CellList). list.cells) c.new.ensures)
+returns-clause-parted c key start =
+    part_none c.args.level (model_lead c.args.lead.now) key start c.args.lead.now c.new.result refl
+    (ap (λ (list : CellList). list.cells) c.new.ensures)

@@ -11,5 +11,9 @@ invariant_of-self g c =
     let drawn = g.W.Draw.drawn in
     let state = g.P.Pages.state in
     let s = c.self.inside in
-    let requires = subst (λ (v : ListState g.row.P.Denot g.row.W.Denot). IsObservable (state v.pages) → (s : List Pair) × HoldsPairs (drawn v.draw) s (state v.pages).pages) (sym c.self.view_is) c.requires in
-    record { whole = λ w o. let held = requires o in holds_its_pairs (drawn s.draw) held.0 (state s.pages).pages held.1; place = λ w o. tt }
+    let requires = subst (λ (v : ListState g.row.P.Denot g.row.W.Denot). IsObservable (state v.pages)
+    → (s : List Pair) × HoldsPairs (drawn v.draw) s (state v.pages).pages) (sym c.self.view_is) c.requires in
+    record {
+      whole = λ w o. let held = requires o in holds_its_pairs (drawn s.draw) held.0 (state s.pages).pages held.1;
+      place = λ w o. tt;
+    }

@@ -9,5 +9,6 @@ returns-in-0-clause-found c = (
   tt,
   lead_bytes-zeros c.args.bytes.now c.requires c.in-0.is
       (let rest : length c.args.bytes.now - 1 ≡ 124 = omega (arith, c.requires) in
-      subst (λ (n : ℕ). pointwise nat_eq (take n (drop 1 c.args.bytes.now)) (zeros 124) ≡ true) rest (sym c.eq.ensures ∙ c.if-eq.true)),
+      subst (λ (n : ℕ). pointwise nat_eq (take n (drop 1 c.args.bytes.now)) (zeros 124) ≡ true) rest
+      (sym c.eq.ensures ∙ c.if-eq.true)),
 )

@@ -12,7 +12,8 @@ returns g c =
     let now = c.of.result.value in
     let given : TellsTree (state now) s.params = c.drop-arg-1.given.0 in
     let same : (state now).is_observable ≡ (state s.settled.value).is_observable =
-    ap (λ (disk : g.row.D.Denot). (state disk).is_observable) c.of.ensures ∙ c.requires.same ∙ sym (ap (λ (k : KnownState g.row.D.Denot). (state k.settled).is_observable) c.self.view_is) in
+    ap (λ (disk : g.row.D.Denot). (state disk).is_observable) c.of.ensures ∙ c.requires.same
+    ∙ sym (ap (λ (k : KnownState g.row.D.Denot). (state k.settled).is_observable) c.self.view_is) in
     let params : s.params ≡ c.args.self.now.params = ap (λ (k : KnownState g.row.D.Denot). k.params) c.self.view_is in
     record {
       call = record {
@@ -21,16 +22,20 @@ returns g c =
         seen = λ observable t fit is.
             let there : IsKnownTree (state now) s.params t = record {
               fitting = subst (λ (p : Parameters). IsFitting t p) (sym params) fit;
-              seen = λ seen. ap (λ (disk : g.row.D.Denot). (state disk).bytes) c.of.ensures ∙ is ∙ ap (layout t) (sym params);
-              unseen = λ hidden. absurd (hidden (ap (λ (disk : g.row.D.Denot). (state disk).is_observable) c.of.ensures ∙ observable));
+              seen = λ seen. ap (λ (disk : g.row.D.Denot). (state disk).bytes) c.of.ensures ∙ is
+                  ∙ ap (layout t) (sym params);
+              unseen = λ hidden.
+                  absurd (hidden (ap (λ (disk : g.row.D.Denot). (state disk).is_observable) c.of.ensures ∙ observable));
             } in
             one_known (state now) s.params given.0 t given.1 there;
         unseen = λ hidden.
             let there : IsKnownTree (state now) s.params s.known.0 = record {
               fitting = s.known.1.fitting;
-              seen = λ seen. absurd (hidden (sym (ap (λ (disk : g.row.D.Denot). (state disk).is_observable) c.of.ensures) ∙ seen));
+              seen = λ seen.
+                  absurd (hidden (sym (ap (λ (disk : g.row.D.Denot). (state disk).is_observable) c.of.ensures) ∙ seen));
               unseen = λ other. s.known.1.unseen (λ seen. other (same ∙ seen));
             } in
-            one_known (state now) s.params given.0 s.known.0 given.1 there ∙ ap (λ (k : KnownState g.row.D.Denot). k.tree) c.self.view_is;
+            one_known (state now) s.params given.0 s.known.0 given.1 there
+            ∙ ap (λ (k : KnownState g.row.D.Denot). k.tree) c.self.view_is;
       };
     }

@@ -8,5 +8,6 @@ returns g c t known =
     let p = c.args.params in
     let settled = c.of.result.value in
     let given : TellsTree (state settled) p = c.result-1.given.0 in
-    let there : IsKnownTree (state settled) p t = subst (λ (disk : g.row.D.Denot). IsKnownTree (state disk) p t) (sym c.of.ensures) known in
+    let there : IsKnownTree (state settled) p t =
+    subst (λ (disk : g.row.D.Denot). IsKnownTree (state disk) p t) (sym c.of.ensures) known in
     λ i. record { params = p; tree = one_known (state settled) p given.0 t given.1 there i; settled = c.of.ensures i }

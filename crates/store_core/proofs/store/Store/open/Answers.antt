@@ -25,7 +25,8 @@ new-pages-requires-clause-stands g c observable =
     let fit = c.requires.stands.1.fitting in
     let stands = c.requires.stands.1.stands observable in
     subst (λ (d : Draw). SlotStandsAt d p (pages_in_table p.slots disk.bytes) disk) (sym c.new-draw.ensures)
-    (subst (λ (m : PageMap). SlotStandsAt (draw_of p) p m disk) (sym (table_pages t p disk.bytes fit stands.layout_is)) (stands_pages t p disk fit stands))
+    (subst (λ (m : PageMap). SlotStandsAt (draw_of p) p m disk) (sym (table_pages t p disk.bytes fit stands.layout_is))
+    (stands_pages t p disk fit stands))
 
 pub new-pages-requires-clause-count : goal.new-pages-requires-clause-count
 new-pages-requires-clause-count g c observable =
@@ -46,7 +47,8 @@ new-requires g c =
     let at = c.requires.stands.1 in
     let ends = c.new-pages.ensures in
     let staged = c.new-pages.result in
-    let pages = open_pages state c.args.disk c.args.contents t staged c.new-draw.result at c.new-draw.ensures ends.params ends.drawn ends.disk ends.table ends.map in
+    let pages = open_pages state c.args.disk c.args.contents t staged c.new-draw.result at
+    c.new-draw.ensures ends.params ends.drawn ends.disk ends.table ends.map in
     list_at state p staged (any_draw c.new-draw.result) c.new-draw.ensures (t, (at.fitting, pages))
 
 pub invariant_of-result : goal.invariant_of-result
@@ -58,8 +60,13 @@ invariant_of-result g c =
     let at = c.requires.stands.1 in
     let fit = at.fitting in
     let ends = c.new-pages.ensures in
-    let pages = open_pages state disk c.args.contents t c.new-pages.result c.new-draw.result at c.new-draw.ensures ends.params ends.drawn ends.disk ends.table ends.map in
-    let known : IsKnownTree (state disk) p t = record { fitting = fit; seen = λ observable. (at.stands observable).layout_is; unseen = at.unseen } in
+    let pages = open_pages state disk c.args.contents t c.new-pages.result c.new-draw.result at
+    c.new-draw.ensures ends.params ends.drawn ends.disk ends.table ends.map in
+    let known : IsKnownTree (state disk) p t = record {
+      fitting = fit;
+      seen = λ observable. (at.stands observable).layout_is;
+      unseen = at.unseen;
+    } in
     let served : HoldsKnown state (record { params = p; tree = t; settled = disk }) c.new.result = record {
       at = record {
         fitting = fit;
@@ -67,6 +74,7 @@ invariant_of-result g c =
         draw = ap any_draw c.new.ensures.draw ∙ c.new-draw.ensures;
         whole = λ observable. c.new.ensures.whole;
       };
-      observable = ap (λ (s : StagedState g.row.D.Denot AnyDraw). (state s.disk).is_observable) c.new.ensures.pages ∙ ap (λ (d : g.row.D.Denot). (state d).is_observable) ends.disk;
+      observable = ap (λ (s : StagedState g.row.D.Denot AnyDraw). (state s.disk).is_observable) c.new.ensures.pages
+          ∙ ap (λ (d : g.row.D.Denot). (state d).is_observable) ends.disk;
     } in
     subst (λ (k : KnownState g.row.D.Denot). HoldsKnown state k c.new.result) (sym (c.new-known.ensures t known)) served

@@ -15,5 +15,8 @@ returns g c observable runs =
     let told = ap (λ (x : StoreState g.row.D.Denot). (state x.disk).is_observable) c.self.view_is ∙ observable in
     let goes_on = ap (λ (x : StoreState g.row.D.Denot). x.is_stopped) c.self.view_is ∙ runs in
     let at = c.self.invariant.at in
-    let count = subst (λ (v : TreeList g.row.D.Denot). IsObservable (state v.pages.disk) → v.pages.is_spent ≡ false → c.used.result ≡ maps.len v.pages.map) (λ i. (c.self-inside.view_is i).pairs) c.used.ensures in
-    count told goes_on ∙ held_count known.tree known.params map (tree_holds known.tree known.params map at.fitting (at.pages.held told goes_on).map_is) ∙ ap (λ (x : StoreState g.row.D.Denot). page_count x.tree x.params) c.self.view_is
+    let count = subst (λ (v : TreeList g.row.D.Denot). IsObservable (state v.pages.disk) → v.pages.is_spent ≡ false
+    → c.used.result ≡ maps.len v.pages.map) (λ i. (c.self-inside.view_is i).pairs) c.used.ensures in
+    count told goes_on ∙ held_count known.tree known.params map
+    (tree_holds known.tree known.params map at.fitting (at.pages.held told goes_on).map_is)
+    ∙ ap (λ (x : StoreState g.row.D.Denot). page_count x.tree x.params) c.self.view_is

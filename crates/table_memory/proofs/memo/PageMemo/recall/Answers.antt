@@ -9,4 +9,6 @@ returns-then-eq-clause-found c =
     let what = c.in_ok-kept.field-0.now in
     let looked = c.in_ok-kept.ensures.lookup in
     let got = slice_get_read shown (length shown) c.args.place what refl looked.3.0 looked.1 in
-    recalled_at c.args.self.now shown c.args.place what c.in-Some.kept c.args.label.now c.in-Some.found (c.deref.ensures.value ∙ c.self.view_is) c.requires got c.in-Some.is (c.if-eq.ensures.same.0 refl)
+    recalled_at c.args.self.now shown c.args.place what
+    c.in-Some.kept c.args.label.now c.in-Some.found (c.deref.ensures.value ∙ c.self.view_is) c.requires got
+    c.in-Some.is (c.if-eq.ensures.same.0 refl)

@@ -7,7 +7,9 @@ use Rattle.table_memory.proofs.slot_cache.SlotCache.give_up.Goals as goal
 pub returns : goal.returns
 returns c =
     let old = c.self.inside.slots in
-    let gone : KeepsNoMore old.entries c.pop_lru.new.self.entries = λ i slot is. kept_in_first (length old.entries - 1) old.entries i slot (ap (λ (cache : LruCache ℕ (List ℕ)). kept_at cache.entries i) (sym c.pop_lru.ensures.entries) ∙ is) in
+    let gone : KeepsNoMore old.entries c.pop_lru.new.self.entries =
+    λ i slot is. kept_in_first (length old.entries - 1) old.entries i slot
+    (ap (λ (cache : LruCache ℕ (List ℕ)). kept_at cache.entries i) (sym c.pop_lru.ensures.entries) ∙ is) in
     subst (λ (kept : Kept). KeepsNoMore kept c.pop_lru.new.self.entries) c.self.view_is gone
 
 pub invariant_of-self : goal.invariant_of-self

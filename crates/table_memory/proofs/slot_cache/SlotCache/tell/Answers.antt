@@ -5,10 +5,13 @@ use Rattle.table_memory.proofs.CacheLemmas.{kept_promoted, few_promoted}
 use Rattle.table_memory.proofs.slot_cache.SlotCache.tell.Goals as goal
 
 pub returns-in_err-slot-clause-kept : goal.returns-in_err-slot-clause-kept
-returns-in_err-slot-clause-kept g c = λ i. ap (λ (cache : LruCache ℕ (List ℕ)). kept_at cache.entries i) c.get.follows.holds-at-none ∙ kept_promoted c.args.at c.self.inside.slots.entries i ∙ ap (λ (kept : Kept). kept_at kept i) c.self.view_is
+returns-in_err-slot-clause-kept g c =
+    λ i. ap (λ (cache : LruCache ℕ (List ℕ)). kept_at cache.entries i) c.get.follows.holds-at-none
+    ∙ kept_promoted c.args.at c.self.inside.slots.entries i ∙ ap (λ (kept : Kept). kept_at kept i) c.self.view_is
 
 pub returns-clause-kept : goal.returns-clause-kept
-returns-clause-kept g c = λ i. ap (λ (cache : LruCache ℕ (List ℕ)). kept_at cache.entries i) c.get.follows.holds-at-none ∙ kept_promoted c.args.at c.self.inside.slots.entries i ∙ ap (λ (kept : Kept). kept_at kept i) c.self.view_is
+returns-clause-kept g c = λ i. ap (λ (cache : LruCache ℕ (List ℕ)). kept_at cache.entries i) c.get.follows.holds-at-none
+    ∙ kept_promoted c.args.at c.self.inside.slots.entries i ∙ ap (λ (kept : Kept). kept_at kept i) c.self.view_is
 
 pub invariant_of-self : goal.invariant_of-self
 invariant_of-self g c = few_promoted c.self.inside.slots _ c.args.at c.self.invariant c.get.follows.holds-at-none

@@ -4,4 +4,5 @@ use Rattle.tree_listing.proofs.ListedLemmas.{holds_nothing}
 use Rattle.tree_listing.proofs.pairs.ListedPairs.new.Goals as goal
 
 pub returns-clause-listed : goal.returns-clause-listed
-returns-clause-listed c = holds_nothing _ c.args.params.now refl (c.new-2.ensures (draw_of c.args.params.now)) c.new-3.ensures
+returns-clause-listed c = holds_nothing _ c.args.params.now refl
+    (c.new-2.ensures (draw_of c.args.params.now)) c.new-3.ensures

@@ -10,7 +10,8 @@ invariant-loop-rest l = record {
   few : l.number + length l.rest < 4294967296;
   params : l.self.params ≡ l.fn.self.params;
   first : l.self.first ≡ l.fn.self.first;
-  added : (new : ListedPairs) → AddsPairs (any_draw l.draw) l.self.pairs (blocks_from l.path l.number l.rest) l.self new → AddsPairs (any_draw l.draw) l.fn.self.pairs (blocks_from l.path l.first l.bytes) l.fn.self new;
+  added : (new : ListedPairs) → AddsPairs (any_draw l.draw) l.self.pairs (blocks_from l.path l.number l.rest) l.self new
+      → AddsPairs (any_draw l.draw) l.fn.self.pairs (blocks_from l.path l.first l.bytes) l.fn.self new;
 }
 
 abbrev pub decreases-loop-rest : goal.decreases-loop-rest

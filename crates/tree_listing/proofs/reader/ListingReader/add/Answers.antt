@@ -9,7 +9,9 @@ use Rattle.tree_listing.proofs.ReaderLemmas.{refused}
 use Rattle.tree_listing.proofs.reader.ListingReader.add.Goals as goal
 
 -- a dump has no other commands than these
-other_refused : (old : ListingReader) (c : Command) → ((x : Path) → c ≡ declared.Make x → ⊥) → ((x : Path) (at : ℕ) (bytes : List ℕ) → c ≡ declared.Write x at bytes → ⊥) → ((x : Path) (name : Name) (bytes : List ℕ) → c ≡ declared.Set x name bytes → ⊥)
+other_refused : (old : ListingReader) (c : Command) → ((x : Path) → c ≡ declared.Make x → ⊥)
+    → ((x : Path) (at : ℕ) (bytes : List ℕ) → c ≡ declared.Write x at bytes → ⊥)
+    → ((x : Path) (name : Name) (bytes : List ℕ) → c ≡ declared.Set x name bytes → ⊥)
     → AddsCommand old old (command_of c) false
 other_refused old (declared.Make x) make write set = absurd (make x refl)
 other_refused old (declared.Write x at bytes) make write set = absurd (write x at bytes refl)
@@ -27,4 +29,5 @@ other_refused old (declared.Get x name) make write set = refused old _ (λ t p h
 other_refused old (declared.Attrs x) make write set = refused old _ (λ t p has is. is)
 
 pub returns-in_default : goal.returns-in_default
-returns-in_default c = other_refused c.args.self.now c.args.command.now c.in_default.not-Make c.in_default.not-Write c.in_default.not-Set
+returns-in_default c =
+    other_refused c.args.self.now c.args.command.now c.in_default.not-Make c.in_default.not-Write c.in_default.not-Set

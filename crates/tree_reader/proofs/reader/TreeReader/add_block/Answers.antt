@@ -11,7 +11,8 @@ returns-then-not-is_next_block c =
     refused old (c.args.key.now, c.args.value.now)
     (λ s p has few begins.
     let file = in_file old s p c.args.len has c.requires.file c.requires.more in
-    false≢true (c.if-not-is_next_block.ensures.1 (block_told old s p c.args.len c.args.key.now c.args.value.now file.0 file.1 begins)))
+    false≢true (c.if-not-is_next_block.ensures.1
+    (block_told old s p c.args.len c.args.key.now c.args.value.now file.0 file.1 begins)))
 
 pub returns : goal.returns
 returns c =
@@ -19,5 +20,7 @@ returns c =
     taken old _ (c.args.key.now, c.args.value.now) refl
     (λ s p has.
     let file = in_file old s p c.args.len has c.requires.file c.requires.more in
-    subst (λ xs. HasSeen (record old { read = old.read + length xs }) (s ++ (c.args.key.now, c.args.value.now) ∷ []) p) (sym c.as_slice.ensures.value)
-    (block_taken old s p c.args.len c.args.key.now c.args.value.now file.0 file.1 (c.if-not-is_next_block.ensures.0 refl) c.as_slice.ensures.bytes))
+    subst (λ xs. HasSeen (record old { read = old.read + length xs }) (s ++ (c.args.key.now, c.args.value.now) ∷ []) p)
+    (sym c.as_slice.ensures.value)
+    (block_taken old s p c.args.len c.args.key.now c.args.value.now file.0 file.1
+    (c.if-not-is_next_block.ensures.0 refl) c.as_slice.ensures.bytes))

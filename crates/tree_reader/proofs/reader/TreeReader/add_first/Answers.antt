@@ -11,15 +11,20 @@ use Rattle.tree_reader.proofs.reader.TreeReader.add_first.Goals as goal
 pub returns-in_default : goal.returns-in_default
 returns-in_default c =
     first_refused c.args.self.now c.args.key.now c.args.value.now c.requires.whole c.requires.no_attribute
-    (λ path kind first follows. none-some _ (c.in_default.ensures.only path kind (subst (IsFirst c.args.self.now.version path kind c.args.key.now) (sym c.as_slice.ensures.value) first)))
+    (λ path kind first follows. none-some _
+    (c.in_default.ensures.only path kind
+    (subst (IsFirst c.args.self.now.version path kind c.args.key.now) (sym c.as_slice.ensures.value) first)))
 
 pub returns-then-not-may_precede : goal.returns-then-not-may_precede
 returns-then-not-may_precede c =
     let old = c.args.self.now in
     first_refused old c.args.key.now c.args.value.now c.requires.whole c.requires.no_attribute
     (λ path kind first follows.
-    let same = same_Some c.in-Some.entry (record { path = path; kind = kind }) (c.in-Some.ensures.only path kind (subst (IsFirst c.args.self.now.version path kind c.args.key.now) (sym c.as_slice.ensures.value) first)) in
-    false≢true (c.if-not-may_precede.ensures.1 (subst (λ (entry : Entry). MayFollow old.last.path old.last.kind entry.path) (sym same) follows)))
+    let same = same_Some c.in-Some.entry (record { path = path; kind = kind })
+    (c.in-Some.ensures.only path kind
+    (subst (IsFirst c.args.self.now.version path kind c.args.key.now) (sym c.as_slice.ensures.value) first)) in
+    false≢true (c.if-not-may_precede.ensures.1
+    (subst (λ (entry : Entry). MayFollow old.last.path old.last.kind entry.path) (sym same) follows)))
 
 pub returns-in_default-counted : goal.returns-in_default-counted
 returns-in_default-counted c =
@@ -33,8 +38,17 @@ pub returns : goal.returns
 returns c =
     let old = c.args.self.now in
     let entry = c.in-Some.entry in
-    let first = subst (IsFirst old.version entry.path entry.kind c.args.key.now) c.as_slice.ensures.value c.in-Some.ensures.found in
+    let first = subst (IsFirst old.version entry.path entry.kind c.args.key.now)
+    c.as_slice.ensures.value c.in-Some.ensures.found in
     taken old _ (c.args.key.now, c.args.value.now) refl
     (λ s p has.
-    subst (λ read. HasSeen (record old { last = entry; read = read; attribute = None; counts = c.in-Some-counted.counts }) (s ++ (c.args.key.now, c.args.value.now) ∷ []) p) (sym c.size_in_first.ensures)
-    (first_taken old s p entry.path entry.kind c.args.key.now c.args.value.now c.in-Some-counted.counts (between old s p has c.requires.whole) first c.as_slice.ensures.bytes (c.if-not-may_precede.ensures.0 refl) c.in-Some-counted.ensures.more))
+    subst (λ read. HasSeen (record old {
+      last = entry;
+      read = read;
+      attribute = None;
+      counts = c.in-Some-counted.counts;
+    })
+    (s ++ (c.args.key.now, c.args.value.now) ∷ []) p) (sym c.size_in_first.ensures)
+    (first_taken old s p entry.path entry.kind c.args.key.now c.args.value.now c.in-Some-counted.counts
+    (between old s p has c.requires.whole) first c.as_slice.ensures.bytes (c.if-not-may_precede.ensures.0 refl)
+    c.in-Some-counted.ensures.more))

@@ -6,5 +6,11 @@ use Rattle.tree_reader.proofs.reader.TreeReader.new.Goals as goal
 
 pub returns-clause-seen : goal.returns-clause-seen
 returns-clause-seen c p version_is =
-    subst (λ (last : Entry). HasSeen (record { version = c.args.version; last = last; read = 0; attribute = None; counts = record { dirs = 0; files = 0; bytes = 0 } }) [] p)
+    subst (λ (last : Entry). HasSeen (record {
+      version = c.args.version;
+      last = last;
+      read = 0;
+      attribute = None;
+      counts = record { dirs = 0; files = 0; bytes = 0 };
+    }) [] p)
     (sym c.root.ensures) (seen_none [] c.args.version p refl version_is)
