@@ -76,8 +76,8 @@ impl Request {
     }
 }
 
-/// The file that the words need, and what is done with it: it is only read exactly where they are the words of a
-/// `check`.
+/// Finds the file that the words need, and what is done with it: it is only read exactly where they are the words of
+/// a `check`.
 /// `NoMemory`: it was not found out.
 pub fn wanted_file(words: &Words) -> Result<FileRequest, NoMemory>
     ensures wanted { IfOk result (λ file. file.wanted ≡ wanted_of (request_of words.now)) }
@@ -96,7 +96,7 @@ pub fn wanted_file(words: &Words) -> Result<FileRequest, NoMemory>
     })
 }
 
-/// The file that the words need.
+/// Finds the file that the words need.
 /// `NoMemory`: it was not found out.
 pub fn wanted_len(words: &Words) -> Result<Wanted, NoMemory>
     ensures { IfOk result (λ wanted. wanted ≡ wanted_of (request_of words.now)) }

@@ -12,8 +12,10 @@ ghost use Rattle.command_line.specs.Line.{HoldsLine, IsLine};
 /// `clap` refuses a line, it asks for nothing.
 pub fn lines_are_taken()
     ensures taken { (app : App) (line : List Text) (request : Request) → IsLine app
-        → request_of line ≡ Some request → takes app line ≡ true }
+        → request_of line ≡ Some request
+        → takes app line ≡ true }
     ensures held { (app : App) (line : List Text) (request : Request) → IsLine app
-        → request_of line ≡ Some request → (matches : ArgMatches) → HasMatchesOf app line matches
+        → request_of line ≡ Some request
+        → (matches : ArgMatches) → HasMatchesOf app line matches
         → HoldsLine line (subcommand_rows_of matches) }
 {}

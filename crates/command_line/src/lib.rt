@@ -1,4 +1,4 @@
-//! The words of the command line behind the image's path, read by `clap`, and what they ask for.
+//! The words of the command line behind the image's path, read by `clap`, and what they ask for. Start at `Words`.
 #![tactic(auto)]
 
 mod image_file;

@@ -81,7 +81,7 @@ static FORMAT: [Argument; 4] = [
 static BIG: [Argument; 2] = [
     Argument {
         name: "NUMBER",
-        help: "Which commands, 0 to 4294967295: a number has always the same ones",
+        help: "Which commands, 0 to 4294967295: a number always has the same ones",
         parser: ValueParser::Unsigned(0, u32::MAX as u64),
     },
     Argument {
@@ -96,7 +96,7 @@ static SUBCOMMANDS: [Subcommand; 11] = [
     Format, Format2, Run, Session, Check, Scrub, Wipe, Upgrade, Dump, Load, Big,
 ];
 
-/// What `clap` has as the argument, which is required and has one value, which passes the parser.
+/// Makes the argument for `clap`. It is required and has one value, which passes the parser.
 fn arg_of<'a>(alloc: Global, argument: &'static Argument) -> Arg<'a>
     ensures rule { rule_of result ≡ rule_told argument.now }
     ensures local { result.global ≡ false }
@@ -122,8 +122,7 @@ fn with_arguments<'a>(
     Ok(command)
 }
 
-/// A command with no arguments yet, which knows no request for help, with a sentence on what it does and with what else
-/// is to be known of it.
+/// Makes a command with no arguments and no help flag, from a sentence on what it does and the notes on it.
 fn without_help<'a>(alloc: Global, name: &'a str, about: &'a str, notes: &'a str) -> Command<'a>
     ensures shape { app_of result ≡ record { top = without_help name.entry.now []; subs = [] } }
     ensures local { (out-Command result).has_globals ≡ false }
@@ -153,87 +152,95 @@ const FORMAT_ABOUT: &str = "Makes an image of version 1 with nothing in it.";
 /// What `format2` does.
 const FORMAT2_ABOUT: &str = "Makes an image of version 2 with nothing in it.";
 
-/// What is to be known of `format` and `format2` besides.
+/// The notes on `format` and `format2`.
 const FORMAT_NOTES: &str =
-    "The file is made where there is none. One that is there must have just the length that SLOTS asks\n\
-    for, and must not begin as an image does: `wipe` readies it for a second one.\n\
-    Version 2 keeps files of at most 200 bytes in less room, and an image of version 1 is made one by\n\
-    `upgrade`.";
+    "The file is made if there is none. A file that is there must have just the\n\
+    length that SLOTS asks for, and must not begin as an image does: `wipe` it\n\
+    before.\n\
+    Version 2 keeps files of 1 to 200 bytes in less room. `upgrade` makes an image\n\
+    of version 1 one of version 2.";
 
 /// What `run` does.
 const RUN_ABOUT: &str = "Answers the script on standard input, with a reply for each line.";
 
-/// What is to be known of `run` besides.
+/// The notes on `run`.
 const RUN_NOTES: &str =
-    "A script's commands are make, write, cut, rename, remove, prune, list, read, set, unset, get, attrs,\n\
-    space and digest.\n\
+    "The commands of a script are make, write, cut, rename, remove, prune, list,\n\
+    read, set, unset, get, attrs, space and digest.\n\
     What a line changes is safe in the file before its reply is printed.";
 
 /// What `session` does.
 const SESSION_ABOUT: &str = "Commits changes in groups, each whole or not at all.";
 
-/// What is to be known of `session` besides.
+/// The notes on `session`.
 const SESSION_NOTES: &str =
-    "It answers lines on standard input: begin, ask, stage, commit and drop. A commit carries out together\n\
-    what its session staged, where each question of the session still has its answer.\n\
-    A question sees the tree as it was last committed, and not what its session staged.\n\
+    "It answers the lines begin, ask, stage, commit and drop on standard input. A\n\
+    commit carries out what its session staged, all of it together, if each question\n\
+    of the session still has the answer that it had.\n\
+    A question sees the tree as it was last committed, and not what its session\n\
+    staged.\n\
     What a commit changes is safe in the file before its reply is printed.";
 
 /// What `check` does.
 const CHECK_ABOUT: &str = "Tells what the file is, and changes nothing.";
 
-/// What is to be known of `check` besides.
+/// The notes on `check`.
 const CHECK_NOTES: &str =
-    "It prints one line: `clean PAGES DIRS FILES BYTES` of a whole image, `damaged` or `not-image`.";
+    "It prints one line: `clean PAGES DIRS FILES BYTES`, `damaged` or `not-image`.\n\
+    An image that is clean is whole. DIRS does not count /. BYTES is the length of\n\
+    all files together.";
 
 /// What `scrub` does.
-const SCRUB_ABOUT: &str = "Makes zeros of whatever the free slots of an image hold.";
+const SCRUB_ABOUT: &str = "Makes the free slots of an image zero, whatever they hold.";
 
-/// What is to be known of `scrub` besides.
-const SCRUB_NOTES: &str = "It prints the line that `check` prints from then on.\n\
-    Where it writes, it first finishes what a crash has broken off.";
+/// The notes on `scrub`.
+const SCRUB_NOTES: &str = "It prints the line that `check` prints afterwards.\n\
+    If it writes, it first finishes what a crash has broken off.";
 
 /// What `wipe` does.
 const WIPE_ABOUT: &str = "Makes every byte of the file zero, whatever the file is.";
 
-/// What is to be known of `wipe` besides.
+/// The notes on `wipe`.
 const WIPE_NOTES: &str =
-    "The file keeps its length, and `format` or `format2` can make an image of it again.";
+    "The file keeps its length. `format` and `format2` can make an image of it again.";
 
 /// What `upgrade` does.
 const UPGRADE_ABOUT: &str = "Makes an image of version 1 one of version 2.";
 
-/// What is to be known of `upgrade` besides.
+/// The notes on `upgrade`.
 const UPGRADE_NOTES: &str =
-    "The image holds what it held, and none of its bytes tells that it was of version 1. It cannot be taken\n\
-    back. On an image of version 2 nothing is done.";
+    "The image holds what it held, and none of its bytes tells that it was of version\n\
+    1. An upgrade cannot be taken back. An image of version 2 stays as it is.";
 
 /// What `dump` does.
 const DUMP_ABOUT: &str = "Prints the commands that make what the image holds.";
 
-/// What is to be known of `dump` besides.
+/// The notes on `dump`.
 const DUMP_NOTES: &str =
-    "They are `make`, `write` and `set`, a line each, in the order of paths: a listing, which `load` takes.\n\
-    The front of a listing is a listing too: the status tells whether all of it was printed.";
+    "These commands are a listing, which `load` takes: `make`, `write` and `set`, a\n\
+    line each, in the order of paths.\n\
+    The front of a listing is a listing, too. Only the status tells whether all of\n\
+    it was printed.";
 
 /// What `load` does.
-const LOAD_ABOUT: &str = "Makes what a listing on standard input tells, in an empty image.";
+const LOAD_ABOUT: &str = "Fills an empty image from the listing on standard input.";
 
-/// What is to be known of `load` besides.
+/// The notes on `load`.
 const LOAD_NOTES: &str =
-    "A listing is what `dump` prints, of an image of any size, height, draw and seed. Its tree comes into the\n\
-    image whole or not at all. Where it has no room, `no full NEED SLOTS` is printed: how many slots it\n\
-    needs, and how many there are.";
+    "A listing is what `dump` prints, of an image of any size, height, draw and seed.\n\
+    The image gets all of it or nothing. If there is no room, `no full NEED SLOTS`\n\
+    is printed: how many slots the listing needs, and how many there are.";
 
 /// What `big` does.
 const BIG_ABOUT: &str = "Carries out generated commands, and prints what came of them.";
 
-/// What is to be known of `big` besides.
+/// The notes on `big`.
 const BIG_NOTES: &str =
-    "It prints four lines at the end: `ok N` and `no N`, how many commands were carried out and how many\n\
-    were refused, `space USED SLOTS`, and `digest HEX`, the SHA-256 of the image.";
+    "It prints four lines at the end: `ok N` and `no N`, how many commands were\n\
+    carried out and how many were refused; `space USED SLOTS`; and `digest HEX`, the\n\
+    SHA-256 of the image.";
 
-/// What `clap` has as the subcommand.
+/// Makes the subcommand for `clap`.
 pub fn command_of<'a>(alloc: Global, subcommand: Subcommand) -> Result<Command<'a>, AllocError>
     ensures { IfOk result (IsSubcommandOf subcommand) }
 {
@@ -258,7 +265,7 @@ pub fn command_of<'a>(alloc: Global, subcommand: Subcommand) -> Result<Command<'
     }
 }
 
-/// The command line with no subcommands yet, of which one will be required.
+/// Makes the command line with no subcommands yet. One will be required.
 fn without_subcommands<'a>(alloc: Global) -> Command<'a>
     ensures line { app_of result ≡ without_subcommands }
     ensures local { (out-Command result).has_globals ≡ false }
@@ -266,10 +273,10 @@ fn without_subcommands<'a>(alloc: Global) -> Command<'a>
     without_help(
         alloc,
         "hstore",
-        "Keeps directories and files in one file, the image. Its bytes tell what it holds now, and nothing of\n\
-         what it held before or of how it came to be.",
-        "IMAGE is the path of the image's file. `format` and `format2` make the file; every other subcommand\n\
-         wants it there.\n\
+        "Keeps directories and files in one file, the image. Its bytes tell what it holds\n\
+         now, and nothing of what it held before or of how it came to be.",
+        "IMAGE is the path of the image's file. `format` and `format2` make the file. For\n\
+         every other subcommand it has to be there.\n\
          Numbers are decimal digits, with no sign and no leading zero.",
     )
     .subcommand_value_name("SUBCOMMAND")
@@ -290,7 +297,7 @@ fn add_subcommand<'a>(
     line.subcommand(command_of(alloc, subcommand)?)
 }
 
-/// The command line.
+/// Makes the whole command line.
 pub fn command<'a>(alloc: Global) -> Result<Command<'a>, AllocError>
     ensures { IfOk result (λ line. IsLine (app_of line)) }
 {

@@ -36,7 +36,7 @@ impl Model for Words {
 impl Words {
     ghost use Rattle.std.specs.Prelude.{◌≡◌, ◌++◌, ◌∷◌, [], OnOk, OnErr, length, slice_get, option_copied};
 
-    /// No words. It takes no memory.
+    /// Makes an empty list of words. It takes no memory.
     pub fn new(alloc: Global) -> Self
         ensures { result ≡ [] }
     {
@@ -71,7 +71,7 @@ impl Words {
         self.words.get(at).map(|word| word.as_str())
     }
 
-    /// What the words ask for; `None` exactly where they are not well formed.
+    /// Finds what the words ask for; `None` exactly where they are not well formed.
     /// `NoMemory`: it was not found out.
     pub fn request(&self) -> Result<Option<Request>, NoMemory>
         ensures value { IfOk result (λ asked. option_map request_seen asked ≡ request_of self.now) }
@@ -86,7 +86,7 @@ impl Words {
     }
 }
 
-/// What words ask for that were not taken: nothing, but where memory ran out.
+/// What words ask for that `clap` did not take: nothing, unless memory ran out.
 fn not_asked(why: ErrorKind) -> Result<Option<Request>, NoMemory>
     ensures { IfOk result (λ asked. (asked ≡ None) × (why ≢ ErrorKind.OutOfMemory)) }
 {

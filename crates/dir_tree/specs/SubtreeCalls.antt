@@ -17,7 +17,7 @@ pub record HasPathBlocks (blocks : BlockMap) (s : List Pair) : Type 0 where
   pub has : HasBlocks blocks s
   pub bare : (block : ℕ) → blocks root block ≡ None
 
--- the key past all of a subtree: the path's first key with 1 in the stead of the last name's 0
+-- the key past all of a subtree: the path's first key with 1 for the last name's 0
 abbrev pub end_of : Path → List ℕ
 end_of top = slice_set (key top 0) (field_len top - 1) 1
 

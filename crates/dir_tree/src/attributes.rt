@@ -19,7 +19,7 @@ use store_base::{Answer, AttrEntries, Bytes, Fault, Key, Value};
 use store_model::Refusal;
 use tree_pairs::{ATTRIBUTE_LIMIT, attribute_in, attribute_value, kind_of};
 
-/// Sets an attribute of a path, in the place of the one of this name if it has one.
+/// Sets an attribute of a path. It replaces the path's attribute of this name, if there is one.
 ///
 /// It is refused, in this order: `Root` for the root, `Missing` where nothing stands there, `Big` where there are more
 /// than 255 bytes, `Path` where path and name need more than 120 bytes. A refusal changes nothing. A fault of the pairs
@@ -31,8 +31,9 @@ pub fn set_attr<P: OrderedPairs>(
     bytes: &Bytes,
 ) -> Result<Answer<()>, Fault>
     requires room { HasRoom (P.state pairs.old) }
-    ensures call { CarriesOut (λ _. Acknowledged) (SetAttribute path.now name.now bytes.now)
-        (P.state pairs.old) (P.state pairs.new) result }
+    ensures call { CarriesOut (λ _. Acknowledged)
+        (SetAttribute path.now name.now bytes.now) (P.state pairs.old)
+        (P.state pairs.new) result }
     ensures follows { P.follows pairs.old pairs.new }
 {
     if let Some(refusal) = refusal_to_find(pairs, path)? {
@@ -57,8 +58,9 @@ pub fn unset_attr<P: OrderedPairs>(
     path: &Path,
     name: &AttrName,
 ) -> Result<Answer<()>, Fault>
-    ensures call { CarriesOut (λ _. Acknowledged) (UnsetAttribute path.now name.now)
-        (P.state pairs.old) (P.state pairs.new) result }
+    ensures call { CarriesOut (λ _. Acknowledged)
+        (UnsetAttribute path.now name.now) (P.state pairs.old)
+        (P.state pairs.new) result }
     ensures follows { P.follows pairs.old pairs.new }
 {
     if let Some(refusal) = refusal_to_find(pairs, path)? {
@@ -73,7 +75,7 @@ pub fn unset_attr<P: OrderedPairs>(
     }
 }
 
-/// The bytes of an attribute of a path.
+/// Gets the bytes of an attribute of a path.
 ///
 /// It is refused, in this order: `Root` for the root, `Missing` where nothing stands there, `NoAttr` where the path has
 /// no attribute of this name. The pairs stay as they were, also after a fault, which is handed on.
@@ -99,8 +101,8 @@ pub fn attr<P: OrderedPairs>(
     }
 }
 
-/// The attributes of a path, in the order of their names, with the number of bytes of each. Of n attributes it asks the
-/// pairs n + 2 times.
+/// Lists the attributes of a path, in the order of their names, with the number of bytes of each. Of n attributes it
+/// asks the pairs n + 2 times.
 ///
 /// It is refused, in this order: `Root` for the root, `Missing` where nothing stands there. The pairs stay as they
 /// were, also after a fault of the pairs, which is handed on, and after want of memory.

@@ -31,8 +31,8 @@ pub fn make<P: OrderedPairs>(pairs: &mut P, path: &Path) -> Result<Answer<()>, F
     Ok(Ok(()))
 }
 
-/// Why no directory is made at the path, if it is refused: `Root`, `Parent` or `Exists`, as `make` says. A move to the
-/// path is tested so too. The pairs stay as they were, also after a fault, which is handed on.
+/// Says why `make` would refuse to make a directory at the path, if it would: `Root`, `Parent` or `Exists`. A move to
+/// the path is tested by it too. The pairs stay as they were, also after a fault, which is handed on.
 pub fn refusal_to_make<P: OrderedPairs>(
     pairs: &mut P,
     path: &Path,

@@ -1,6 +1,9 @@
-//! Directories over any list of pairs that holds a tree: a new directory, the removal of a file or of an empty
-//! directory, and the children of a directory. A listing jumps from child to child and reads nothing
-//! that lies deeper. What moves and removals of whole subtrees need stands here too, and so do the attributes of paths.
+//! Directories and attributes, over any list of pairs that holds a tree.
+//!
+//! Start at `make`, `remove` and `list`. They make a directory, remove a file or an empty directory, and list the
+//! children of a directory. `set_attr` and those beside it are the calls on attributes. A listing jumps from child to
+//! child and reads nothing that lies deeper. `next_within` and `take_subtree` are for moves and removals of whole
+//! subtrees.
 #![tactic(auto)]
 
 mod attributes;

@@ -13,7 +13,7 @@ use store_base::{Answer, Entries, Fault, Key};
 use store_model::Refusal;
 use tree_pairs::{Kind, kind_of};
 
-/// The children of a directory or of the root, in the order of their names.
+/// Lists the children of a directory or of the root, in the order of their names.
 ///
 /// It is refused, in this order: `Missing` where nothing stands there, `Kind` where a file does. The pairs stay as they
 /// were, also after a fault of the pairs, which is handed on, and after want of memory.
@@ -36,7 +36,7 @@ pub fn list<P: OrderedPairs>(
     }
 }
 
-/// The children of a directory: each is the first path past the one before it and all that lies below that.
+/// Lists the children of a directory. Each is the first path behind the one before it and all that lies below that.
 fn children<P: OrderedPairs>(alloc: Global, pairs: &mut P, path: &Path) -> Result<Entries, Fault>
     ensures call { ListsChildren path.now (P.state pairs.old) (P.state pairs.new) result }
     ensures follows { P.follows pairs.old pairs.new }

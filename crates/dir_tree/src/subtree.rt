@@ -7,7 +7,7 @@ use ordered_pairs::OrderedPairs;
 use path_keys::Path;
 use store_base::{Fault, Key};
 
-/// The first key from `from` on, where it is one of what stands at the path `top` or below it. The pairs stay as they
+/// Finds the first key from `from` on, if it belongs to the path `top` or to a path below it. The pairs stay as they
 /// were, also after a fault, which is handed on.
 pub fn next_within<P: OrderedPairs>(
     pairs: &mut P,
@@ -34,7 +34,7 @@ fn is_before_end(key: &Key, top: &Path) -> bool
     top.is_root() || *key < top.past()
 }
 
-/// Takes all pairs at the path `top` and below it away. After a fault of the pairs, which is handed on, nothing is
+/// Takes away all pairs at the path `top` and below it. After a fault of the pairs, which is handed on, nothing is
 /// promised of them.
 pub fn take_subtree<P: OrderedPairs>(pairs: &mut P, top: &Path) -> Result<(), Fault>
     ensures call { TakesSubtree top.now (P.state pairs.old) (P.state pairs.new) result }

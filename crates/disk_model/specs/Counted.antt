@@ -11,7 +11,7 @@ counted disk faults writes syncs = record disk {
   syncs = raised_by disk.syncs syncs;
 }
 
--- its parts hang together as before; it stands here since a trait's law is proved by it
+-- its parts agree with each other as before; it stands here since it proves a trait's law
 pub counted_is_sound : (disk : DiskState) (faults writes syncs : ℕ) → IsSound disk
     → IsSound (counted disk faults writes syncs)
 counted_is_sound disk faults writes syncs sound =

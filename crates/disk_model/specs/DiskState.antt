@@ -13,7 +13,7 @@ pub record DiskState : Type 1 where
   pub crash_images : List ℕ → Type 0
   -- this moment, a number that never falls
   pub clock : ℕ
-  -- the images that a crash at some moment from that one to this might have left
+  -- the images that a crash at some moment, from a given one to this, might have left
   pub crash_images_since : ℕ → List ℕ → Type 0
   -- how many calls failed, how many writes and how many syncs were made: each stays at the last value of a u64
   pub faults : ℕ
@@ -32,7 +32,7 @@ IsDurable disk = (image : List ℕ) → disk.crash_images image → image ≡ di
 abbrev pub MayLeaveOnly : DiskState → (List ℕ → Type 0) → Type 0
 MayLeaveOnly disk P = (image : List ℕ) → disk.crash_images image → P image
 
--- how the parts of an observable disk hang together
+-- how the parts of an observable disk agree with each other
 pub record IsSound (disk : DiskState) : Type 0 where
   pub size : length disk.bytes ≡ disk.size
   -- the disk as it reads is one of the images that a crash may leave, and all of them are as long

@@ -1,4 +1,4 @@
--- A disk that fails the calls that it was told to fail, as its clauses see it.
+-- A disk some of whose calls fail on purpose, as its clauses see it.
 use Rattle.std.specs.Prelude.{◌≡◌, ℕ, ◌==◌, ◌||◌, nat_le, Bool, List, Option, Some, None}
 use Rattle.std.specs.List.{list_any}
 use Rattle.disk_model.specs.declared.failing.FailingDisk.{FailingDisk}

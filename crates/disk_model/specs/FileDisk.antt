@@ -17,6 +17,6 @@ file_state disk = record {
   syncs = 0;
 }
 
--- what is not observable is not observed
+-- a file is never observable, so each claim about an observable one holds of it
 pub no_bytes : {P : Type 0} → IsTrue false → P
 no_bytes observable = cc

@@ -1,4 +1,4 @@
--- The parts of a disk in memory hang together. It stands here since the trait's law is proved by it.
+-- The parts of a disk in memory agree with each other. It stands here since it proves the trait's law.
 use Rattle.std.specs.Prelude.{ℕ, ◌≤◌, List, [], ◌∷◌, length, refl}
 use Rattle.std.proofs.Common.{inl, inr, arith}
 use Rattle.disk_model.specs.declared.record.Call.{Call}

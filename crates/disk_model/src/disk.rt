@@ -34,10 +34,10 @@ pub trait Disk {
         ensures { IsWrite (state self.old) (state self.new) at bytes.now result };
 
     /// Makes all that was written durable: after it, a crash leaves exactly what a read gives.
-    /// After `DiskFault` what was pending is pending.
+    /// After `DiskFault` what was pending is still pending.
     fn sync(&mut self) -> Result<(), DiskFault>
         ensures { IsSync (state self.old) (state self.new) result };
 
-    /// The parts of an observable disk hang together.
+    /// The parts of an observable disk agree with each other.
     ghost sound: { (disk : Self) → IsObservable (state disk) → IsSound (state disk) };
 }

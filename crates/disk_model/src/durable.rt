@@ -9,7 +9,7 @@ use store_base::DiskFault;
 /// Writes these bytes to a durable disk and makes them durable. At `Ok` a crash leaves exactly what is then read.
 ///
 /// A crash at any moment of the call leaves the disk as it was, with any bytes in the range.
-/// After `DiskFault` nothing is said of the bytes in the range, nor whether they are durable; all others stay.
+/// After `DiskFault` nothing is promised of the bytes in the range, nor that they are durable. All other bytes stay.
 pub fn write_durably<D: Disk>(disk: &mut D, at: u64, bytes: &[u8]) -> Result<(), DiskFault>
     requires within { at + length bytes.now ≤ (D.state disk.old).size }
     requires durable { IsObservable (D.state disk.old) → IsDurable (D.state disk.old) }

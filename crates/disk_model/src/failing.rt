@@ -24,7 +24,8 @@ impl<D: Disk> FailingDisk<D> {
     ghost use Rattle.disk_model.specs.FailingDisk.{inner, call_number, listed, first_of_all, will_fail, faults_here};
     ghost use Rattle.disk_model.specs.FailingDisk.{writes_here, syncs_here};
 
-    /// Makes fail the calls whose numbers stand in `calls`, and, where `from` is given, all from that number on.
+    /// Takes a disk. The calls whose numbers stand in `calls` fail, and, where `from` is given, all from that number
+    /// on.
     pub fn new(disk: D, calls: Vec<u64>, from: Option<u64>) -> FailingDisk<D>
         ensures inner { inner result ≡ disk }
         ensures number { call_number result ≡ 0 }
@@ -45,7 +46,7 @@ impl<D: Disk> FailingDisk<D> {
         }
     }
 
-    /// The disk below, as the calls that reached it left it.
+    /// Gives the disk below back, as the calls that reached it left it.
     pub fn into_disk(self) -> D
         ensures { result ≡ inner self }
     {
@@ -92,8 +93,7 @@ impl<D: Disk> Disk for FailingDisk<D> {
 
     ghost state = { failing_state D.state };
 
-    ghost sound = { λ failing observable.
-        counted_is_sound (D.state failing.disk)
+    ghost sound = { λ failing observable. counted_is_sound (D.state failing.disk)
         failing.faults failing.writes failing.syncs (D.sound failing.disk observable) };
 
     fn len(&self) -> u64 {

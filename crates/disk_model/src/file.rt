@@ -1,5 +1,5 @@
-//! A file as a disk, by reads and writes at an offset. It is a trusted edge: that a file keeps what the contract says
-//! of an observable disk is assumed, so it tells no bytes.
+//! A file as a disk, by reads and writes at an offset. It is a trusted edge: it is assumed that a file keeps what the
+//! contract says of an observable disk, so it tells no bytes.
 ghost use Rattle.std.specs.Prelude.{◌<◌, ◌^◌};
 
 use crate::Disk;
@@ -23,7 +23,8 @@ impl FileDisk {
     ghost use Rattle.disk_model.specs.DiskCalls.{raised};
     ghost use Rattle.disk_model.specs.FileDisk.{file_state};
 
-    /// The file, open for reading and writing, as a disk of so many bytes. That it has as many is the caller's word.
+    /// Takes a file, open for reading and writing, as a disk of `len` bytes. That it has so many is the caller's
+    /// word.
     pub fn new(file: File, len: u64) -> FileDisk
         ensures size { (file_state result).size ≡ len }
         ensures faults { (file_state result).faults ≡ 0 }
@@ -35,7 +36,7 @@ impl FileDisk {
         }
     }
 
-    /// Counts what the system answered.
+    /// Turns the system's answer into the disk's, and counts an error as a fault.
     fn count(&mut self, outcome: io::Result<()>) -> Result<(), DiskFault>
         ensures variant { is_ok result ≡ is_ok outcome }
         ensures size { (file_state self.new).size ≡ (file_state self.old).size }

@@ -48,7 +48,7 @@ impl MemDisk {
     /// A disk with these bytes, all of them durable, whose record has this much room, in bytes: each write takes 16
     /// of them and as many again as it writes, each sync 16.
     ///
-    /// `NoMemory` where there is none for the bytes, twice, and the record. No call on the disk takes memory after it.
+    /// `NoMemory`: there is no memory for two copies of the bytes and for the record. No later call takes memory.
     pub fn new(alloc: Global, bytes: &[u8], room: usize) -> Result<MemDisk, NoMemory>
         ensures { IfOk result (λ disk. disk ≡ fresh bytes.now room) }
     {
@@ -93,8 +93,8 @@ impl MemDisk {
         self.fetched
     }
 
-    /// The disk after a crash at this moment, which makes of the pending bytes what the choice says.
-    /// All that it reads is durable, its record is empty, and its counts are as they were. It takes no memory.
+    /// Crashes the disk at this moment: the choice says what becomes of the pending bytes. Then all that the disk
+    /// reads is durable, its record is empty, and its counts are as they were. It takes no memory.
     pub fn stopped(mut self, choice: StopChoice) -> MemDisk
         ensures image { (memory_state self).crash_images result.bytes }
         ensures chosen { IsChosen choice self.synced self.bytes self.calls result.bytes }

@@ -26,7 +26,7 @@ pub enum StopChoice {
     Fill(u8),
 }
 
-/// Notes a call in the memory that was taken for it.
+/// Adds a call to the record, in memory that was taken before.
 pub fn note(calls: &mut Vec<Call>, call: Call)
     requires { vec_len calls.old < vec_capacity calls.old }
     ensures items { calls.new.items ≡ calls.old.items ++ call ∷ [] }
@@ -35,7 +35,7 @@ pub fn note(calls: &mut Vec<Call>, call: Call)
     calls.push_reserved(call);
 }
 
-/// Keeps bytes that a write is about to replace in the memory that was taken for them.
+/// Saves the bytes that a write is about to replace, in memory that was taken before.
 pub fn keep(replaced: &mut Vec<u8>, bytes: &[u8])
     requires { vec_len replaced.old + length bytes.now ≤ vec_capacity replaced.old }
     ensures items { replaced.new.items ≡ replaced.old.items ++ bytes.now }
@@ -46,7 +46,7 @@ pub fn keep(replaced: &mut Vec<u8>, bytes: &[u8])
     };
 }
 
-/// Puts bytes in the place of those at this offset.
+/// Writes these bytes over those at this offset.
 pub fn put(target: &mut [u8], at: usize, bytes: &[u8])
     requires { at + length bytes.now ≤ length target.old }
     ensures { target.new ≡ overwrite target.old at bytes.now }
@@ -54,7 +54,7 @@ pub fn put(target: &mut [u8], at: usize, bytes: &[u8])
     target[at..at + bytes.len()].copy_from_slice(bytes);
 }
 
-/// Copies the bytes that were written since the last sync.
+/// Copies the bytes that were written since the last sync from `source` to `target`.
 pub fn copy_pending(calls: &[Call], source: &[u8], target: &mut [u8])
     requires size { length source.now ≡ length target.old }
     requires within { LieWithin (length target.old) (reverse calls.now) }
@@ -72,7 +72,7 @@ pub fn copy_pending(calls: &[Call], source: &[u8], target: &mut [u8])
     }
 }
 
-/// Makes of the pending bytes what the choice says, and of the result the bytes of the last sync.
+/// Crashes: the pending bytes become what the choice says, and the result becomes the bytes of the last sync.
 pub fn crash(calls: &[Call], choice: StopChoice, bytes: &mut [u8], synced: &mut [u8])
     requires within { LieWithin (length bytes.old) (reverse calls.now) }
     requires alike { IsCrashImage bytes.old (reverse calls.now) synced.old }

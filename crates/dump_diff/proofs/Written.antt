@@ -9,79 +9,19 @@ use Rattle.std.proofs.lemmas.List.Concat.{flat_map-append}
 use Rattle.store_model.specs.Paths.{Path, is_root, parent}
 use Rattle.store_model.specs.Commands.{Command, command_text, line}
 use Rattle.tree_listing.specs.Dumps.{commands_text}
-use Rattle.store_base.specs.Counts.{faults_after}
-use Rattle.script_lines.specs.SinkState.{SinkState, IsPut}
-use Rattle.dump_diff.specs.Scripts.{Puts, WroteText}
+use Rattle.script_lines.specs.SinkState.{SinkState, IsPut, Puts}
+use Rattle.script_lines.proofs.Putting.{Puts-none, Puts-one, Puts-then, Puts-cut}
+use Rattle.dump_diff.specs.Scripts.{WroteText}
 use Rattle.dump_diff.proofs.TakenAdditions.{text_none, text_append, text_one}
-
-pub wrote_none : (a : SinkState) → WroteText a a []
-wrote_none a = record {
-  observable = refl;
-  faults = refl;
-  observed = λ told. record { appended = sym (append-nil a.written); cut_off = tt };
-}
-
--- a text, and then another
-pub puts_then : {T E : Type 0} (a b c : SinkState) (text more : List ℕ) (result : Result T E) → WroteText a b text
-    → Puts b c more result → Puts a c (text ++ more) result
-puts_then a b c text more (Ok end) first then = record {
-  observable = then.observable ∙ first.observable;
-  faults = then.faults ∙ first.faults;
-  observed = λ told. record {
-    appended = (then.observed (first.observable ∙ told)).appended
-        ∙ ap (λ (all : List ℕ). all ++ more) (first.observed told).appended ∙ append_assoc a.written text more;
-    cut_off = tt;
-  };
-}
-puts_then a b c text more (Err fault) first then = record {
-  observable = then.observable ∙ first.observable;
-  faults = then.faults ∙ ap (λ (n : ℕ). faults_after {T = Unit {0}} n (Err fault)) first.faults;
-  observed = λ told. record {
-    appended = tt;
-    cut_off =
-        let cut = (then.observed (first.observable ∙ told)).cut_off in
-        record {
-          part = text ++ cut.part;
-          rest = cut.rest;
-          is_prefix = ap (λ (all : List ℕ). text ++ all) cut.is_prefix ∙ sym (append_assoc text cut.part cut.rest);
-          appended = cut.appended ∙ ap (λ (all : List ℕ). all ++ cut.part) (first.observed told).appended
-              ∙ append_assoc a.written text cut.part;
-        };
-  };
-}
-
--- a fault, where more was to come
-pub puts_cut : {T U E : Type 0} (a b : SinkState) (text more : List ℕ) (fault : E) → Puts {T = T} a b text (Err fault)
-    → Puts {T = U} a b (text ++ more) (Err fault)
-puts_cut a b text more fault ab = record {
-  observable = ab.observable;
-  faults = ab.faults;
-  observed = λ told. record {
-    appended = tt;
-    cut_off =
-        let cut = (ab.observed told).cut_off in
-        record {
-          part = cut.part;
-          rest = cut.rest ++ more;
-          is_prefix = ap (λ (all : List ℕ). all ++ more) cut.is_prefix ∙ append_assoc cut.part cut.rest more;
-          appended = cut.appended;
-        };
-  };
-}
-
--- one put
-pub puts_one : {T E : Type 0} (a b : SinkState) (text : List ℕ) (result : Result T E)
-    → IsPut a b text result → Puts a b text result
-puts_one a b text result put = record { observable = put.observable; faults = put.faults; observed = put.observed }
 
 -- the line of a command, and that of none
 pub puts_command : {T E : Type 0} (a b : SinkState) (c : Command) (result : Result T E)
     → IsPut a b (line (command_text c)) result → Puts a b (commands_text (c ∷ [])) result
 puts_command a b c result put = subst (λ (text : List ℕ). Puts a b text result) (sym (text_one c))
-    (puts_one a b (line (command_text c)) result put)
+    (Puts-one a b (line (command_text c)) result put)
 
 pub wrote_no_command : (a : SinkState) → WroteText a a (commands_text [])
-wrote_no_command a = subst (WroteText a a) (sym text_none) (wrote_none a)
+wrote_no_command a = subst (WroteText a a) (sym text_none) (Puts-none a tt)
 
 -- the commands of one item more
 pub one_more : {X Y : Type 0} (f : X → List Y) (items : List X) (i : ℕ) (x : X) → i < length items
@@ -100,7 +40,7 @@ wrote_item a b c f items i x own is within at so_far more =
     subst (λ (cs : List Command). WroteText a c (commands_text cs))
     (sym (one_more f items i x within at ∙ ap (λ (cs : List Command). flat_map f (take i items) ++ cs) (sym is)))
     (subst (WroteText a c) (sym (text_append (flat_map f (take i items)) own))
-    (puts_then a b c (commands_text (flat_map f (take i items))) (commands_text own) (Ok tt) so_far more))
+    (Puts-then a b c (commands_text (flat_map f (take i items))) (commands_text own) tt (Ok tt) so_far more))
 
 -- the items before one, it, and those behind it
 whole_split : {X Y : Type 0} (f : X → List Y) (items : List X) (i : ℕ) (x : X) → i < length items → x ≡ get_or items i x
@@ -118,8 +58,8 @@ pub puts_failed : {X T U E : Type 0} (a b c : SinkState) (f : X → List ℕ) (i
     → Puts {T = U} a c (flat_map f items) (Err fault)
 puts_failed {T = T} {U = U} a b c f items i x fault within at so_far failed =
     subst (λ (text : List ℕ). Puts {T = U} a c text (Err fault)) (sym (whole_split f items i x within at))
-    (puts_then a b c (flat_map f (take i items)) (f x ++ flat_map f (drop (i + 1) items)) (Err fault) so_far
-    (puts_cut {T = T} b c (f x) (flat_map f (drop (i + 1) items)) fault failed))
+    (Puts-then a b c (flat_map f (take i items)) (f x ++ flat_map f (drop (i + 1) items)) tt (Err fault) so_far
+    (Puts-cut {T = T} b c (f x) (flat_map f (drop (i + 1) items)) fault fault failed))
 
 -- and at the commands of one
 pub puts_failed_item : {X T U E : Type 0} (a b c : SinkState) (f : X → List Command) (items : List X) (i : ℕ) (x : X)
@@ -133,9 +73,9 @@ puts_failed_item {T = T} {U = U} a b c f items i x own fault is within at so_far
     ap commands_text (whole_split f items i x within at) ∙ text_append (flat_map f (take i items)) (f x ++ more)
     ∙ ap (λ (all : List ℕ). commands_text (flat_map f (take i items)) ++ all) (text_append (f x) more) in
     subst (λ (all : List ℕ). Puts {T = U} a c all (Err fault)) (sym text)
-    (puts_then a b c (commands_text (flat_map f (take i items)))
-    (commands_text (f x) ++ commands_text more) (Err fault) so_far
-    (puts_cut {T = T} b c (commands_text (f x)) (commands_text more) fault
+    (Puts-then a b c (commands_text (flat_map f (take i items)))
+    (commands_text (f x) ++ commands_text more) tt (Err fault) so_far
+    (Puts-cut {T = T} b c (commands_text (f x)) (commands_text more) fault fault
     (subst (λ (cs : List Command). Puts {T = T} b c (commands_text cs) (Err fault)) is failed)))
 
 -- the path above one, and the root for the root

@@ -11,9 +11,8 @@ use Rattle.store_model.specs.Commands.Command.{Make, Write, Cut, Prune, SetAttri
 use Rattle.tree_listing.specs.Dumps.{commands_text}
 use Rattle.script_lines.specs.declared.command.Command as declared
 use Rattle.script_lines.specs.Parsing.{command_of}
-use Rattle.script_lines.specs.SinkState.{SinkState, IsObservable, PutsBytes}
+use Rattle.script_lines.specs.SinkState.{SinkState, IsObservable, Puts}
 use Rattle.script_lines.specs.declared.fault.SinkFault.{SinkFault}
-use Rattle.store_base.specs.Counts.{faults_after}
 use Rattle.dump_diff.specs.declared.difference.Mark.{Mark}
 use Rattle.dump_diff.specs.declared.difference.Mark.TheVariants as marks
 use Rattle.dump_diff.specs.declared.difference.Side.{Side}
@@ -106,13 +105,6 @@ abbrev pub IsAttributePlace : List AttributeDifference → AttributePlace → Re
 IsAttributePlace attributes q result =
     IsFound attribute_cmp (λ (a : AttributeDifference). (a.path, a.name))
     (λ (a : AttributeDifference). a.side) attributes q result
-
--- A text is put out in some puts, perhaps in none, of which the first that fails is the last: then a prefix of it was
--- put out, and the sink had one fault.
-pub record Puts {T E : Type 0} (old new : SinkState) (text : List ℕ) (result : Result T E) : Type 0 where
-  pub observable : new.is_observable ≡ old.is_observable
-  pub faults : new.faults ≡ faults_after old.faults result
-  pub observed : IsObservable old → PutsBytes old new text result
 
 -- the whole text was put out
 abbrev pub WroteText : SinkState → SinkState → List ℕ → Type 0

@@ -1,4 +1,4 @@
-//! Two streams are compared.
+//! Compares two streams.
 
 ghost use Rattle.std.specs.Prelude.{◌≡◌, OnOk, IfOk, true};
 ghost use Rattle.std.specs.Bool.{OnTrue, OnFalse};
@@ -59,8 +59,7 @@ impl Merge {
         ensures second { self.new.second ≡ self.old.second }
         ensures ahead { (t : Tree) → IsAhead (A.came first.old) (A.whole first.old) self.old.first t
             → OnOk result (IsAhead (A.came first.new)
-            (A.whole first.new) self.new.first
-            (next_tree t (command_of self.old.first.command))) }
+            (A.whole first.new) self.new.first (next_tree t (command_of self.old.first.command))) }
         ensures merged { (t u : Tree)
             → IsAhead (A.came first.old) (A.whole first.old) self.old.first t
             → IsMerged self.old t u
@@ -161,7 +160,7 @@ impl Merge {
     }
 }
 
-/// What is different between the trees of two dumps, of which nothing came yet.
+/// Finds the differences between the trees of two dumps. Nothing came yet of either stream.
 ///
 /// `First`, `Second`: that stream ended before its dump did. `NoMemory`: there was none for the differences.
 pub fn compare<A: DumpStream, B: DumpStream>(

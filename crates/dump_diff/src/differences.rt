@@ -92,7 +92,8 @@ impl Differences {
         second: &Command,
     ) -> Result<(), NoMemory>
         ensures marks { IsNoted side (command_of first.now) (command_of second.now)
-            (marks_of self.old.paths.items) (marks_of self.new.paths.items) result }
+            (marks_of self.old.paths.items)
+            (marks_of self.new.paths.items) result }
         ensures attributes { IsAttributeNoted side
             (noted side (command_of first.now) (command_of second.now))
             (marks_of self.old.paths.items) (marks_of self.new.paths.items)
@@ -142,8 +143,7 @@ impl Differences {
         side: Side,
     ) -> Result<(), NoMemory>
         ensures paths { self.new.paths ≡ self.old.paths }
-        ensures attributes { OnOk result
-            (self.new.attributes.items
+        ensures attributes { OnOk result (self.new.attributes.items
             ≡ with_attribute self.old.attributes.items mark side path.now name.now) }
     {
         if mark == Mark::Bytes || mark == Mark::Attributes {
@@ -217,7 +217,8 @@ fn mark_of(side: Side, first: &Command, second: &Command) -> Mark
 fn mark_of_one(command: &Command, alone: Mark) -> Mark
     ensures first { is_first (command_of command.now) ≡ true → result ≡ alone }
     ensures later { is_listed (command_of command.now) ≡ true
-        → is_first (command_of command.now) ≡ false → result ≡ change_of (command_of command.now) }
+        → is_first (command_of command.now) ≡ false
+        → result ≡ change_of (command_of command.now) }
 {
     match command {
         Command::Set(_, _, _) => Mark::Attributes,

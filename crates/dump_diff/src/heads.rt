@@ -17,7 +17,7 @@ pub struct Head {
 }
 
 impl Head {
-    /// No command.
+    /// Makes a head with no command.
     pub fn new() -> Self {
         Head {
             command: Command::Space,

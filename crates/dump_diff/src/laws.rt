@@ -10,5 +10,6 @@ ghost use Rattle.dump_diff.specs.Differences.{AreDifferences};
 /// there is none.
 pub fn no_mark_says_that_trees_are_equal()
     ensures { (t u : Tree) (marks : List (Path × Mark)) → IsTree t → IsTree u
-        → AreDifferences t u marks → (marks ≡ []) ↔ (t ≡ u) }
+        → AreDifferences t u marks
+        → (marks ≡ []) ↔ (t ≡ u) }
 {}

@@ -1,9 +1,9 @@
 //! What is different between two dumps, and the script that leads from one tree to the other.
 //!
-//! Two streams are compared in one pass, command by command in the order of their places: path by path, and at each
-//! path first what stands there, by offsets, and then its attributes, by name. No more than one command of each is
-//! kept. The first command at a path that one dump has alone, or that the other has otherwise, tells how the path
-//! differs. What is kept of a difference are names: a path, and the names of attributes.
+//! Start at `compare`. It compares two streams in one pass, command by command in the order of their places: path by
+//! path, and at each path first what stands there, by offsets, and then its attributes, by name. It keeps no more
+//! than one command of each. The first command at a path that one dump has alone, or that the other has otherwise,
+//! tells how the path differs. Of a difference only names are kept: a path, and the names of attributes.
 //!
 //! The script is written from the differences and a second pass over the second dump: first what is taken away and cut,
 //! and then what is made and written.

@@ -1,17 +1,14 @@
 //! The lines of differences.
 
-ghost use Rattle.std.specs.Prelude.{◌≡◌, ◌≤◌, ◌+◌, ◌++◌, length};
+ghost use Rattle.std.specs.Prelude.{◌≡◌};
 ghost use Rattle.std.specs.List.{flat_map};
-ghost use Rattle.script_lines.specs.SinkState.{IsPut};
+ghost use Rattle.script_lines.specs.SinkState.{IsPut, Puts};
 ghost use Rattle.dump_diff.specs.Scripts as model;
-ghost use Rattle.dump_diff.specs.Scripts.{Puts, difference_line};
-ghost use Rattle.store_model.specs.Paths.{path_text};
-ghost use Rattle.script_lines.specs.CommandLines.{names_text};
+ghost use Rattle.dump_diff.specs.Scripts.{difference_line};
 
 use crate::difference::{Difference, Mark};
 use crate::differences::Differences;
-use path_keys::Path;
-use script_lines::{MAX_TEXT, Sink, SinkFault, Text};
+use script_lines::{Sink, SinkFault, Text};
 
 /// Writes a line for each path at which two trees differ: `D PATH` where the first has an entry alone, `A PATH` where
 /// the second has, and `M PATH` where both have and the entries differ.
@@ -33,7 +30,7 @@ fn write_difference<W: Sink>(difference: &Difference, sink: &mut W) -> Result<()
 {
     let mut text = Text::new();
     text.push(letter(difference.mark));
-    push_path(&mut text, &difference.path);
+    text.push_path(&difference.path);
     text.push(b"\n");
     sink.put(text.as_slice())
 }
@@ -46,31 +43,5 @@ fn letter(mark: Mark) -> &'static [u8]
         Mark::Removed => b"D ",
         Mark::Added => b"A ",
         Mark::Kind | Mark::Bytes | Mark::Attributes => b"M ",
-    }
-}
-
-/// Adds the text of a path, 120 bytes at most.
-#[tactic(auto, unfolding(store_model::specs::Paths::path_text))]
-fn push_path(text: &mut Text, path: &Path)
-    requires { length text.old + Path.MAX_LEN ≤ MAX_TEXT }
-    ensures value { text.new ≡ text.old ++ path_text path.now }
-    ensures fits { length text.new ≤ length text.old + Path.MAX_LEN }
-{
-    if path.is_root() {
-        text.push(b"/");
-    } else {
-        push_names(text, path);
-    }
-}
-
-/// Adds `/` and the name for each name of a path.
-fn push_names(text: &mut Text, path: &Path)
-    requires { length text.old + length (names_text path.now) ≤ MAX_TEXT }
-    ensures { text.new ≡ text.old ++ names_text path.now }
-{
-    if let Some(parent) = path.parent() {
-        push_names(text, &parent);
-        text.push(b"/");
-        text.push(path.name());
     }
 }

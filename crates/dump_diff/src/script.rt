@@ -8,10 +8,10 @@ ghost use Rattle.tree_listing.specs.Dumps.{commands_text};
 ghost use Rattle.dump_diff.specs.declared.difference.Mark.TheVariants as marks;
 ghost use Rattle.dump_diff.specs.Differences.{marks_of};
 ghost use Rattle.script_lines.specs.Parsing.{command_of};
-ghost use Rattle.script_lines.specs.SinkState.{IsPut};
+ghost use Rattle.script_lines.specs.SinkState.{IsPut, Puts};
 ghost use Rattle.store_model.specs.Commands.{command_text, line};
 ghost use Rattle.dump_diff.specs.Scripts as model;
-ghost use Rattle.dump_diff.specs.Scripts.{AreRising, TakesAddition, TookAdditions, Puts};
+ghost use Rattle.dump_diff.specs.Scripts.{AreRising, TakesAddition, TookAdditions};
 
 use crate::difference::{AttributeDifference, Difference, Mark, Side};
 use crate::differences::Differences;
@@ -19,13 +19,12 @@ use dump_streams::{Taker, TakerFault};
 use path_keys::Path;
 use script_lines::{Command, Sink, SinkFault, write_command};
 
-/// Writes the lines that take away of the first tree what the second has not, and cut what it has otherwise: `prune`
-/// for each path that is gone or has another kind, unless its parent is pruned; `cut` to no byte for each file whose
-/// bytes differ; and then `unset` for each attribute that is gone or has other bytes.
+/// Writes the first part of the script: the lines that take away what the second tree has not, and cut what it has
+/// otherwise. These are `prune` for each path that is gone or has another kind, unless its parent is pruned; `cut` to
+/// no byte for each file whose bytes differ; and then `unset` for each attribute that is gone or has other bytes.
 /// `SinkFault`: a put failed, and no other was made after it. A prefix of the lines may have been written.
 pub fn write_removals<W: Sink>(found: &Differences, sink: &mut W) -> Result<(), SinkFault>
-    ensures { AreRising found.now
-        → Puts (W.state sink.old) (W.state sink.new)
+    ensures { AreRising found.now → Puts (W.state sink.old) (W.state sink.new)
         (commands_text (model.removal_commands found.now)) result }
 {
     write_cuts(found, sink)?;
@@ -34,8 +33,7 @@ pub fn write_removals<W: Sink>(found: &Differences, sink: &mut W) -> Result<(), 
 
 /// Writes the lines that prune and cut.
 fn write_cuts<W: Sink>(found: &Differences, sink: &mut W) -> Result<(), SinkFault>
-    ensures { AreRising found.now
-        → Puts (W.state sink.old) (W.state sink.new)
+    ensures { AreRising found.now → Puts (W.state sink.old) (W.state sink.new)
         (commands_text (flat_map (model.cut_commands (marks_of found.now.paths.items))
         found.now.paths.items)) result }
 {
@@ -110,7 +108,8 @@ fn unset_of(attribute: &AttributeDifference) -> Option<Command>
     }
 }
 
-/// Writes, of the commands of the second dump, those that make and write what the first tree has not, or has otherwise.
+/// Writes the second part of the script: those commands of the second dump that make and write what the first tree
+/// has not, or has otherwise.
 #[derive(Drop)]
 pub struct AdditionTaker<W: Sink> {
     found: Differences,
@@ -127,7 +126,7 @@ impl<W: Sink> AdditionTaker<W> {
         AdditionTaker { found, sink }
     }
 
-    /// The sink, with what was written.
+    /// Gives the sink back, with what was written.
     pub fn into_sink(self) -> W
         ensures { result ≡ self.sink }
     {

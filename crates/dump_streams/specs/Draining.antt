@@ -24,7 +24,7 @@ module _ {S T : Type 0} (came whole : S → Tree → Type 0) (fails : S → Tree
     pub whole_is : whole stream tree
     pub took_is : took first taker (dump tree)
 
-  -- the stream told a fault behind the dump of a tree, or gave too many commands, and just the commands that it gave
+  -- the stream told a fault after the dump of a tree, or gave too many commands, and just the commands that it gave
   -- were taken
   pub record TakesFront (stream : S) (first taker : T) (fault : StreamFault) : Type 0 where
     pub tree : Tree
@@ -62,7 +62,7 @@ module _ {S W : Type 0} (came whole : S → Tree → Type 0) (fails : S → Tree
     pub written : HasWritten sink_of old new tree
     pub faults : (sink_of new).faults ≡ (sink_of old).faults
 
-  -- the stream told a fault behind the dump of a tree, or gave too many commands, and the lines of those that it gave
+  -- the stream told a fault after the dump of a tree, or gave too many commands, and the lines of those that it gave
   -- were written
   pub record WritesFront (stream : S) (old new : W) (fault : StreamFault) : Type 0 where
     pub tree : Tree

@@ -1,4 +1,4 @@
-//! A stream is led into a taker.
+//! Leads a stream into a taker.
 
 ghost use Rattle.std.specs.Prelude.{◌≡◌, []};
 ghost use Rattle.store_model.specs.Trees.{Tree};

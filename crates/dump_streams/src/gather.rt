@@ -14,11 +14,11 @@ use store_base::NoMemory;
 /// So many bytes are gathered.
 const ROOM: usize = 65_536;
 
-/// Gathers bytes, up to 65,536, and puts them into a sink by one call. All of its room is taken as it is made. What is
-/// still held when the bytes end has to be put by `flush`.
+/// Gathers bytes, up to 65,536, and puts them into a sink by one call. All of its memory is taken when it is made.
+/// When the bytes end, `flush` has to put those that are still held.
 ///
-/// Its count of faults is its own, and starts at 0. After a fault each further call is one, and no more is put into the
-/// sink: how many of the bytes that were held came there is not known.
+/// Its count of faults is its own, and starts at 0. After a fault each further call fails too, and nothing more is
+/// put into the sink. How many of the held bytes came there is not known.
 #[derive(Drop)]
 pub struct GatheredSink<W: Sink> {
     sink: W,
@@ -40,8 +40,7 @@ impl<W: Sink> Model for GatheredSink<W> {
       sink = g.sink;
       held = g.held.items;
       is_broken = g.is_broken;
-      faults =
-          g.faults;
+      faults = g.faults;
       before = g.before.value;
     } };
 
@@ -139,7 +138,7 @@ impl<W: Sink> GatheredSink<W> {
         Ok(())
     }
 
-    /// The sink. It lacks the bytes that are still held, and after a fault others of them.
+    /// Gives the sink back. It lacks the bytes that are still held; after a fault it may have the first of them.
     pub fn into_sink(self) -> W
         ensures sink { result ≡ self.sink }
         ensures front { IsObservable (W.state result)

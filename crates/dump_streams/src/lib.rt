@@ -1,7 +1,7 @@
 //! Dumps, command after command: where they come from, and what takes them.
 //!
-//! A stream gives the commands of a dump one after another, and no more than one is kept. What does something with
-//! each of them is a taker. `drain` leads a stream into a taker, to the stream's end.
+//! Start at `DumpStream` and `Taker`. A stream gives the commands of a dump one after another, and keeps no more than
+//! one. A taker does something with each of them. `drain` leads a stream into a taker, to the stream's end.
 #![tactic(auto)]
 
 mod draining;

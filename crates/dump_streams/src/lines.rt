@@ -24,7 +24,7 @@ impl<W: Sink> LineTaker<W> {
         LineTaker { sink }
     }
 
-    /// The sink, with what was written.
+    /// Gives the sink back, with what was written.
     pub fn into_sink(self) -> W
         ensures { result ≡ self.sink }
     {
@@ -51,7 +51,7 @@ impl<W: Sink> Taker for LineTaker<W> {
     }
 }
 
-/// Takes all commands and does nothing: what is left of draining a stream is that it was whole.
+/// Takes all commands and does nothing: to drain a stream into it only tells whether the stream is whole.
 #[derive(Clone, Copy, Debug)]
 pub struct NoTaker;
 

@@ -54,7 +54,7 @@ impl<R: Source> ListingStream<R> {
         self.count
     }
 
-    /// The source.
+    /// Gives the source back.
     pub fn into_source(self) -> R
         ensures { result ≡ self.lines.source }
     {
@@ -72,7 +72,8 @@ impl<R: Source> ListingStream<R> {
     /// the source has more bytes than a script may have.
     fn next_command(&mut self, into: &mut Command) -> Result<bool, StreamFault>
         ensures next { IsNext (CameOf R.state self.old) (CameOf R.state self.new)
-            (IsListed R.state self.new) (EndsBy R.state self.new) (command_of into.new) result }
+            (IsListed R.state self.new)
+            (EndsBy R.state self.new) (command_of into.new) result }
         ensures same { self.new.first ≡ self.old.first }
     {
         if !self.lines.is_live() {
@@ -95,8 +96,8 @@ impl<R: Source> ListingStream<R> {
     }
 }
 
-/// Takes the command that a text spells, behind those that were taken: whether some tree's dump begins with them all.
-/// It is put in the place of another one.
+/// Takes the command that a text spells, behind those that were taken, and says whether some tree's dump begins with
+/// them all. The command is read into `command`.
 fn take_text(text: &[u8], reader: &mut ListingReader, command: &mut Command) -> bool
     requires { length text.now ≤ MAX_LINE }
     ensures { TakesText reader.old reader.new text.now (command_of command.new) result }

@@ -1,4 +1,4 @@
-//! A listing is led into a taker.
+//! Leads a listing into a taker.
 
 ghost use Rattle.std.specs.Prelude.{◌≡◌};
 ghost use Rattle.dump_streams.specs.Listings.{CameOf, IsListed, EndsBy};

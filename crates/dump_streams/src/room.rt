@@ -8,7 +8,7 @@ use std::alloc::Global;
 use std::marker::Model;
 use store_base::NoMemory;
 
-/// Has a line, which is given away in pieces.
+/// Holds a line, and gives it away in pieces.
 #[derive(Drop)]
 pub struct LineRoom {
     bytes: Vec<u8>,

@@ -63,7 +63,7 @@ impl<S: DumpStream> ListingSource<S> {
         self.fault
     }
 
-    /// The stream.
+    /// Gives the stream back.
     pub fn into_stream(self) -> S
         ensures { result ≡ self.stream }
     {
@@ -99,8 +99,8 @@ impl<S: DumpStream> ListingSource<S> {
         }
     }
 
-    /// Takes the next line, unless a part of one is left or all lines came, and keeps a fault: whether none came now or
-    /// before.
+    /// Takes the next line, unless a part of one is left or all lines came, and keeps a fault. It says whether no
+    /// fault came, now or before.
     fn is_ready(&mut self) -> bool
         ensures going { IsTrue result → self.new.fault ≡ None }
         ensures ready { (bytes : List ℕ) → Gave S.came S.whole self.old bytes
@@ -133,8 +133,9 @@ impl<S: DumpStream> Source for ListingSource<S> {
         ensures contract { IsTake (source_state self.old) (source_state self.new) into.new result }
         ensures given { (bytes : List ℕ) → Gave S.came S.whole self.old bytes
             → IfOk result (λ count. Gave S.came S.whole self.new (bytes ++ take count into.new)) }
-        ensures end { (bytes : List ℕ) → Gave S.came S.whole self.old bytes → 0 < length into.new
-            → result ≡ Ok 0 → self.new.is_ended ≡ true }
+        ensures end { (bytes : List ℕ) → Gave S.came S.whole self.old bytes
+            → 0 < length into.new → result ≡ Ok 0
+            → self.new.is_ended ≡ true }
         ensures fault { MatchResult result (λ count. self.new.fault ≡ None)
             (λ fault. IsTrue (is_some self.new.fault)) }
     {

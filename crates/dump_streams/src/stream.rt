@@ -22,10 +22,9 @@ pub trait DumpStream {
     /// After the commands of the dump of this tree the stream told this fault, and what was the cause.
     ghost fails: { Self → Tree → StreamFault → Type 0 };
 
-    /// Puts the next command into the place of another one; `false` where the dump is whole, and then some command
-    /// stands there.
+    /// Puts the next command into `into`; `false` where the dump is whole, and then any command may stand there.
     ///
-    /// After an error nothing is said of what the stream gives.
+    /// After an error nothing is promised of what the stream gives.
     fn next(&mut self, into: &mut Command) -> Result<bool, StreamFault>
         ensures next { IsNext (came self.old) (came self.new) (whole self.new) (fails self.new)
             (command_of into.new) result }

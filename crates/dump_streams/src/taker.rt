@@ -27,6 +27,6 @@ pub trait Taker {
     /// Takes a command of a dump.
     /// After an error a part of it may have been carried out.
     fn take(&mut self, command: &Line) -> Result<(), TakerFault>
-        ensures { (first : Self)
-            → IsTaken (took first self.old) (took first self.new) (command_of command.now) result };
+        ensures { (first : Self) → IsTaken (took first self.old) (took first self.new)
+            (command_of command.now) result };
 }

@@ -1,4 +1,4 @@
-//! The listing of a stream is written.
+//! Writes the listing of a stream.
 
 ghost use Rattle.store_model.specs.Trees.{empty_tree};
 ghost use Rattle.dump_streams.specs.Draining.{WritesDump};

@@ -21,10 +21,11 @@ use Rattle.store_model.proofs.TreesLemmasFewer.{find_below_all}
 use Rattle.store_model.proofs.TreesLemmasPaths.{tie_from_test, same_path-itself, same_path-from_equal}
 use Rattle.tree_listing.specs.Dumps.{dump, dump_piece, file_commands, node_commands, attribute_commands, entry_commands}
 use Rattle.tree_pairs.specs.Kinds.{kind_of}
+use Rattle.script_lines.specs.Parsing.{long_of}
 use Rattle.tree_pairs.specs.declared.kind.Kind.TheVariants as kinds
 use Rattle.dump_views.specs.declared.entry.ListedEntry.{ListedEntry}
 use Rattle.dump_views.specs.Entries.{Kept, keep, begun, changed, is_last, entries_of, bare_entry, with_attribute}
-use Rattle.dump_views.specs.Entries.{with_length, is_x, seconds_of, listed_entry, nothing_kept, seconds_in}
+use Rattle.dump_views.specs.Entries.{with_length, is_x, seconds_of, listed_entry, nothing_kept}
 
 -- ---- how long a file is
 
@@ -102,7 +103,7 @@ path_stays e name bytes = by_tests (same_bytes name (codes "mode")) (same_bytes 
   where
     by_tests : (m t : Bool)
         → (cond m (record e { is_executable = same_bytes bytes (codes "x") })
-        (cond t (record e { seconds = seconds_in bytes }) e)).path ≡ e.path
+        (cond t (record e { seconds = long_of bytes }) e)).path ≡ e.path
     by_tests true t = refl
     by_tests false true = refl
     by_tests false false = refl
@@ -134,12 +135,12 @@ told_by e mode mtime = record {
 
     seconds_by : Option (List ℕ) → Option ℕ
     seconds_by None = e.seconds
-    seconds_by (Some bytes) = seconds_in bytes
+    seconds_by (Some bytes) = long_of bytes
 
 told_more : (m t : Bool) (e : ListedEntry) (bytes : List ℕ) (mode mtime : Option (List ℕ)) → (m ≡ true → mode ≡ None)
     → (t ≡ true → mtime ≡ None) → (m ≡ true → t ≡ false)
     → told_by (cond m (record e { is_executable = same_bytes bytes (codes "x") })
-    (cond t (record e { seconds = seconds_in bytes }) e)) mode mtime
+    (cond t (record e { seconds = long_of bytes }) e)) mode mtime
     ≡ told_by e (cond m (Some bytes) mode) (cond t (Some bytes) mtime)
 unfolding told_by
 told_more true true e bytes mode mtime once again apart = let no : true ≡ false = apart refl in cc

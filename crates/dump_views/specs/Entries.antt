@@ -1,13 +1,13 @@
 -- What a listing keeps of the commands of a dump.
-use Rattle.std.specs.Prelude.{◌≡◌, ℕ, ◌+◌, ◌^◌, ◌≤◌, Bool, true, false, ◌&&◌, nat_le, List, [], ◌++◌, length, fold}
+use Rattle.std.specs.Prelude.{◌≡◌, ℕ, ◌+◌, ◌^◌, ◌≤◌, Bool, true, false, List, [], ◌++◌, length, fold}
 use Rattle.std.specs.Prelude.{Option, Some, None, option_map, option_to_list, if◌then◌else◌, codes}
 use Rattle.std.specs.FinMap.{find}
 use Rattle.store_model.specs.Lists.{same_bytes}
 use Rattle.store_model.specs.Paths.{Path, Name, name_cmp, same_path}
 use Rattle.store_model.specs.Trees.{Entry}
-use Rattle.store_model.specs.Grammar.{is_numeral, digits_value}
 use Rattle.store_model.specs.Commands.{Command}
 use Rattle.store_model.specs.Commands.Command.{Make, Write, SetAttribute}
+use Rattle.script_lines.specs.Parsing.{long_of}
 use Rattle.tree_pairs.specs.Kinds.{kind_of}
 use Rattle.tree_pairs.specs.declared.kind.Kind.{Kind}
 use Rattle.tree_pairs.specs.declared.kind.Kind.TheVariants as kinds
@@ -15,11 +15,6 @@ use Rattle.dump_streams.specs.declared.taker.TakerFault.{TakerFault}
 use Rattle.dump_streams.specs.declared.taker.TakerFault.TheVariants as faults
 use Rattle.dump_views.specs.declared.entry.ListedEntry.{ListedEntry}
 use Rattle.dump_views.specs.declared.lister.TreeLister.{TreeLister}
-
--- the number of 64 bits that decimal digits spell, with no leading zero but `0` itself
-unfoldable pub seconds_in : List ℕ → Option ℕ
-seconds_in text = if is_numeral text && nat_le (digits_value text) 18446744073709551615 then Some
-    (digits_value text) else None
 
 -- what is kept of a path that has no attribute
 abbrev pub bare_entry : Path → Kind → ListedEntry
@@ -30,7 +25,7 @@ bare_entry p kind = record { path = p; kind = kind; is_executable = false; secon
 abbrev pub with_attribute : ListedEntry → Name → List ℕ → ListedEntry
 with_attribute e name bytes =
     if same_bytes name (codes "mode") then record e { is_executable = same_bytes bytes (codes "x") }
-    else (if same_bytes name (codes "mtime") then record e { seconds = seconds_in bytes } else e)
+    else (if same_bytes name (codes "mtime") then record e { seconds = long_of bytes } else e)
 
 -- what is kept: the entries that are whole, and the one that the next command may add to
 pub record Kept : Type 0 where
@@ -96,7 +91,7 @@ is_x (Some bytes) = same_bytes bytes (codes "x")
 -- the number that an attribute spells, if there is one and it spells one
 abbrev pub seconds_of : Option (List ℕ) → Option ℕ
 seconds_of None = None
-seconds_of (Some bytes) = seconds_in bytes
+seconds_of (Some bytes) = long_of bytes
 
 -- what a listing tells of an entry of a tree
 unfoldable pub listed_entry : Path → Entry → ListedEntry

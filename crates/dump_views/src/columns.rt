@@ -1,9 +1,8 @@
 //! The lines of a listing.
 
 ghost use Rattle.std.specs.Prelude.{◌≡◌, ◌≤◌, ◌+◌, ◌++◌, length};
-ghost use Rattle.store_model.specs.Paths.{last_name, path_text};
+ghost use Rattle.store_model.specs.Paths.{last_name};
 ghost use Rattle.script_lines.specs.SinkState.{IsPut};
-ghost use Rattle.script_lines.specs.CommandLines.{names_text};
 ghost use Rattle.dump_views.specs.Texts.{entry_line, heading, length_text, letter_of, right_aligned};
 
 use crate::entry::ListedEntry;
@@ -41,7 +40,7 @@ pub(crate) fn write_heading<W: Sink>(sink: &mut W, path: &Path) -> Result<(), Si
     ensures { IsPut (W.state sink.old) (W.state sink.new) (heading path.now) result }
 {
     let mut text = Text::new();
-    push_path(&mut text, path);
+    text.push_path(path);
     text.push(b":\n");
     sink.put(text.as_slice())
 }
@@ -91,32 +90,6 @@ fn push_name(text: &mut Text, path: &Path)
     ensures fits { length text.new ≤ length text.old + Path.MAX_LEN }
 {
     if !path.is_root() {
-        text.push(path.name());
-    }
-}
-
-/// Adds the text of a path, 120 bytes at most.
-#[tactic(auto, unfolding(store_model::specs::Paths::path_text))]
-fn push_path(text: &mut Text, path: &Path)
-    requires { length text.old + Path.MAX_LEN ≤ MAX_TEXT }
-    ensures value { text.new ≡ text.old ++ path_text path.now }
-    ensures fits { length text.new ≤ length text.old + Path.MAX_LEN }
-{
-    if path.is_root() {
-        text.push(b"/");
-    } else {
-        push_names(text, path);
-    }
-}
-
-/// Adds `/` and the name for each name of a path.
-fn push_names(text: &mut Text, path: &Path)
-    requires { length text.old + length (names_text path.now) ≤ MAX_TEXT }
-    ensures { text.new ≡ text.old ++ names_text path.now }
-{
-    if let Some(parent) = path.parent() {
-        push_names(text, &parent);
-        text.push(b"/");
         text.push(path.name());
     }
 }

@@ -25,8 +25,9 @@ pub enum Standing {
     File,
 }
 
-/// Puts the bytes that the commands of a dump write at one path into a sink, and keeps what stands there. So at the
-/// end of a dump it has put the bytes of the file at that path, and nothing where there is none.
+/// Finds one file in a dump. It puts the bytes that the commands write at one path into a sink, and remembers what
+/// stands there. So at the end of a dump it put the bytes of the file at that path, and nothing where there is no
+/// file.
 #[derive(Drop)]
 pub struct ContentTaker<W: Sink> {
     path: Path,
@@ -61,7 +62,7 @@ impl<W: Sink> ContentTaker<W> {
         self.standing
     }
 
-    /// The sink, with the bytes that were put into it.
+    /// Gives the sink back, with the bytes that were put into it.
     pub fn into_sink(self) -> W
         ensures { result ≡ self.sink }
     {
@@ -73,7 +74,7 @@ impl<W: Sink> ContentTaker<W> {
         sink
     }
 
-    /// A folder is made.
+    /// Takes the command that makes a folder.
     fn make(&mut self, path: &Path)
         ensures { self.new ≡ record self.old {
           standing =
@@ -85,7 +86,7 @@ impl<W: Sink> ContentTaker<W> {
         }
     }
 
-    /// Bytes are written into a file. Where that failed, the first of them may have been put.
+    /// Takes the command that writes bytes into a file. After an error the first of them may have been put.
     fn write(&mut self, path: &Path, at: u32, bytes: &[u8]) -> Result<(), TakerFault>
         ensures taken { TakesOne W.state self.old self.new (Write path.now at bytes.now) result }
         ensures fault { IfErr result (λ fault. fault ≡ faults.Failed) }

@@ -49,7 +49,7 @@ pub fn write_listing<W: Sink>(
     }
 }
 
-/// The entries in the order of the folders in which they stand, and else in the order in which they were.
+/// Sorts the entries by the folders in which they stand. Within a folder their order stays.
 fn grouped(alloc: Global, entries: &[ListedEntry]) -> Result<Vec<ListedEntry>, NoMemory>
     ensures { IfOk result (λ grouped. AreGrouped entries.now grouped.items) }
 {

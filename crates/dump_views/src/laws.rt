@@ -16,8 +16,8 @@ pub fn a_dump_writes_each_file()
         ≡ standing_of (node_at t p) }
 {}
 
-/// Of the commands of the dump of a tree a listing keeps an entry for each path, in the order of paths: what stands
-/// there, how long it is, and what its attributes tell.
+/// From the dump of a tree a listing keeps an entry for each path, in the order of paths: what stands there, how long
+/// it is, and what its attributes tell.
 pub fn a_dump_tells_each_entry()
     ensures { (t : Tree) → IsTree t → entries_of (fold keep nothing_kept (dump t))
         ≡ map (λ e. listed_entry e.0 e.1) t }

@@ -1,6 +1,7 @@
 //! Views of a dump: the bytes of one file of it, and what stands in each of its folders.
 //!
-//! Both are takers: they take the commands of a dump one after another, wherever these come from.
+//! Start at `ContentTaker` and `TreeLister`. Both are takers: they take the commands of a dump one after another,
+//! wherever these come from.
 #![tactic(auto)]
 
 mod columns;

@@ -42,7 +42,7 @@ impl TreeLister {
         }
     }
 
-    /// What was kept, in the order of the commands: of a dump, in the order of paths.
+    /// Gives what was kept, in the order of the commands: of a dump, in the order of paths.
     pub fn into_entries(self) -> Result<Vec<ListedEntry>, NoMemory>
         ensures { IfOk result (λ entries. entries.items ≡ entries_of (kept_of self)) }
     {
@@ -91,7 +91,7 @@ impl TreeLister {
         }
     }
 
-    /// A file has so many bytes.
+    /// Notes how many bytes a file has by this write.
     fn write(&mut self, path: &Path, at: u32, bytes: &[u8]) -> Result<(), TakerFault>
         ensures kept { OnOk result
             (kept_of self.new ≡ keep (kept_of self.old) (Write path.now at bytes.now)) }
@@ -114,7 +114,7 @@ impl TreeLister {
         }
     }
 
-    /// A path is given an attribute.
+    /// Notes an attribute that a path is given.
     fn set(&mut self, path: &Path, name: &AttrName, bytes: &[u8])
         ensures { kept_of self.new ≡ keep (kept_of self.old)
             (SetAttribute path.now name.now bytes.now) }

@@ -46,7 +46,7 @@ pub record PutsFileBytes {T : Type 0} (path : Path) (size at : ℕ) (piece : Lis
   -- it adds at most a pair for each byte
   pub added : IsObservable old → OnOk result (length new.pairs ≤ length old.pairs + length piece)
 
--- a call that leaves the first bytes of a file alone, where it has at most so many
+-- a call that cuts a file to its first bytes, where it has at most so many
 pub record CutsBytes {T : Type 0} (path : Path) (size len : ℕ) (old new : PairsState)
     (result : Result T Fault) : Type 0 where
   pub faults : new.faults ≡ disk_faults_after old.faults result

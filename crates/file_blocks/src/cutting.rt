@@ -18,8 +18,8 @@ use tree_pairs::{
     FILE_BLOCK, Kind, file_value, first_of, inline_in, inline_value, is_inline, kind_told,
 };
 
-/// Leaves the first bytes of the file alone, so many. Where the version has them in one pair, the file's blocks are
-/// taken away.
+/// Cuts the file to its first bytes, so many. Where the version has them in one pair, the file's blocks are taken
+/// away.
 ///
 /// It is refused, in this order: `Missing` where nothing stands there, `Kind` where a directory does, `Gap` where the
 /// file has fewer bytes. A refusal changes nothing. A fault of the pairs is handed on; nothing is promised of the pairs
@@ -31,8 +31,9 @@ pub fn cut<P: OrderedPairs>(
     version: Version,
 ) -> Result<Answer<()>, Fault>
     requires room { HasRoom (P.state pairs.old) }
-    ensures call { CarriesOutUnder version (λ _. Acknowledged) (Cut path.now len)
-        (P.state pairs.old) (P.state pairs.new) result }
+    ensures call { CarriesOutUnder version (λ _. Acknowledged)
+        (Cut path.now len) (P.state pairs.old)
+        (P.state pairs.new) result }
     ensures hidden { IsObservable (P.state pairs.new) → IsObservable (P.state pairs.old) }
     ensures follows { P.follows pairs.old pairs.new }
 {
@@ -154,8 +155,9 @@ fn drop_blocks<P: OrderedPairs>(
 /// Cuts the last block to what it holds of the first bytes, so many.
 fn cut_block<P: OrderedPairs>(pairs: &mut P, path: &Path, len: u32) -> Result<(), Fault>
     requires room { HasRoom (P.state pairs.old) }
-    ensures call { CutsBytes path.now (FILE_BLOCK * ((len + (FILE_BLOCK - 1)) / FILE_BLOCK)) len
-        (P.state pairs.old) (P.state pairs.new) result }
+    ensures call { CutsBytes path.now (FILE_BLOCK * ((len + (FILE_BLOCK - 1)) / FILE_BLOCK))
+        len (P.state pairs.old)
+        (P.state pairs.new) result }
     ensures fewer { IsObservable (P.state pairs.old)
         → OnOk result (length (P.state pairs.new).pairs ≤ length (P.state pairs.old).pairs + 1) }
     ensures hidden { IsObservable (P.state pairs.new) → IsObservable (P.state pairs.old) }

@@ -1,6 +1,8 @@
-//! The bytes of files, over any list of pairs that holds a tree. A file has a first pair, which tells its length, and
-//! a pair for each 256 bytes, numbered from 1. Under version 2 a short file has its bytes in its first pair, and no
-//! other. Each call reads and changes the first pair and those of the blocks that it touches, and no others.
+//! The bytes of files, over any list of pairs that holds a tree. Start at `read_at`, `write_at` and `cut`.
+//!
+//! A file has a first pair, which tells its length, and a pair for each 256 bytes, numbered from 1. Under version 2 a
+//! short file has its bytes in its first pair, and no other. Each call reads and changes the first pair and those of
+//! the blocks that it touches, and no others.
 #![tactic(auto)]
 
 ghost use Rattle.std.specs.Prelude.{◌≡◌};

@@ -19,7 +19,7 @@ use tree_pairs::{FILE_BLOCK, Kind, first_of, inline_in, kind_told};
 /// The most bytes that one read answers.
 const READ_LIMIT: u32 = Bytes::MAX_LEN as u32;
 
-/// The bytes of the file from a place on: as many as asked for, and fewer at the end.
+/// Reads the bytes of the file from a place on: as many as asked for, and fewer at the end.
 ///
 /// It is refused, in this order: `Missing` where nothing stands there, `Kind` where a directory does, `Gap` where the
 /// place is greater than the file's length, `Big` where more than 4,096 bytes are asked for. The pairs stay as they

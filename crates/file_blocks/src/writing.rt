@@ -37,8 +37,9 @@ pub fn write_at<P: OrderedPairs>(
 ) -> Result<Answer<()>, Fault>
     requires parent { HasParent (P.state pairs.old) path.now }
     requires room { HasRoom (P.state pairs.old) }
-    ensures call { CarriesOutUnder version (λ _. Acknowledged) (Write path.now at bytes.now)
-        (P.state pairs.old) (P.state pairs.new) result }
+    ensures call { CarriesOutUnder version (λ _. Acknowledged)
+        (Write path.now at bytes.now) (P.state pairs.old)
+        (P.state pairs.new) result }
     ensures hidden { IsObservable (P.state pairs.new) → IsObservable (P.state pairs.old) }
     ensures follows { P.follows pairs.old pairs.new }
 {

@@ -59,8 +59,8 @@ abbrev pub AreErased : ℕ → Changes → ℕ → List ℕ → Type 0
 AreErased slots changes n image = (k : ℕ) → k < n → HasEntry slots (changes.slot k) 0 (zeros block_len) image
 
 -- A commit that leads to the target. Each image that a crash at any moment of it may leave has the old length and
--- recovers to the old image or to the target; the same holds of the bytes that the disk reads, whatever the answer. Ok
--- says that it reads the second of these, and durably.
+-- recovers to the old image or to the target; the same holds of the bytes that the disk reads, whatever the answer.
+-- After Ok it reads the target, and is durable.
 pub record CommitsTo {T E : Type 0} (slots : ℕ) (target : List ℕ) (old new : DiskState)
     (result : Result T E) : Type 0 where
   pub crash : LeavesOnly old new (RecoversToEither slots old.bytes target)

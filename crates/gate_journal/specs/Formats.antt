@@ -9,7 +9,7 @@ use Rattle.gate_journal.specs.declared.fault.JournalFault.{JournalFault}
 use Rattle.gate_journal.specs.declared.fault.JournalFault.TheVariants.{Disk, AlreadyImage, WrongLength}
 use Rattle.gate_journal.specs.Places.{IsZeroAt}
 
--- the image's header, as it is read, is that of no parameters, also of none of another length; so it is no image
+-- the image's header, as it is read, is that of no parameters, whatever their length; so it is no image
 abbrev pub NamesNoParameters : List ℕ → Type 0
 NamesNoParameters image = (p : Parameters) → IsParameters p → viewed_header p.slots image ≡ header p → ⊥
 

@@ -30,7 +30,7 @@ OutsideWrite Journal slots slot place = OutsideEntry slots slot place
 OutsideWrite Table slots slot place = IsApart (table_at slots slot) block_len place
 OutsideWrite Erase slots slot place = OutsideEntry slots slot place
 
--- the image behind what the pass writes for a slot with these new bytes
+-- the image after what the pass writes for a slot with these new bytes
 abbrev pub HasWritten : Pass → ℕ → ℕ → List ℕ → List ℕ → List ℕ → Type 0
 HasWritten Journal slots slot bytes old image = HasEntry slots slot 1 bytes image
 HasWritten Table slots slot bytes old image = image ≡ overwrite old (table_at slots slot) bytes
@@ -57,7 +57,7 @@ abbrev pub OutsidePass : Kind → Pass → ℕ → Changes → ℕ → Type 0
 OutsidePass kind pass slots changes place = OutsideSlots pass slots changes place
     × IsApart (version_place pass slots) (version_writes kind) place
 
--- the image behind what the pass writes for the first n of the changed slots
+-- the image after what the pass writes for the first n of the changed slots
 abbrev pub HasPassedFirst : Pass → ℕ → Changes → ℕ → List ℕ → List ℕ → Type 0
 HasPassedFirst Journal slots changes n old image = AreJournaled slots changes n image
 HasPassedFirst Table slots changes n old image = image ≡ with_first slots changes n old
@@ -73,7 +73,7 @@ abbrev pub HasVersionMark : Kind → ℕ → ℕ → List ℕ → Type 0
 HasVersionMark Slots slots mark image = Unit
 HasVersionMark Upgrade slots mark image = slice_index image (mark_at slots) ≡ mark
 
--- the image behind the pass
+-- the image after the pass
 abbrev pub HasPassed : Kind → Pass → ℕ → Changes → List ℕ → List ℕ → Type 0
 HasPassed kind Journal slots changes old image = AreJournaled slots changes changes.count image
     × HasVersionMark kind slots 1 image

@@ -91,7 +91,7 @@ clear_block_writes blocks image =
 unfoldable pub redo_writes : ℕ → List ℕ → ℕ
 redo_writes slots image = if is_flag_set image then marked_count 0 (slots + 1) image + 1 else 0
 
--- and the syncs: one behind slots and header, and one behind the flag
+-- and the syncs: one after slots and header, and one after the flag
 unfoldable pub redo_syncs : List ℕ → ℕ
 redo_syncs image = if is_flag_set image then 2 else 0
 

@@ -21,8 +21,8 @@ InWipePhase old Zeroing image = (length image ≡ length old) × (slice_index im
 abbrev pub IsWiping : List ℕ → List ℕ → Type 0
 IsWiping old image = InWipePhase old Unnaming image ⊎ InWipePhase old Zeroing image
 
--- A wipe: what it leaves to be read, after a fault too, is on its way, and where nothing was pending so is each image
--- that a crash at any moment of it may leave. After Ok every byte is zero and durable.
+-- A wipe. What the disk then reads, after a fault too, is on the way of the wipe. Where nothing was pending, so is
+-- each image that a crash at any moment may leave. After Ok every byte is zero and durable.
 pub record Wipes {T E : Type 0} (old new : DiskState) (result : Result T E) : Type 0 where
   pub reads : IsWiping old.bytes new.bytes
   pub crash : IsDurable old → LeavesOnly old new (IsWiping old.bytes)

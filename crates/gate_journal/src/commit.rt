@@ -1,7 +1,8 @@
-//! How changed slots are committed: into the journal, and behind the commit flag into the table.
+//! How changed slots are committed: first into the journal, and, once the commit flag is set, into the table.
 //!
-//! An upgrade commits version 2 of the format with them, by a write in each of three passes: its mark, which is the one
-//! behind the last slot's, goes into the journal, its byte into the header, and zero into its mark.
+//! An upgrade commits version 2 of the format with them, by one more write in each of three passes. It sets the
+//! version's mark, which stands behind the last slot's; it writes the version's byte of the header; it clears the
+//! mark.
 ghost use Rattle.std.specs.Prelude.{◌≡◌, ℕ, ◌+◌, ◌*◌, ◌<◌, ◌≤◌, [], ◌∷◌, OnOk};
 ghost use Rattle.store_model.specs.Parameters.{image_len, slots_limit};
 ghost use Rattle.disk_model.specs.DiskState.{DiskState, IsObservable, IsDurable};
@@ -30,7 +31,7 @@ pub enum Kind {
     Upgrade,
 }
 
-/// What a pass over the changed slots writes of each of them, and of the version in an upgrade.
+/// What a pass writes for each changed slot, and for the version in an upgrade.
 #[derive(Clone, Copy)]
 enum Pass {
     /// Its new bytes into its shadow block, and its mark; the version's mark.
@@ -41,7 +42,7 @@ enum Pass {
     Erase,
 }
 
-/// Writes of a changed slot what this pass writes, where `bytes` are the new bytes of the slot.
+/// Makes the writes of this pass for a changed slot, whose new bytes are `bytes`.
 fn write_slot<D: Disk>(
     disk: &mut D,
     slots: u32,
@@ -55,8 +56,8 @@ fn write_slot<D: Disk>(
     ensures call { IsCall (D.state disk.old) (D.state disk.new) result }
     ensures reaches { IsObservable (D.state disk.old)
         → Reaches (OutsideWrite pass slots slot)
-        (HasWritten pass slots slot bytes.now (D.state disk.old).bytes) (D.state disk.old)
-        (D.state disk.new) result }
+        (HasWritten pass slots slot bytes.now (D.state disk.old).bytes)
+        (D.state disk.old) (D.state disk.new) result }
     ensures makes { IsObservable (D.state disk.old)
         → Makes (slot_writes pass) 0 (D.state disk.old) (D.state disk.new) result }
     ensures wrote { IsObservable (D.state disk.old)
@@ -69,7 +70,7 @@ fn write_slot<D: Disk>(
     }
 }
 
-/// Writes of the version what this pass writes, and makes that durable with all that is pending.
+/// Makes the write of this pass for the version, and makes it durable with all that is pending.
 fn write_version<D: Disk>(disk: &mut D, slots: u32, pass: Pass) -> Result<(), DiskFault>
     requires in_range { slots ≤ slots_limit }
     requires size { (D.state disk.old).size ≡ image_len slots }
@@ -77,7 +78,8 @@ fn write_version<D: Disk>(disk: &mut D, slots: u32, pass: Pass) -> Result<(), Di
     ensures reaches { IsObservable (D.state disk.old)
         → Reaches (IsApart (version_place pass slots) 1)
         (λ image. image ≡ overwrite (D.state disk.old).bytes (version_place pass slots)
-        (version_value pass ∷ [])) (D.state disk.old) (D.state disk.new) result }
+        (version_value pass ∷ []))
+        (D.state disk.old) (D.state disk.new) result }
     ensures durable { IsObservable (D.state disk.old) → OnOk result (IsDurable (D.state disk.new)) }
     ensures makes { IsObservable (D.state disk.old)
         → Makes 1 1 (D.state disk.old) (D.state disk.new) result }
@@ -91,8 +93,7 @@ fn write_version<D: Disk>(disk: &mut D, slots: u32, pass: Pass) -> Result<(), Di
     }
 }
 
-/// Goes over the changed slots, writes of each what this pass writes, and of the version in an upgrade, and makes that
-/// durable.
+/// Makes the writes of this pass for each changed slot, and for the version in an upgrade, and makes them durable.
 fn write_slots<D: Disk, S: SlotChanges>(
     disk: &mut D,
     slots: u32,
@@ -107,11 +108,13 @@ fn write_slots<D: Disk, S: SlotChanges>(
     ensures reaches { IsObservable (D.state disk.old)
         → Reaches (OutsidePass kind pass slots (S.changes changes.now))
         (HasPassed kind pass slots (S.changes changes.now) (D.state disk.old).bytes)
-        (D.state disk.old) (D.state disk.new) result }
+        (D.state disk.old)
+        (D.state disk.new) result }
     ensures durable { IsObservable (D.state disk.old) → OnOk result (IsDurable (D.state disk.new)) }
     ensures makes { IsObservable (D.state disk.old)
         → Makes (slot_writes pass * (S.changes changes.now).count + version_writes kind) 1
-        (D.state disk.old) (D.state disk.new) result }
+        (D.state disk.old)
+        (D.state disk.new) result }
     ensures wrote { IsObservable (D.state disk.old)
         → 0 < (S.changes changes.now).count + version_writes kind
         → Rose (D.state disk.old).writes (D.state disk.new).writes }
@@ -128,7 +131,7 @@ fn write_slots<D: Disk, S: SlotChanges>(
 }
 
 /// Commits changed slots, and the version with them in an upgrade, in a table of so many slots.
-/// In a commit of slots alone one is changed at least.
+/// A commit of slots alone changes at least one.
 pub fn commit_changes<D: Disk, S: SlotChanges>(
     disk: &mut D,
     slots: u32,
@@ -145,10 +148,12 @@ pub fn commit_changes<D: Disk, S: SlotChanges>(
     ensures call { IsCall (D.state disk.old) (D.state disk.new) result }
     ensures commits { IsObservable (D.state disk.old)
         → CommitsTo slots (target kind slots (S.changes changes.now) (D.state disk.old).bytes)
-        (D.state disk.old) (D.state disk.new) result }
+        (D.state disk.old)
+        (D.state disk.new) result }
     ensures makes { IsObservable (D.state disk.old)
         → Makes (5 * (S.changes changes.now).count + (2 + 3 * version_writes kind)) 5
-        (D.state disk.old) (D.state disk.new) result }
+        (D.state disk.old)
+        (D.state disk.new) result }
     ensures wrote { IsObservable (D.state disk.old)
         → Rose (D.state disk.old).writes (D.state disk.new).writes }
 {

@@ -1,5 +1,5 @@
-//! What is written of the journal of an image: the entry of a slot, which is its shadow block and its mark, and single
-//! bytes, as the commit flag.
+//! The writes to the journal of an image: the entry of a slot, which is its shadow block and its mark, and single
+//! bytes, such as the commit flag.
 ghost use Rattle.std.specs.Prelude.{◌≡◌, ℕ, ◌+◌, ◌<◌, ◌≤◌, [], ◌∷◌, OnOk};
 ghost use Rattle.store_model.specs.Parameters.{image_len, slots_limit, gate_at};
 ghost use Rattle.disk_model.specs.DiskState.{DiskState, IsObservable, IsDurable};
@@ -59,8 +59,8 @@ pub fn write_flag<D: Disk>(disk: &mut D, flag: u8) -> Result<(), DiskFault>
     ensures call { IsCall (D.state disk.old) (D.state disk.new) result }
     ensures reaches { IsObservable (D.state disk.old)
         → Reaches (IsApart gate_at 1)
-        (λ image. image ≡ overwrite (D.state disk.old).bytes gate_at (flag ∷ [])) (D.state disk.old)
-        (D.state disk.new) result }
+        (λ image. image ≡ overwrite (D.state disk.old).bytes gate_at (flag ∷ []))
+        (D.state disk.old) (D.state disk.new) result }
     ensures durable { IsObservable (D.state disk.old) → OnOk result (IsDurable (D.state disk.new)) }
     ensures makes { IsObservable (D.state disk.old)
         → Makes 1 1 (D.state disk.old) (D.state disk.new) result }

@@ -5,7 +5,7 @@ ghost use Rattle.gate_journal.specs.declared.fault.JournalFault.TheVariants as f
 use store_base::DiskFault;
 use thiserror::Error;
 
-/// Why a disk was not formatted. What stands after it is said at `Journal::format`.
+/// Why a disk was not formatted. `Journal::format` says what stands then.
 #[derive(Clone, Copy, Debug, PartialEq, Eq, Error)]
 pub enum JournalFault {
     /// The disk failed.

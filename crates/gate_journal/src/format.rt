@@ -31,8 +31,9 @@ fn write_rest<D: Disk>(disk: &mut D, params: &Params) -> Result<(), DiskFault>
     requires { (D.state disk.old).size ≡ len_of params.now.slots }
     ensures call { IsCall (D.state disk.old) (D.state disk.new) result }
     ensures reaches { IsObservable (D.state disk.old)
-        → Reaches (IsApart 1 (len_of params.now.slots - 1)) (HasEmptyRest params.now)
-        (D.state disk.old) (D.state disk.new) result }
+        → Reaches (IsApart 1 (len_of params.now.slots - 1))
+        (HasEmptyRest params.now) (D.state disk.old)
+        (D.state disk.new) result }
     ensures durable { IsObservable (D.state disk.old) → OnOk result (IsDurable (D.state disk.new)) }
     ensures makes { IsObservable (D.state disk.old)
         → Makes (len_of params.now.slots / block_len) 1 (D.state disk.old)
@@ -53,7 +54,8 @@ pub fn write_first<D: Disk>(disk: &mut D, byte: u8) -> Result<(), DiskFault>
     ensures call { IsCall (D.state disk.old) (D.state disk.new) result }
     ensures reaches { IsObservable (D.state disk.old)
         → Reaches (IsApart 0 1) (λ image. image ≡ overwrite (D.state disk.old).bytes 0 (byte ∷ []))
-        (D.state disk.old) (D.state disk.new) result }
+        (D.state disk.old)
+        (D.state disk.new) result }
     ensures durable { IsObservable (D.state disk.old) → OnOk result (IsDurable (D.state disk.new)) }
     ensures makes { IsObservable (D.state disk.old)
         → Makes 1 1 (D.state disk.old) (D.state disk.new) result }

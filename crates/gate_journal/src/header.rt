@@ -62,7 +62,7 @@ fn params_as_read(block: &Slot, marked: bool) -> Option<Params>
     read_header(&upgraded)
 }
 
-/// The parameters that the image has that recovery would leave.
+/// Reads the parameters of the image that recovery would leave.
 pub fn read_viewed<D: Disk>(disk: &mut D) -> Result<Option<Params>, DiskFault>
     ensures views { ViewsHeader (D.state disk.old) (D.state disk.new) result }
 {

@@ -35,10 +35,12 @@ pub struct Journal;
 impl Journal {
     /// Changes these slots of the table together.
     ///
-    /// Each image that a crash at any moment of the call may leave has the disk's length and recovers to the old image
-    /// or to the one with the slots changed, and so does what the disk reads after `DiskFault`; recover it before it is
-    /// used again. After Ok the disk is durable and reads the image with the slots changed. For no change nothing is
+    /// After Ok the disk is durable and reads the image with the slots changed. With no slot to change nothing is
     /// called.
+    ///
+    /// Each image that a crash at any moment of the call may leave has the disk's length. It recovers to the old
+    /// image or to the one with the slots changed. So does what the disk reads after `DiskFault`: recover it before
+    /// it is used again.
     pub fn commit<D: Disk, S: SlotChanges>(
         disk: &mut D,
         params: &Params,
@@ -73,10 +75,11 @@ impl Journal {
 
     /// Changes these slots of the table together, and makes the image one of version 2 with them.
     ///
-    /// It asks for parameters of version 1, and goes by their slots. Each image that a crash at any moment of the
-    /// call may leave has the disk's length. It recovers to the old image, or to the one with the slots changed and
-    /// of version 2. So does what the disk reads after `DiskFault`; recover it before it is used again. After Ok the
-    /// disk is durable and reads the second of these. For no change the version is written all the same.
+    /// The parameters are of version 1. After Ok the disk is durable and reads the image with the slots changed and
+    /// of version 2. With no slot to change, the version is written all the same.
+    ///
+    /// Each image that a crash at any moment of the call may leave has the disk's length. It recovers to the old
+    /// image or to that new one. So does what the disk reads after `DiskFault`: recover it before it is used again.
     pub fn commit_upgrade<D: Disk, S: SlotChanges>(
         disk: &mut D,
         params: &Params,
@@ -103,16 +106,18 @@ impl Journal {
         commit_changes(disk, params.slots(), changes, Kind::Upgrade)
     }
 
-    /// Makes the image that a crash left what it recovers to.
+    /// Recovers the image that a crash left: finishes a commit whose flag is set, and empties the journal.
     ///
-    /// It serves any disk of the length of the parameters, whether or not writes are pending. Each image that a crash
-    /// at any moment of the call may leave is one that a crash before it might have left, or has the disk's length and
-    /// recovers to the same; what the disk reads recovers to the same, after `DiskFault` too, and then it is recovered
-    /// again before it is used. After Ok the disk is durable and reads what it recovers to.
+    /// It takes any disk of the length of the parameters, with writes pending or not. After Ok the disk is durable
+    /// and reads what it recovers to.
     ///
-    /// With an empty journal it makes one sync and no write. Otherwise it writes once, where the flag is set, each
-    /// marked slot, the version where that is marked, and the flag; and in any case each block of the journal that is
-    /// not zero.
+    /// Each image that a crash at any moment of the call may leave is one that a crash before it might have left, or
+    /// has the disk's length and recovers to the same. What the disk reads recovers to the same, after `DiskFault`
+    /// too: then recover it again before it is used.
+    ///
+    /// With an empty journal it makes one sync and no write. Otherwise it writes once each block of the journal that
+    /// is not zero. Where the flag is set, it also writes once each marked slot, the version if that is marked, and
+    /// the flag.
     pub fn recover<D: Disk>(disk: &mut D, params: &Params) -> Result<(), DiskFault>
         requires { (D.state disk.old).size ≡ image_len params.now.slots }
         ensures calls { AreCalls (D.state disk.old) (D.state disk.new) result }
@@ -130,8 +135,8 @@ impl Journal {
             → (HasEmptyJournal params.now.slots (D.state disk.old).bytes → ⊥)
             → Makes (redo_writes params.now.slots (D.state disk.old).bytes
             + erase_writes params.now.slots (D.state disk.old).bytes)
-            (redo_syncs (D.state disk.old).bytes + 2) (D.state disk.old)
-            (D.state disk.new) result }
+            (redo_syncs (D.state disk.old).bytes + 2)
+            (D.state disk.old) (D.state disk.new) result }
     {
         // What was pending has to stand before it is judged: a crash could still take it back.
         disk.sync()?;
@@ -140,10 +145,11 @@ impl Journal {
 
     /// Writes the image of the empty tree to a disk of its length that is no image.
     ///
-    /// `WrongLength` comes exactly where the disk's length is not that of an image of these parameters, and
-    /// `AlreadyImage` exactly where the length is right and the first byte is that of an image, and then nothing was
-    /// written. `Disk` comes only where the disk failed. After Ok the disk is durable and reads the image of the empty
-    /// tree, whatever was pending before.
+    /// After Ok the disk is durable and reads the image of the empty tree, whatever was pending before.
+    ///
+    /// `WrongLength` comes exactly where the disk's length is not that of an image of these parameters.
+    /// `AlreadyImage` comes only where the length is right and the first byte is that of an image; such a disk gives
+    /// `AlreadyImage` or `Disk`, and is only read. `Disk` comes only where the disk failed.
     ///
     /// A disk of the right length whose first byte is not that of an image reads no image or that of the empty tree,
     /// after `Disk` too. If nothing was pending before, each image that a crash at any moment of the call may leave is
@@ -208,7 +214,7 @@ impl Journal {
         Ok(write_image(disk, params)?)
     }
 
-    /// The parameters that the image has that recovery would leave. `None` comes exactly where the disk is no image:
+    /// Reads the parameters of the image that recovery would leave. `None` comes exactly where the disk is no image:
     /// its header, as it is read, names no parameters, or not those of its length. Nothing is written. After
     /// `DiskFault` the disk is as it was.
     pub fn view_header<D: Disk>(disk: &mut D) -> Result<Option<Params>, DiskFault>
@@ -238,9 +244,9 @@ impl Journal {
 
     /// Fills the disk with zeros, however long it is, and the first byte before all others.
     ///
-    /// What the disk reads is then as it was with any first byte, or begins with zero, after `DiskFault` too. If
-    /// nothing was pending before, so is each image that a crash at any moment of the call may leave. After Ok every
-    /// byte is zero and durable, whatever was pending before. On a disk of no byte nothing is called.
+    /// After Ok every byte is zero and durable, whatever was pending before. Whatever the answer, the disk then reads
+    /// as it did but for the first byte, or begins with zero. If nothing was pending before, so does each image that
+    /// a crash at any moment of the call may leave. On a disk of no byte nothing is called.
     pub fn wipe<D: Disk>(disk: &mut D) -> Result<(), DiskFault>
         ensures calls { AreCalls (D.state disk.old) (D.state disk.new) result }
         ensures wipes { IsObservable (D.state disk.old)
@@ -259,7 +265,7 @@ impl Journal {
         overwrite_disk(disk)
     }
 
-    /// SHA-256 (FIPS 180-4) of all bytes that the disk reads, header, journal and table, and writes nothing.
+    /// Computes SHA-256 (FIPS 180-4) of all bytes that the disk reads: header, journal and table. Nothing is written.
     /// After `DiskFault` the disk is as it was.
     pub fn digest<D: Disk>(disk: &mut D) -> Result<[u8; 32], DiskFault>
         ensures calls { AreCalls (D.state disk.old) (D.state disk.new) result }

@@ -1,4 +1,4 @@
-//! What was read of the journal of a disk, so that the slots that it recovers to are told without reading it again.
+//! Remembers what was read of the journal of a disk, so that a view need not read it again for each slot.
 
 ghost use Rattle.std.specs.Prelude.{◌≡◌, ◌≤◌, ◌&&◌, None, Some, OnOk, IfOk};
 ghost use Rattle.store_model.specs.Images.{is_flag_set, is_marked};
@@ -22,7 +22,7 @@ pub struct JournalCache {
 }
 
 impl JournalCache {
-    /// Nothing was read yet.
+    /// Makes an empty cache: nothing was read yet.
     pub fn new() -> JournalCache
         ensures flag { result.flag ≡ None }
         ensures first { result.first ≡ None }

@@ -1,5 +1,5 @@
-//! The redo journal of an image: table slots, and the version of the format, that change together, through crashes at
-//! any moment.
+//! The redo journal of an image: it changes slots of the table, and the version of the format, together, even if a
+//! crash comes at any moment. Start at `Journal`.
 //!
 //! A commit writes the new bytes of each changed slot into its shadow block and marks the slot, makes that durable,
 //! sets the commit flag, makes that durable, writes the slots into the table, makes that durable, clears the flag,
@@ -11,9 +11,9 @@
 //! slots, and it clears the version's mark when it erases the journal. While the flag is set that byte may be torn.
 //! So where the version's mark is set too, the header is read as one of version 2 (`Journal::view_header`).
 //!
-//! Besides, a disk is formatted, wiped and digested here, and the slots that recovery would leave are seen without
-//! recovering (`View`). This crate stands on a disk and on where the areas of an image lie; what the slots hold is
-//! nothing to it. No call takes memory. Its name is that of the block with the commit flag, the gate block.
+//! The journal also formats, wipes and digests a disk. A `View` reads the slots that recovery would leave, and does
+//! not recover. This crate needs a disk and the places of an image's areas, and never looks at what slots hold. No
+//! call takes memory. The crate is named after the block with the commit flag, the gate block.
 #![tactic(auto)]
 
 mod changes;

@@ -22,8 +22,9 @@ fn settle_flag<D: Disk>(disk: &mut D, slots: u32) -> Result<(), DiskFault>
     ensures settles { IsObservable (D.state disk.old)
         → SettlesFlag slots (D.state disk.old) (D.state disk.new) result }
     ensures makes { IsObservable (D.state disk.old)
-        → Makes (redo_writes slots (D.state disk.old).bytes) (redo_syncs (D.state disk.old).bytes)
-        (D.state disk.old) (D.state disk.new) result }
+        → Makes (redo_writes slots (D.state disk.old).bytes)
+        (redo_syncs (D.state disk.old).bytes) (D.state disk.old)
+        (D.state disk.new) result }
     ensures journal { IsObservable (D.state disk.old)
         → SameAt (IsBehindFlag slots) (D.state disk.old).bytes (D.state disk.new).bytes }
 {
@@ -48,8 +49,8 @@ pub fn recover_durable<D: Disk>(disk: &mut D, slots: u32) -> Result<(), DiskFaul
     ensures makes { IsObservable (D.state disk.old) → (D.state disk.old).writes < 2 ^ 64
         → (D.state disk.old).syncs < 2 ^ 64 → (HasEmptyJournal slots (D.state disk.old).bytes → ⊥)
         → Makes (redo_writes slots (D.state disk.old).bytes
-        + erase_writes slots (D.state disk.old).bytes) (redo_syncs (D.state disk.old).bytes + 1)
-        (D.state disk.old) (D.state disk.new) result }
+        + erase_writes slots (D.state disk.old).bytes)
+        (redo_syncs (D.state disk.old).bytes + 1) (D.state disk.old) (D.state disk.new) result }
 {
     if is_journal_zero(disk, slots)? {
         return Ok(());

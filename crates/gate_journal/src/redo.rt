@@ -53,14 +53,15 @@ pub fn is_byte_set<D: Disk>(disk: &mut D, at: u64) -> Result<bool, DiskFault>
     Ok(byte[0] != 0)
 }
 
-/// Makes as many bytes as the buffer has zero, where they are not: at most those of a block.
+/// Makes as many bytes at this offset zero as the buffer has, at most a block, where they are not.
 fn clear_range<D: Disk>(disk: &mut D, at: u64, buffer: &mut [u8]) -> Result<(), DiskFault>
     requires few { length buffer.old ≤ block_len }
     requires within { at + length buffer.old ≤ (D.state disk.old).size }
     ensures call { IsCall (D.state disk.old) (D.state disk.new) result }
     ensures reaches { IsObservable (D.state disk.old)
-        → Reaches (IsApart at (length buffer.old)) (IsZeroAt at (length buffer.old))
-        (D.state disk.old) (D.state disk.new) result }
+        → Reaches (IsApart at (length buffer.old))
+        (IsZeroAt at (length buffer.old)) (D.state disk.old)
+        (D.state disk.new) result }
     ensures makes { IsObservable (D.state disk.old)
         → Makes (clear_writes at (length buffer.old) (D.state disk.old).bytes) 0 (D.state disk.old)
         (D.state disk.new) result }
@@ -93,11 +94,13 @@ fn clear_flag_block<D: Disk>(disk: &mut D) -> Result<(), DiskFault>
     requires { marks_at ≤ (D.state disk.old).size }
     ensures call { IsCall (D.state disk.old) (D.state disk.new) result }
     ensures reaches { IsObservable (D.state disk.old)
-        → Reaches (IsApart (gate_at + 1) (block_len - 1)) (IsZeroAt (gate_at + 1) (block_len - 1))
-        (D.state disk.old) (D.state disk.new) result }
+        → Reaches (IsApart (gate_at + 1) (block_len - 1))
+        (IsZeroAt (gate_at + 1) (block_len - 1)) (D.state disk.old)
+        (D.state disk.new) result }
     ensures makes { IsObservable (D.state disk.old)
         → Makes (clear_writes (gate_at + 1) (block_len - 1) (D.state disk.old).bytes) 0
-        (D.state disk.old) (D.state disk.new) result }
+        (D.state disk.old)
+        (D.state disk.new) result }
 {
     let mut rest = [0; BLOCK - 1];
     clear_range(disk, gate_at() + 1, &mut rest)
@@ -111,8 +114,8 @@ pub fn erase_area<D: Disk>(disk: &mut D, slots: u32) -> Result<(), DiskFault>
     ensures call { IsCall (D.state disk.old) (D.state disk.new) result }
     ensures reaches { IsObservable (D.state disk.old)
         → Reaches (IsApart (gate_at + 1) (journal_len slots - 1))
-        (IsZeroAt (gate_at + 1) (journal_len slots - 1)) (D.state disk.old)
-        (D.state disk.new) result }
+        (IsZeroAt (gate_at + 1) (journal_len slots - 1))
+        (D.state disk.old) (D.state disk.new) result }
     ensures makes { IsObservable (D.state disk.old)
         → Makes (erase_writes slots (D.state disk.old).bytes) 1 (D.state disk.old)
         (D.state disk.new) result }
@@ -166,8 +169,8 @@ fn redo_slot<D: Disk>(disk: &mut D, slots: u32, slot: u32) -> Result<(), DiskFau
     ensures reaches { IsObservable (D.state disk.old)
         → Reaches (IsApart (table_at slots slot) block_len)
         (λ image. table_slot slots image slot
-        ≡ bytes_at (D.state disk.old).bytes (shadow_at slots slot) block_len) (D.state disk.old)
-        (D.state disk.new) result }
+        ≡ bytes_at (D.state disk.old).bytes (shadow_at slots slot) block_len)
+        (D.state disk.old) (D.state disk.new) result }
     ensures makes { IsObservable (D.state disk.old)
         → Makes 1 0 (D.state disk.old) (D.state disk.new) result }
 {
@@ -176,7 +179,7 @@ fn redo_slot<D: Disk>(disk: &mut D, slots: u32, slot: u32) -> Result<(), DiskFau
     disk.write_at(table_at(slots, slot), &bytes)
 }
 
-/// Puts the shadow blocks of the marked slots whose marks are in this block of marks into the table.
+/// Copies into the table the shadow blocks of those slots that this block of marks has marked.
 fn redo_block<D: Disk>(disk: &mut D, slots: u32, first: u32) -> Result<(), DiskFault>
     requires in_range { slots ≤ slots_limit }
     requires below { first < slots }
@@ -186,10 +189,12 @@ fn redo_block<D: Disk>(disk: &mut D, slots: u32, first: u32) -> Result<(), DiskF
         → Reaches (OutsideMarked slots first (min slots (first + block_len))
         (D.state disk.old).bytes)
         (AreRedone slots first (min slots (first + block_len)) (D.state disk.old).bytes)
-        (D.state disk.old) (D.state disk.new) result }
+        (D.state disk.old)
+        (D.state disk.new) result }
     ensures makes { IsObservable (D.state disk.old)
         → Makes (marked_count first (min slots (first + block_len) - first)
-        (D.state disk.old).bytes) 0 (D.state disk.old) (D.state disk.new) result }
+        (D.state disk.old).bytes) 0
+        (D.state disk.old) (D.state disk.new) result }
 {
     let mut marks = [0; BLOCK];
     disk.read_at(mark_at(first), &mut marks)?;
@@ -201,15 +206,15 @@ fn redo_block<D: Disk>(disk: &mut D, slots: u32, first: u32) -> Result<(), DiskF
     Ok(())
 }
 
-/// Makes the header one of version 2, where the mark behind the last slot's is set: also where it has that version.
+/// Writes version 2 into the header, where the mark behind the last slot's is set, even if it has that version.
 fn redo_version<D: Disk>(disk: &mut D, slots: u32) -> Result<(), DiskFault>
     requires in_range { slots ≤ slots_limit }
     requires size { (D.state disk.old).size ≡ image_len slots }
     ensures call { IsCall (D.state disk.old) (D.state disk.new) result }
     ensures reaches { IsObservable (D.state disk.old)
         → Reaches (OutsideVersion slots (D.state disk.old).bytes)
-        (HasRedoneVersion slots (D.state disk.old).bytes) (D.state disk.old)
-        (D.state disk.new) result }
+        (HasRedoneVersion slots (D.state disk.old).bytes)
+        (D.state disk.old) (D.state disk.new) result }
     ensures makes { IsObservable (D.state disk.old)
         → Makes (marked_count slots 1 (D.state disk.old).bytes) 0 (D.state disk.old)
         (D.state disk.new) result }
@@ -228,7 +233,8 @@ pub fn redo_table<D: Disk>(disk: &mut D, slots: u32) -> Result<(), DiskFault>
     ensures calls { AreCalls (D.state disk.old) (D.state disk.new) result }
     ensures reaches { IsObservable (D.state disk.old)
         → Reaches (OutsideRedone slots (D.state disk.old).bytes)
-        (IsRedone slots (D.state disk.old).bytes) (D.state disk.old) (D.state disk.new) result }
+        (IsRedone slots (D.state disk.old).bytes)
+        (D.state disk.old) (D.state disk.new) result }
     ensures makes { IsObservable (D.state disk.old)
         → Makes (marked_count 0 (slots + 1) (D.state disk.old).bytes) 1 (D.state disk.old)
         (D.state disk.new) result }

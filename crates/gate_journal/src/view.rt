@@ -113,8 +113,8 @@ impl<D: Disk> ReadSlots for View<D> {
         (D.sound (disk_of view)) };
 
     ghost follows_trans = { λ old mid new.
-        KeepsView-trans (params_of old) (params_of mid) (params_of new) (D.state (disk_of old))
-        (D.state (disk_of mid)) (D.state (disk_of new)) };
+        KeepsView-trans (params_of old) (params_of mid) (params_of new)
+        (D.state (disk_of old)) (D.state (disk_of mid)) (D.state (disk_of new)) };
 
     fn get(&mut self, at: u32, into: &mut Slot) -> Result<(), Fault> {
         Ok(read_recovered(

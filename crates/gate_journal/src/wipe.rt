@@ -16,7 +16,8 @@ fn wipe_rest<D: Disk>(disk: &mut D) -> Result<(), DiskFault>
     ensures call { IsCall (D.state disk.old) (D.state disk.new) result }
     ensures reaches { IsObservable (D.state disk.old)
         → Reaches (IsApart 1 ((D.state disk.old).size - 1))
-        (IsZeroAt 1 ((D.state disk.old).size - 1)) (D.state disk.old) (D.state disk.new) result }
+        (IsZeroAt 1 ((D.state disk.old).size - 1))
+        (D.state disk.old) (D.state disk.new) result }
     ensures durable { IsObservable (D.state disk.old) → OnOk result (IsDurable (D.state disk.new)) }
     ensures makes { IsObservable (D.state disk.old)
         → Makes (block_count (D.state disk.old).size) 1 (D.state disk.old)
@@ -33,8 +34,8 @@ fn wipe_rest<D: Disk>(disk: &mut D) -> Result<(), DiskFault>
     disk.sync()
 }
 
-/// Makes every byte of a disk zero that has one at least: the first one before all others, so that the image is none
-/// before it is torn.
+/// Makes every byte of a disk zero, which has at least one. The first byte goes before all others, so that the disk
+/// is no image when the rest is torn.
 pub fn overwrite_disk<D: Disk>(disk: &mut D) -> Result<(), DiskFault>
     requires { 1 ≤ (D.state disk.old).size }
     ensures call { IsCall (D.state disk.old) (D.state disk.new) result }

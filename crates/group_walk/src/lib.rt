@@ -1,4 +1,5 @@
-//! The walk over the groups of pages that a table holds, from the start of each level down to level 0.
+//! The walk over the groups of pages that a table holds, from the start of each level down to level 0. Start at
+//! `walk_groups`.
 #![tactic(auto)]
 
 mod guide;

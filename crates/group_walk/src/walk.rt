@@ -49,8 +49,9 @@ fn is_next<W: Draw>(
     front: &mut Front,
 ) -> bool
     ensures { IsTrue result
-        ↔ (IsInPlace (W.drawn draw.now) label.now.level label.now.lead label.now.index i
-        cell.now.key × IsAbove last.now cell.now.key) }
+        ↔ (IsInPlace (W.drawn draw.now)
+        label.now.level label.now.lead label.now.index i cell.now.key
+        × IsAbove last.now cell.now.key) }
 {
     is_in_place(draw, label, i, &cell.key, front) && is_above(last, &cell.key)
 }
@@ -80,7 +81,8 @@ fn walk_cell<S: ReadSlots, W: Draw, P: TakesPairs>(
         (S.state slots.old) guide.now.entries.now }
     ensures call { WalksCell (W.drawn guide.now.draw.now) (S.state slots.old)
         (S.state slots.new) level cell.now (progress met.old.left met.old.last)
-        (progress met.new.left met.new.last) (P.took sink.old) (P.took sink.new) result }
+        (progress met.new.left met.new.last)
+        (P.took sink.old) (P.took sink.new) result }
     ensures follows { S.follows slots.old slots.new }
     ensures keeps { P.keeps sink.old sink.new }
 {
@@ -109,7 +111,8 @@ fn walk_cells<S: ReadSlots, W: Draw, P: TakesPairs>(
         (S.state slots.old) guide.now.entries.now }
     ensures call { WalksCells (W.drawn guide.now.draw.now) (S.state slots.old)
         (S.state slots.new) page.now (progress met.old.left met.old.last)
-        (progress met.new.left met.new.last) (P.took sink.old) (P.took sink.new) result }
+        (progress met.new.left met.new.last)
+        (P.took sink.old) (P.took sink.new) result }
     ensures follows { S.follows slots.old slots.new }
     ensures keeps { P.keeps sink.old sink.new }
 {
@@ -141,8 +144,10 @@ fn walk_group<S: ReadSlots, W: Draw, P: TakesPairs>(
     requires index { IsIndexOf (W.digests guide.now.draw.now)
         (S.state slots.old) guide.now.entries.now }
     ensures call { WalksGroup (W.drawn guide.now.draw.now) (S.state slots.old)
-        (S.state slots.new) level (model_lead lead.now) (progress met.old.left met.old.last)
-        (progress met.new.left met.new.last) (P.took sink.old) (P.took sink.new) result }
+        (S.state slots.new) level
+        (model_lead lead.now) (progress met.old.left met.old.last)
+        (progress met.new.left met.new.last)
+        (P.took sink.old) (P.took sink.new) result }
     ensures follows { S.follows slots.old slots.new }
     ensures keeps { P.keeps sink.old sink.new }
 {
@@ -166,8 +171,8 @@ fn walk_group<S: ReadSlots, W: Draw, P: TakesPairs>(
     }
 }
 
-/// Whether the pages of a table, of which there are so many, are met one and all on the way down from the start of each
-/// level, and meet the conditions on the way; hands the pairs of level 0 on, in the order of their keys.
+/// Walks down from the start of each level, and says whether all pages of a table, so many, are met on the way and
+/// meet the conditions. It hands the pairs of level 0 on, in the order of their keys.
 ///
 /// There have to be as many slots as the draw's, and the entries have to be an index of the pages in them, by the
 /// draw's digests. A fault of the slots ends the call; it writes nothing.
@@ -180,8 +185,9 @@ pub fn walk_groups<S: ReadSlots, W: Draw, P: TakesPairs>(
 ) -> Result<bool, Fault>
     requires count { (S.state slots.old).count ≡ (W.drawn draw.now).slots }
     requires index { IsIndexOf (W.digests draw.now) (S.state slots.old) entries.now }
-    ensures call { WalksTable (W.drawn draw.now) (S.state slots.old) (S.state slots.new) used
-        (P.took sink.old) (P.took sink.new) result }
+    ensures call { WalksTable (W.drawn draw.now) (S.state slots.old)
+        (S.state slots.new) used (P.took sink.old)
+        (P.took sink.new) result }
     ensures follows { S.follows slots.old slots.new }
     ensures keeps { P.keeps sink.old sink.new }
 {

@@ -1,13 +1,14 @@
-//! A folder of the host that is made of a dump.
+//! Makes a folder of the host from a dump.
 
 ghost use Rattle.std.specs.Prelude.{⊤};
 
 use crate::messages::Messages;
+use crate::omitted::{Keeper, Omitted};
 use crate::places::Places;
 use crate::wanted::Wanted;
 use crate::writing::{Writing, set_time};
 use dump_streams::{Taker, TakerFault};
-use path_keys::Path;
+use path_keys::{AttrName, Path};
 use script_lines::{Command, Sink};
 use std::fs::{self, File};
 use std::io::{self, Error, ErrorKind};
@@ -16,10 +17,13 @@ use thiserror::Error as ErrorText;
 /// The most seconds since 1970 that the system can set.
 const MAX_SECONDS: u64 = i64::MAX as u64;
 
+/// What is said of what is to be taken away and stays.
+const STAYS: &str = "it cannot be taken away";
+
 /// Why there is no folder to make a dump in. A message says so.
 #[derive(Clone, Copy, Debug, PartialEq, Eq, ErrorText)]
 pub enum NoFolder {
-    /// Something stands there that is no empty folder, as a link to one.
+    /// Something stands there that is no empty folder. A link to an empty folder is none.
     #[error("no empty folder")]
     NotEmpty,
     /// It cannot be made or read.
@@ -36,8 +40,8 @@ struct Made {
     seconds: Option<u64>,
 }
 
-/// Makes a folder of the commands of a dump: each file and folder in it is made where nothing stands, no link is
-/// followed, and the umask says who may read them. What fails is said.
+/// Makes a folder from the commands of a dump. It makes each file and folder where nothing stands, and follows no
+/// link. The umask says who may read them. A message says what failed.
 #[derive(Drop)]
 pub struct StdBuilder<W: Sink> {
     rt: HostRuntime,
@@ -51,8 +55,8 @@ pub struct StdBuilder<W: Sink> {
     made: Vec<Made>,
     /// The file to which bytes are written.
     writing: Option<Writing>,
-    /// How many attributes were left out.
-    attributes: u64,
+    /// The attributes that were left out.
+    omitted: Omitted,
 }
 
 impl<W: Sink + Drop> StdBuilder<W> {
@@ -75,7 +79,7 @@ impl<W: Sink + Drop> StdBuilder<W> {
                 is_new,
                 made: Vec::new(rt.alloc()),
                 writing: None,
-                attributes: 0,
+                omitted: Omitted::new(rt.alloc()),
             }),
             Err(error) => {
                 let why = no_folder(&error);
@@ -92,10 +96,15 @@ impl<W: Sink + Drop> StdBuilder<W> {
 
     /// How many attributes were left out.
     pub fn attributes_left_out(&self) -> u64 {
-        self.attributes
+        self.omitted.count()
     }
 
-    /// The sink of the messages.
+    /// Says which attributes were left out, and which options would keep them.
+    pub fn say_attributes(&mut self) {
+        self.omitted.say(self.places.messages());
+    }
+
+    /// Gives the sink of the messages back.
     pub fn into_sink(self) -> W {
         let StdBuilder {
             rt: _,
@@ -105,7 +114,7 @@ impl<W: Sink + Drop> StdBuilder<W> {
             is_new: _,
             made: _,
             writing: _,
-            attributes: _,
+            omitted: _,
         } = self;
         places.into_messages().into_sink()
     }
@@ -125,33 +134,67 @@ impl<W: Sink + Drop> StdBuilder<W> {
         Ok(())
     }
 
-    /// Takes away all that was made, the folder itself where it was made here, and says so. What stays is named.
+    /// Takes away all that was made, and the folder itself if it was made here, and says so. It names what stays.
     pub fn take_away(&mut self) {
         self.writing = None;
+        let was_empty = self.made.is_empty() && !self.is_new;
+        let mut is_gone = true;
         for at in (0..self.made.len()).rev() {
             if let Some(made) = self.made.get(at).copied() {
-                self.take_one_away(&made);
+                is_gone = self.take_one_away(&made) && is_gone;
             }
         }
         self.made.clear();
-        if self.is_new {
-            let _ = fs::remove_dir(&self.rt, self.places.folder());
-        }
-        self.places.say("what was made is taken away");
+        is_gone = self.take_folder_away() && is_gone;
+        let words = if was_empty {
+            "nothing was made in it"
+        } else if !is_gone {
+            "not all that was made is taken away"
+        } else if self.is_new {
+            "what was made is taken away"
+        } else {
+            "what was made in it is taken away"
+        };
+        self.places.say(words);
     }
 
-    /// Takes away what was made at a path.
-    fn take_one_away(&mut self, made: &Made) {
+    /// Takes away what was made at a path; whether it is gone.
+    fn take_one_away(&mut self, made: &Made) -> bool {
         let Ok(Some(text)) = self.places.place(&made.path) else {
-            return;
+            let memory = Error::from(ErrorKind::OutOfMemory);
+            self.stays(&made.path, &memory);
+            return false;
         };
         let taken = if made.is_folder {
             fs::remove_dir(&self.rt, text.as_str())
         } else {
             fs::remove_file(&self.rt, text.as_str())
         };
-        if let Err(error) = taken {
-            self.failed(&made.path, "it cannot be taken away", &error);
+        match taken {
+            Ok(()) => true,
+            Err(error) => {
+                self.stays(&made.path, &error);
+                false
+            }
+        }
+    }
+
+    /// Says that what was made at a path stays.
+    fn stays(&mut self, path: &Path, error: &Error) {
+        self.places.messages().say_why(path, STAYS, error);
+    }
+
+    /// Takes away the folder itself where it was made here; whether it is as it was before.
+    fn take_folder_away(&mut self) -> bool {
+        if !self.is_new {
+            return true;
+        }
+        match fs::remove_dir(&self.rt, self.places.folder()) {
+            Ok(()) => true,
+            Err(error) => {
+                self.places.say_why(STAYS, &error);
+                false
+            }
         }
     }
 
@@ -259,51 +302,48 @@ impl<W: Sink + Drop> StdBuilder<W> {
         }
     }
 
-    /// Does what an attribute asks for, or counts it.
-    fn set(&mut self, path: &Path, name: &[u8], bytes: &[u8]) -> Result<(), TakerFault> {
+    /// Does what an attribute asks for, or notes that it is left out.
+    fn set(&mut self, path: &Path, name: &AttrName, bytes: &[u8]) -> Result<(), TakerFault> {
         if self.places.is_out(path) {
             return Ok(());
         }
-        if self.wanted.mode && name == b"mode".as_slice() && bytes == b"x".as_slice() {
-            return self.let_execute(path);
+        let keeper = self.keeper_of(path, name.as_bytes(), bytes);
+        match keeper {
+            Keeper::Mode if self.wanted.mode => return self.let_execute(path),
+            Keeper::Mtime if self.wanted.mtime => self.note_seconds(seconds_in(bytes)),
+            _ => self.omitted.add(path, name, keeper),
         }
-        if self.wanted.mtime
-            && name == b"mtime".as_slice()
-            && let Some(seconds) = seconds_in(bytes)
-        {
-            self.note_seconds(path, seconds);
-            return Ok(());
-        }
-        self.count_attribute();
         Ok(())
     }
 
-    /// Counts an attribute that is left out.
-    fn count_attribute(&mut self) {
-        self.attributes = self.attributes.saturating_add(1);
+    /// The option with which something is made of an attribute.
+    fn keeper_of(&self, path: &Path, name: &[u8], bytes: &[u8]) -> Keeper {
+        if name == b"mode".as_slice() && bytes == b"x".as_slice() && self.is_writing(path) {
+            Keeper::Mode
+        } else if name == b"mtime".as_slice() && seconds_in(bytes).is_some() {
+            Keeper::Mtime
+        } else {
+            Keeper::Nothing
+        }
     }
 
-    /// Lets a file be executed. A folder's attribute that asks for that is left out.
+    /// Lets the file be executed to which bytes are written.
     fn let_execute(&mut self, path: &Path) -> Result<(), TakerFault> {
-        let answer = match &self.writing {
-            Some(writing) if writing.path() == path => writing.let_execute(),
-            _ => {
-                self.count_attribute();
-                return Ok(());
-            }
+        let Some(writing) = &self.writing else {
+            return Ok(());
         };
-        match answer {
+        match writing.let_execute() {
             Ok(()) => Ok(()),
             Err(error) => Err(self.failed(path, "its mode cannot be set", &error)),
         }
     }
 
     /// Notes the time that what was made last gets.
-    fn note_seconds(&mut self, path: &Path, seconds: u64) {
+    fn note_seconds(&mut self, seconds: Option<u64>) {
         if let Some(writing) = &mut self.writing {
             writing.set_seconds(seconds);
         } else if let Some(made) = self.made.last_mut() {
-            made.seconds = Some(seconds);
+            made.seconds = seconds;
         }
     }
 
@@ -326,13 +366,13 @@ impl<W: Sink + Drop> Taker for StdBuilder<W> {
         match command {
             Command::Make(path) => self.make(path),
             Command::Write(path, at, bytes) => self.write(path, *at, bytes.as_slice()),
-            Command::Set(path, name, bytes) => self.set(path, name.as_bytes(), bytes.as_slice()),
+            Command::Set(path, name, bytes) => self.set(path, name, bytes.as_slice()),
             _ => Err(TakerFault::Failed),
         }
     }
 }
 
-/// Makes a folder, or finds it empty; whether it was made.
+/// Makes a folder, or finds it empty, and says whether it was made.
 fn begin(rt: &HostRuntime, folder: &str) -> io::Result<bool> {
     match fs::create_dir(rt, folder) {
         Ok(()) => Ok(true),
@@ -377,9 +417,12 @@ fn set_time_at(rt: &HostRuntime, text: &str, seconds: u64) -> io::Result<()> {
     set_time(&File::open(rt, text)?, seconds)
 }
 
-/// The seconds that decimal digits say.
+/// The seconds that decimal digits say, with no zero before them.
 pub(crate) fn seconds_in(digits: &[u8]) -> Option<u64> {
     if !digits.iter().all(|digit| digit.is_ascii_digit()) {
+        return None;
+    }
+    if digits.len() > 1 && digits.starts_with(b"0") {
         return None;
     }
     let text = str::from_utf8(digits).ok()?;

@@ -19,7 +19,8 @@ use tree_pairs::{FILE_LIMIT, Kind};
 /// The bit of a file's mode that lets its owner execute it.
 const OWNER_EXECUTES: u32 = 0o100;
 
-/// A folder of the host. What stands in it and has no place in an image is left out: it says so, and counts it.
+/// A folder of the host, to be packed. What has no place in an image is left out: a message says so, and it is
+/// counted.
 ///
 /// The folder may itself be a link to one; no other link is followed.
 #[derive(Drop)]
@@ -64,7 +65,7 @@ impl<W: Sink + Drop> StdFolder<W> {
         self.left_out
     }
 
-    /// The sink of the messages.
+    /// Gives the sink of the messages back.
     pub fn into_sink(self) -> W {
         let StdFolder {
             rt: _,

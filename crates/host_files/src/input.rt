@@ -12,9 +12,9 @@ const INPUT_PLACE: &str = "/proc/self/fdinfo/0";
 /// What stands before the place.
 const PLACE: &str = "pos:";
 
-/// Another look at what standard input has still to give, where it is a plain file that can be opened once more: from
-/// the place on where it stands now. Reading it leaves standard input where it stands. Nothing for a pipe or a
-/// terminal.
+/// Opens once more what standard input has still to give, from the place where it stands now. Reading it leaves
+/// standard input where it stands. `None` where standard input is no plain file that can be opened again: for a pipe
+/// or a terminal.
 pub fn second_look(rt: &HostRuntime) -> Option<BufReader<File>> {
     match look(rt) {
         Ok(reader) => Some(reader),

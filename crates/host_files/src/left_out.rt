@@ -29,7 +29,7 @@ pub enum LeftOut {
 }
 
 impl LeftOut {
-    /// What is said of it.
+    /// What a message says of it.
     pub fn words(self) -> &'static str {
         match self {
             LeftOut::Link => "a link is not packed",

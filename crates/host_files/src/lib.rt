@@ -1,9 +1,9 @@
-//! The thin edge to the files of the host: a folder that is packed, a folder that is made of a dump, and what standard
-//! input is.
+//! The thin edge to the files of the host: a folder that is packed, a folder that is made of a dump, and what
+//! standard input is. Start at `StdFolder` and `StdBuilder`.
 //!
-//! That the system's calls do what is asked of them is assumed here, so nothing here tells what it holds. What is
-//! proved is that each call is safe and ends, and, by `host_names`, that each path that is made lies in the folder. The
-//! system knows paths alone: a program that puts a link in the place of a folder meanwhile may lead a call elsewhere.
+//! This crate assumes that the system's calls do what is asked of them, so nothing here tells what it holds. It is
+//! proved that each call is safe and ends, and, by `host_names`, that each path that is made lies in the folder. The
+//! system knows only paths: a program that meanwhile puts a link in the place of a folder may lead a call elsewhere.
 #![tactic(auto)]
 
 mod builder;
@@ -12,9 +12,11 @@ mod input;
 mod left_out;
 mod messages;
 mod names;
+mod omitted;
 mod opened;
 mod places;
 mod reading;
+mod spelled;
 #[cfg(test)]
 mod tests;
 mod wanted;
@@ -25,4 +27,5 @@ pub use folder::StdFolder;
 pub use input::second_look;
 pub use messages::Messages;
 pub use names::NameTaker;
+pub use spelled::Spelled;
 pub use wanted::Wanted;

@@ -4,74 +4,88 @@ ghost use Rattle.std.specs.Prelude.{◌≡◌, ◌≤◌, ◌+◌, ◌++◌, len
 ghost use Rattle.store_model.specs.Paths.{path_text};
 ghost use Rattle.script_lines.specs.CommandLines.{names_text};
 
+use crate::spelled::Spelled;
 use arrayvec::ArrayVec;
-use host_names::escape;
 use path_keys::Path;
 use script_lines::Sink;
+use std::fmt::{self, Display, Write};
 use std::io::{Error, ErrorKind};
-
-/// How many bytes of a name are spelled at once: each takes at most three of the 119 that a spelling may have.
-const SPELLED: usize = 39;
 
 /// Writes messages, one line each: the name of the program, a path and what is said of it. A message that cannot be
 /// written is lost.
 #[derive(Drop)]
 pub struct Messages<W: Sink> {
-    sink: W,
+    sink: TextSink<W>,
 }
 
 impl<W: Sink> Messages<W> {
     /// Messages that go to this sink.
     pub fn new(sink: W) -> Self {
-        Messages { sink }
+        Messages {
+            sink: TextSink { sink },
+        }
     }
 
     /// Says something of a path of the image.
     pub fn say(&mut self, path: &Path, words: &str) {
         self.begin();
-        let _ = self.sink.put(text_of(path).as_slice());
+        self.put_bytes(text_of(path).as_slice());
         self.end(words);
     }
 
     /// Says something of a path of the image, and what the system answered.
     pub fn say_why(&mut self, path: &Path, words: &str, error: &Error) {
         self.begin();
-        let _ = self.sink.put(text_of(path).as_slice());
+        self.put_bytes(text_of(path).as_slice());
         self.end_why(words, error);
     }
 
     /// Says something of a name in a folder of the image that has no path there.
     pub fn say_of_name(&mut self, folder: &Path, name: &str, words: &str) {
         self.begin();
-        let _ = self.sink.put(names_of(folder).as_slice());
+        self.put_bytes(names_of(folder).as_slice());
         self.put("/");
-        self.put_spelled(name.as_bytes());
+        self.show(&Spelled(name));
         self.end(words);
     }
 
     /// Says something of a path of the host.
     pub fn say_of_host(&mut self, path: &str, words: &str) {
         self.begin();
-        self.put_host(path);
+        self.show(&Spelled(path));
         self.end(words);
     }
 
     /// Says something of a path of the host, and what the system answered.
     pub fn say_of_host_why(&mut self, path: &str, words: &str, error: &Error) {
         self.begin();
-        self.put_host(path);
+        self.show(&Spelled(path));
         self.end_why(words, error);
     }
 
-    /// The sink.
+    /// Says something, which names its path where it speaks of one.
+    pub fn say_all(&mut self, what: &impl Display) {
+        self.begin();
+        self.show(what);
+        self.put("\n");
+    }
+
+    /// Gives the sink back.
     pub fn into_sink(self) -> W {
-        let Messages { sink } = self;
+        let Messages {
+            sink: TextSink { sink },
+        } = self;
         sink
+    }
+
+    /// Puts some bytes.
+    fn put_bytes(&mut self, bytes: &[u8]) {
+        let _ = self.sink.sink.put(bytes);
     }
 
     /// Puts some text.
     fn put(&mut self, text: &str) {
-        let _ = self.sink.put(text.as_bytes());
+        self.put_bytes(text.as_bytes());
     }
 
     /// Begins a line.
@@ -93,29 +107,30 @@ impl<W: Sink> Messages<W> {
         self.end(cause(error));
     }
 
-    /// Puts a path of the host: between the `/` each name is spelled.
-    fn put_host(&mut self, path: &str) {
-        for (at, part) in path.as_bytes().split(|byte| *byte == b'/').enumerate() {
-            if at > 0 {
-                self.put("/");
-            }
-            self.put_spelled(part);
-        }
+    /// Puts what shows itself.
+    fn show(&mut self, what: &impl Display) {
+        let _ = write!(self.sink, "{what}");
     }
+}
 
-    /// Puts the spelling of a name of any length.
-    fn put_spelled(&mut self, name: &[u8]) {
-        for piece in name.chunks(SPELLED) {
-            if let Some(text) = escape(piece) {
-                let _ = self.sink.put(text.as_slice());
-            }
+/// A sink that takes text.
+#[derive(Drop)]
+struct TextSink<W: Sink> {
+    sink: W,
+}
+
+impl<W: Sink> Write for TextSink<W> {
+    fn write_str(&mut self, text: &str) -> fmt::Result {
+        match self.sink.put(text.as_bytes()) {
+            Ok(()) => Ok(()),
+            Err(_) => Err(fmt::Error),
         }
     }
 }
 
 /// The text of a path.
 #[tactic(auto, unfolding(store_model::specs::Paths::path_text))]
-fn text_of(path: &Path) -> ArrayVec<u8, { Path::MAX_LEN }>
+pub(crate) fn text_of(path: &Path) -> ArrayVec<u8, { Path::MAX_LEN }>
     ensures { result.items ≡ path_text path.now }
 {
     if path.is_root() {
@@ -169,6 +184,7 @@ fn cause(error: &Error) -> &'static str {
         ErrorKind::OutOfMemory => "memory ran out",
         ErrorKind::InvalidInput => "it is no plain file",
         ErrorKind::NotADirectory => "it is no folder, or stands in none",
+        ErrorKind::DirectoryNotEmpty => "it is not empty",
         ErrorKind::InvalidData => "the listing goes on with other bytes",
         _ => "the system refused it",
     }

@@ -9,7 +9,8 @@ use path_keys::Path;
 use script_lines::{Command, Sink};
 use std::alloc::Global;
 
-/// Looks at the paths of a listing, and makes nothing: each that is none on the host is named, as by the builder.
+/// Looks at the paths of a listing, and makes nothing. It names each one that is no path on the host, as the builder
+/// does.
 #[derive(Drop)]
 pub struct NameTaker<W: Sink> {
     places: Places<W>,
@@ -30,7 +31,7 @@ impl<W: Sink + Drop> NameTaker<W> {
         self.places.left_out()
     }
 
-    /// The sink of the messages.
+    /// Gives the sink of the messages back.
     pub fn into_sink(self) -> W {
         let NameTaker { places, last: _ } = self;
         places.into_messages().into_sink()

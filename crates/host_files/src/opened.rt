@@ -6,8 +6,8 @@ use std::fs::{self, File};
 use std::io::{Error, ErrorKind, Read, Result};
 use std::os::unix::fs::MetadataExt;
 
-/// Opens a plain file, and nothing else: what is no file is not opened, since a pipe would wait for its other end, and
-/// a link is not followed. Where the path leads to another file by then, that is an error.
+/// Opens a plain file, and nothing else. What is no file is not opened, since a pipe would wait for its other end. A
+/// link is not followed. If the path leads to another file by then, that is an error.
 pub fn open_plain(rt: &HostRuntime, path: &str) -> Result<File> {
     let found = fs::symlink_metadata(rt, path)?;
     if !found.is_file() {

@@ -10,6 +10,7 @@ use host_names::{HostPathFault, host_text};
 use path_keys::Path;
 use script_lines::Sink;
 use std::alloc::Global;
+use std::io::Error;
 
 /// Where the entries of a listing are made. One whose path is none on the host is left out, and all below it: the first
 /// of them is named, and each is counted.
@@ -54,7 +55,13 @@ impl<W: Sink + Drop> Places<W> {
         self.messages.say_of_host(self.folder.as_str(), words);
     }
 
-    /// The messages.
+    /// Says something of the folder, and what the system answered.
+    pub fn say_why(&mut self, words: &str, error: &Error) {
+        self.messages
+            .say_of_host_why(self.folder.as_str(), words, error);
+    }
+
+    /// Gives the messages back.
     pub fn into_messages(self) -> Messages<W> {
         let Places {
             alloc: _,

@@ -32,7 +32,7 @@ pub struct Reading {
 }
 
 impl Reading {
-    /// No file is read.
+    /// Makes a reader that reads no file yet.
     pub fn new() -> Self {
         Reading { reader: None }
     }

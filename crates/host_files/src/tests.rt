@@ -235,10 +235,72 @@ fn what_has_no_path_is_left_out(rt: HostRuntime) -> Result<(), Fail> {
     assert!(rt;
         says(
             &said,
-            b"hstore-tree: files_skips: what was made is taken away\n"
+            b"hstore-tree: files_skips: what was made in it is taken away\n"
         )
     );
     fs::remove_dir(&rt, "files_skips")?;
+    Ok(())
+}
+
+#[test]
+fn attributes_that_are_left_out_are_named(rt: HostRuntime) -> Result<(), Fail> {
+    let mut builder = StdBuilder::new(rt, text(&rt, "files_names"), NONE, false, sink(&rt))?;
+    builder.take(&Command::Make(path(&rt, b"/a")))?;
+    builder.take(&set(&rt, b"/a", b"mode", b"x"))?;
+    builder.take(&write(&rt, b"/b", 0, b"ab"))?;
+    builder.take(&set(&rt, b"/b", b"mode", b"x"))?;
+    builder.take(&set(&rt, b"/b", b"mtime", b"7"))?;
+    builder.take(&write(&rt, b"/c", 0, b"ab"))?;
+    builder.take(&set(&rt, b"/c", b"mode", b"x"))?;
+    for name in [b"n1", b"n2", b"n3", b"n4", b"n5", b"n6", b"n7"] {
+        builder.take(&set(&rt, b"/c", name.as_slice(), b"1"))?;
+    }
+    builder.finish()?;
+    assert_eq!(rt; builder.attributes_left_out(), 11);
+    builder.say_attributes();
+    builder.take_away();
+    let said = builder.into_sink();
+    for line in [
+        b"hstore-tree: /a: its attribute `mode` is left out; no option keeps it\n".as_slice(),
+        b"hstore-tree: 2 attributes `mode` are left out; --mode keeps them\n".as_slice(),
+        b"hstore-tree: /b: its attribute `mtime` is left out; --mtime keeps it\n".as_slice(),
+        b"hstore-tree: /c: its attribute `n5` is left out; no option keeps it\n".as_slice(),
+        b"hstore-tree: 2 attributes of other names are left out\n".as_slice(),
+    ] {
+        assert!(rt; says(&said, line));
+    }
+    Ok(())
+}
+
+#[test]
+fn what_is_taken_away_is_said(rt: HostRuntime) -> Result<(), Fail> {
+    let mut builder = StdBuilder::new(rt, text(&rt, "files\n\x1b[1m"), NONE, false, sink(&rt))?;
+    builder.take(&Command::Make(path(&rt, b"/a")))?;
+    builder.take(&Command::Make(path(&rt, b"/b")))?;
+    fs::write(&rt, "files\n\x1b[1m/a/foreign", b"")?;
+    builder.take_away();
+    assert!(rt;
+        builder.into_sink().written()
+            == b"hstore-tree: /a: it cannot be taken away: it is not empty\n\
+            hstore-tree: files%0A%1B[1m: it cannot be taken away: it is not empty\n\
+            hstore-tree: files%0A%1B[1m: not all that was made is taken away\n"
+                .as_slice()
+    );
+    fs::remove_dir_all(&rt, "files\n\x1b[1m")?;
+    let mut builder = StdBuilder::new(rt, text(&rt, "files_none"), NONE, false, sink(&rt))?;
+    builder.take_away();
+    assert!(rt;
+        builder.into_sink().written()
+            == b"hstore-tree: files_none: what was made is taken away\n".as_slice()
+    );
+    fs::create_dir(&rt, "files_none")?;
+    let mut builder = StdBuilder::new(rt, text(&rt, "files_none"), NONE, false, sink(&rt))?;
+    builder.take_away();
+    assert!(rt;
+        builder.into_sink().written()
+            == b"hstore-tree: files_none: nothing was made in it\n".as_slice()
+    );
+    fs::remove_dir(&rt, "files_none")?;
     Ok(())
 }
 
@@ -345,6 +407,8 @@ fn digits_and_places_are_read(rt: HostRuntime) {
         Some(9_223_372_036_854_775_807)
     );
     assert!(rt; seconds_in(b"9223372036854775808").is_none() && seconds_in(b"").is_none());
+    assert_eq!(rt; seconds_in(b"0"), Some(0));
+    assert!(rt; seconds_in(b"00").is_none() && seconds_in(b"07").is_none());
     assert!(rt;
         seconds_in(b"+1").is_none() && seconds_in(b"-1").is_none() && seconds_in(b"1 ").is_none()
     );

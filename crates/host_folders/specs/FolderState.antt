@@ -39,14 +39,14 @@ pub record IsOpened {E : Type 0} (old new : FolderState) (path : Path) (result :
   pub observable : new.is_observable ≡ old.is_observable
   pub opened : IsObservable old → OnOk result (OpensFile old new path)
 
--- so many bytes of the buffer came of the file that was opened last, and this is told of its end
+-- these bytes came of the file that was opened last, and the flag tells whether its end came
 pub record ReadsFile (old new : FolderState) (bytes : List ℕ) (is_ended : Bool) : Type 0 where
   pub listed : new.listed ≡ old.listed
   pub read : (before : List (Path × List ℕ × Bool)) (path : Path) (first : List ℕ) (was_ended : Bool)
       → old.read ≡ before ++ (path, first, was_ended) ∷ []
       → new.read ≡ before ++ (path, first ++ bytes, is_ended) ∷ []
 
--- no bytes for a buffer with room tell of the end
+-- whether a read tells the end of the file: no bytes came for a buffer with room
 abbrev pub tells_end : ℕ → ℕ → Bool
 tells_end count room = nat_lt count 1 && nat_lt 0 room
 

@@ -66,7 +66,7 @@ pub record AsksTooMuch {F : Type 0} (stream : FolderStream F) (t : Tree) : Type 
   pub asks : AsksFor found command
   pub breaks_off : (p : Parameters) → p.version ≡ Two → BreaksOff t command p
 
--- Why the stream ends after the commands of the dump of a tree. Of what fails in the folder no more is told.
+-- Why the stream ends after the commands of the dump of a tree. Nothing more is told of what failed in the folder.
 abbrev pub EndsBy : {F : Type 0} → FolderStream F → Tree → StreamFault → Type 0
 EndsBy stream t faults.NoDump = AsksTooMuch stream t
 EndsBy stream t faults.Unreadable = ⊤

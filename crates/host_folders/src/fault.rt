@@ -23,7 +23,7 @@ pub enum FolderFault {
 impl From<FolderFault> for StreamFault {
     ghost from_gives = { λ cause fault. fault ≡ stream_fault cause };
 
-    /// How a stream says it.
+    /// The fault of a stream that reads from the folder.
     fn from(fault: FolderFault) -> Self {
         match fault {
             FolderFault::NoMemory => StreamFault::NoMemory,

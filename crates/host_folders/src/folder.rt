@@ -23,7 +23,7 @@ pub trait Folder {
         ensures { IsOpened (state self.old) (state self.new) path.now result };
 
     /// Reads the next bytes of the file that is open into the buffer, and answers how many came. For a buffer that is
-    /// not empty no bytes come at the end of the file alone.
+    /// not empty, no bytes come only at the end of the file.
     fn read(&mut self, into: &mut [u8]) -> Result<usize, FolderFault>
         ensures { IsFileRead (state self.old) (state self.new) into.new result };
 }

@@ -1,7 +1,8 @@
-//! Folders of the host, as trees: what a folder tells, and the commands of the dump of the tree that its answers give.
+//! Folders of the host, as trees: what a folder tells, and the commands of the dump of the tree that its answers
+//! give. Start at `Folder` and `pack_folder`.
 //!
-//! What a folder is made of is asked of it folder by folder (`find_all`), and each file is read once, piece after piece
-//! (`FolderStream`). So no file is held, and what is held of the folder are the paths of all that stands in it.
+//! `find_all` lists folder after folder, and `FolderStream` reads each file once, piece after piece. So no file is
+//! held in memory, but the paths of all that stands in the folder are.
 #![tactic(auto)]
 
 mod fault;

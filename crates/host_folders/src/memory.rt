@@ -1,4 +1,4 @@
-//! A folder in memory, whose calls fail where they are told to. It tells its answers.
+//! A folder in memory, some of whose calls fail on purpose. It tells its answers.
 
 ghost use Rattle.std.specs.Prelude.{◌≡◌, ◌↔◌, ◌⊎◌, ◌+◌, ◌^◌, ◌<◌, ◌≤◌, ◌++◌, [], None, option_map, Contains, IfOk};
 ghost use Rattle.std.specs.Prelude.{IfErr, IsErr, drop, IsTrue, OnErr, OnOk, length, slice_index_or, min, max, true};
@@ -18,7 +18,7 @@ use tree_pairs::Kind;
 /// What stands at a path of a folder in memory.
 #[derive(Drop)]
 pub struct MemEntry {
-    /// What is told of it. That the parents of its path stand there too is not asked.
+    /// What the folder tells of it. The parents of its path need not stand there too.
     pub found: Found,
     /// The bytes that a file gives when it is read, as many as it was found to have or not; none for a folder.
     pub bytes: Vec<u8>,
@@ -58,9 +58,9 @@ pub struct MemFolder {
 }
 
 impl MemFolder {
-    /// A folder that has these entries. It gives at most `piece` bytes in a read, though at least 1 where one is left.
-    /// Of its calls, which count from 0, those fail whose numbers stand in `failing`; and else only where memory runs
-    /// out, or what is opened is no file, or no file is open.
+    /// A folder that has these entries. A read gives at most `piece` bytes, though at least 1 where one is left. Its
+    /// calls are numbered from 0, and those fail whose numbers stand in `failing`. Another call fails only where
+    /// memory runs out, where what is opened is no file, or where no file is open.
     pub fn new(entries: Vec<MemEntry>, piece: usize, failing: Vec<u64>) -> Self
         ensures { folder_state result ≡ record { is_observable = true; listed = []; read = [] } }
     {

@@ -1,4 +1,4 @@
-//! The listing of a folder is written.
+//! Writes the listing of a folder.
 
 ghost use Rattle.std.specs.Prelude.{◌≡◌, OnOk, IfErr};
 ghost use Rattle.dump_streams.specs.Draining.{WritesUntil};
@@ -11,8 +11,8 @@ use crate::stream::FolderStream;
 use dump_streams::{DrainFault, write_dump};
 use script_lines::Sink;
 
-/// Writes the listing of a folder, in which this was found. The stream, which tells where it ended, and the sink are
-/// given back.
+/// Writes the listing of a folder, in which `found` was found. It gives back the stream, which tells where it ended,
+/// and the sink.
 /// `Stream`: the folder failed, or no image can hold what was found; the lines of what came before were written.
 /// `Taker`: the sink failed.
 pub fn pack_folder<F: Folder, W: Sink>(

@@ -12,8 +12,8 @@ use script_lines::Command;
 use store_base::Bytes;
 use tree_listing::DUMP_PIECE;
 
-/// Reads the next piece of the file that is open, and puts the command that writes it at this offset of this path into
-/// the place of another one. The answer is how many bytes the piece has: 2,048, or less at the end of the file.
+/// Reads the next piece of the file that is open, and puts into `into` the command that writes it at this offset of
+/// this path. It answers how many bytes the piece has: 2,048, or fewer at the end of the file.
 pub(crate) fn read_piece<F: Folder>(
     folder: &mut F,
     path: &Path,

@@ -51,7 +51,7 @@ pub struct FolderStream<F: Folder> {
 }
 
 impl<F: Folder> FolderStream<F> {
-    /// The stream of a folder, in which this was found.
+    /// Makes the stream of a folder, in which `found` was found.
     pub fn new(folder: F, found: Vec<Found>) -> Self
         ensures came { CameOf F.state result empty_tree }
         ensures first { result.first.value ≡ folder }
@@ -96,7 +96,7 @@ impl<F: Folder> FolderStream<F> {
         self.found.len()
     }
 
-    /// The folder.
+    /// Gives the folder back.
     pub fn into_folder(self) -> F
         ensures { result ≡ self.folder }
     {
@@ -115,7 +115,8 @@ impl<F: Folder> FolderStream<F> {
     fn begin(&mut self, into: &mut Command) -> Result<bool, StreamFault>
         requires { self.old.place ≡ Place.Start }
         ensures next { IsNext (CameOf F.state self.old) (CameOf F.state self.new)
-            (IsPacked F.state self.new) (EndsBy self.new) (command_of into.new) result }
+            (IsPacked F.state self.new)
+            (EndsBy self.new) (command_of into.new) result }
         ensures same { IsOfSame self.old self.new }
     {
         if self.at >= self.found.len() {
@@ -172,7 +173,8 @@ impl<F: Folder> FolderStream<F> {
     fn piece(&mut self, found: &Found, at: u32, into: &mut Command) -> Result<bool, StreamFault>
         requires { self.old.place ≡ Place.Piece found.now at }
         ensures next { IsNext (CameOf F.state self.old) (CameOf F.state self.new)
-            (IsPacked F.state self.new) (EndsBy self.new) (command_of into.new) result }
+            (IsPacked F.state self.new)
+            (EndsBy self.new) (command_of into.new) result }
         ensures same { IsOfSame self.old self.new }
     {
         let count = read_piece(&mut self.folder, &found.path, at, into)?;
@@ -189,7 +191,8 @@ impl<F: Folder> FolderStream<F> {
     fn mode(&mut self, found: &Found, into: &mut Command) -> Result<bool, StreamFault>
         requires { self.old.place ≡ Place.Mode found.now }
         ensures next { IsNext (CameOf F.state self.old) (CameOf F.state self.new)
-            (IsPacked F.state self.new) (EndsBy self.new) (command_of into.new) result }
+            (IsPacked F.state self.new)
+            (EndsBy self.new) (command_of into.new) result }
         ensures same { IsOfSame self.old self.new }
     {
         self.place = Place::Mtime(*found);
@@ -205,7 +208,8 @@ impl<F: Folder> FolderStream<F> {
     fn mtime(&mut self, found: &Found, into: &mut Command) -> Result<bool, StreamFault>
         requires { self.old.place ≡ Place.Mtime found.now }
         ensures next { IsNext (CameOf F.state self.old) (CameOf F.state self.new)
-            (IsPacked F.state self.new) (EndsBy self.new) (command_of into.new) result }
+            (IsPacked F.state self.new)
+            (EndsBy self.new) (command_of into.new) result }
         ensures same { IsOfSame self.old self.new }
     {
         let Some(seconds) = found.seconds else {
@@ -251,8 +255,8 @@ impl<F: Folder> DumpStream for FolderStream<F> {
 
     ghost fails = { EndsBy };
 
-    /// `NoDump`: no dump goes on with what the entry at `path` asks for. `Unreadable`, `NoMemory`: so the folder
-    /// answered.
+    /// `NoDump`: no dump goes on with what the entry at `path` asks for. `Unreadable`, `NoMemory`: the folder
+    /// answered so.
     fn next(&mut self, into: &mut Command) -> Result<bool, StreamFault> {
         match self.place {
             Place::Start => self.begin(into),

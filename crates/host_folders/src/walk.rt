@@ -1,4 +1,4 @@
-//! All that stands in a folder is found.
+//! Finds all that stands in a folder.
 
 ghost use Rattle.std.specs.Prelude.{◌≡◌, ◌≤◌, IfOk, OnOk, vec_len};
 ghost use Rattle.host_folders.specs.FolderState.{IsObservable};

@@ -38,10 +38,10 @@ impl From<NoMemory> for HostPathFault {
     }
 }
 
-/// The path on the host of a path below a folder: the folder's bytes, and `/` and the name that is spelled for each
-/// name of the path. So it leads to nothing outside the folder: no name has a `/`, none is `.` or `..`. For a folder
-/// without bytes it begins with `/`, and so at the root of the host. `NoSpelling`: exactly where some name of the
-/// path is no spelling, unless memory ran out. `NotUtf8` does not come.
+/// Makes the path on the host of a path below a folder: the folder's bytes, and `/` and the name that is spelled for
+/// each name of the path. So it leads to nothing outside the folder: no name has a `/`, none is `.` or `..`. For a
+/// folder without bytes it begins with `/`, and so at the root of the host. `NoSpelling`: exactly where some name of
+/// the path is no spelling, unless memory ran out. `NotUtf8` does not come.
 pub fn host_path(alloc: Global, folder: &[u8], path: &Path) -> Result<Vec<u8>, HostPathFault>
     ensures ok { IfOk result (λ bytes. IsHostPath folder.now path.now bytes.items) }
     ensures no_spelling { IsErrOf result HostPathFault.NoSpelling → HasNoHostPath path.now }
@@ -53,7 +53,7 @@ pub fn host_path(alloc: Global, folder: &[u8], path: &Path) -> Result<Vec<u8>, H
     Ok(bytes)
 }
 
-/// The path on the host, as `host_path`, as text.
+/// Makes the path on the host as `host_path` does, as text.
 /// `NotUtf8`: there is one, but it is no UTF-8.
 pub fn host_text(alloc: Global, folder: &str, path: &Path) -> Result<String, HostPathFault>
     ensures ok { IfOk result (λ text. IsHostPath folder.now path.now (string_bytes text)) }

@@ -21,8 +21,8 @@ pub enum ImagePathFault {
     TooLong,
 }
 
-/// The path in an image of a name in a folder of the host: the folder's path in the image, and the name's spelling.
-/// `NoName` and `TooLong`: exactly where it is so.
+/// Makes the path in an image of a name in a folder of the host: the folder's path in the image, and the name's
+/// spelling. `NoName` and `TooLong`: exactly where it is so.
 pub fn image_path(folder: &Path, name: &[u8]) -> Result<Path, ImagePathFault>
     ensures ok { IfOk result (λ path. path ≡ folder.now ++ model.escaped name.now ∷ []) }
     ensures valid { IfOk result (λ path. IsTrue (is_path path)) }

@@ -1,4 +1,5 @@
-//! How a name of a folder of the host travels as a name of a path, and the paths of both sides.
+//! How a name of a folder of the host travels as a name of a path, and the paths of both sides. Start at `escape` and
+//! `host_path`.
 #![tactic(auto)]
 
 mod host_paths;

@@ -40,7 +40,7 @@ fn push_escaped(byte: u8, into: &mut ArrayVec<u8, MAX_NAME>) -> bool
     into.try_extend_from_slice(&digits).is_ok()
 }
 
-/// The spelling of a name; nothing exactly where it has more bytes than a name of a path can have.
+/// Spells a name; `None` exactly where the spelling has more bytes than a name of a path can have.
 pub fn escape(name: &[u8]) -> Option<ArrayVec<u8, MAX_NAME>>
     ensures some { IfSome result (λ spelled. spelled.items ≡ model.escaped name.now) }
     ensures fits { IfSome result (λ spelled. length spelled.items ≤ MAX_NAME) }

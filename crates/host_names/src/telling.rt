@@ -79,7 +79,7 @@ fn is_spelling(text: &[u8], bytes: &[u8]) -> bool
     }
 }
 
-/// The name of the host that has this spelling; nothing exactly where there is none.
+/// Finds the name of the host that has this spelling; `None` exactly where there is none.
 pub fn unescape(text: &[u8]) -> Option<ArrayVec<u8, MAX_NAME>>
     requires { length text.now ≤ MAX_NAME }
     ensures name { IfSome result (λ name. IsTrue (model.is_host_name name.items)) }

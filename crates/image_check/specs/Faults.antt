@@ -8,21 +8,21 @@ use Rattle.image_check.specs.declared.fault.AttachFault.TheVariants as attach
 use Rattle.image_check.specs.declared.fault.ApplyFault.{ApplyFault}
 use Rattle.image_check.specs.declared.fault.ApplyFault.TheVariants as apply
 
--- where a store could not be had for this fault: one more where the disk failed
+-- where a disk was not taken as a store, for this fault: one more where the disk failed
 abbrev pub attach_faults_by : AttachFault → ℕ → ℕ
 attach_faults_by attach.Disk count = raised count
 attach_faults_by attach.NoMemory count = count
 attach_faults_by attach.NotImage count = count
 attach_faults_by attach.Damaged count = count
 
--- behind a command: one more where the disk failed
+-- after a command: one more where the disk failed
 abbrev pub apply_faults_after : {T : Type 0} → ℕ → Result T ApplyFault → ℕ
 apply_faults_after count (Ok value) = count
 apply_faults_after count (Err apply.Disk) = raised count
 apply_faults_after count (Err apply.NoMemory) = count
 apply_faults_after count (Err apply.Stopped) = count
 
--- why a store could not be had, where a call that stands below failed
+-- why a disk was not taken as a store, where a call below failed
 abbrev pub attach_fault_of : Fault → AttachFault
 attach_fault_of causes.Disk = attach.Disk
 attach_fault_of causes.NoMemory = attach.NoMemory

@@ -10,7 +10,7 @@ use Rattle.tree_reader.specs.ReaderCalls.{AreCounted}
 use Rattle.tree_reader.specs.Seen.{HasSeen}
 use Rattle.image_check.specs.declared.pairs.TreePairs.{TreePairs}
 
--- The first of the pairs are not the first of any tree's. That may not be so behind more pairs than any list has.
+-- Some first ones of the pairs begin no tree's pairs, unless they are more than any list has.
 pub record BeginNoTree (s : List Pair) (p : Parameters) : Type 0 where
   pub first : List Pair
   pub rest : List Pair

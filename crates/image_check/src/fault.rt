@@ -1,4 +1,4 @@
-//! Why a store was not had, and why a command was not carried out.
+//! Why a disk was not taken as a store, and why a command was not carried out.
 
 ghost use Rattle.std.specs.Prelude.{◌≡◌};
 ghost use Rattle.image_check.specs.declared.fault.AttachFault.TheVariants as attach;
@@ -7,7 +7,7 @@ ghost use Rattle.image_check.specs.declared.fault.ApplyFault.TheVariants as appl
 use store_base::{DiskFault, Fault, NoMemory};
 use thiserror::Error;
 
-/// Why a disk was not taken as a store. What stands after it is said at `Store::attach`.
+/// Why a disk was not taken as a store. `Store::attach` says what stands then.
 #[derive(Clone, Copy, Debug, PartialEq, Eq, Error)]
 pub enum AttachFault {
     /// The disk failed. What it reads still represents the tree that it did, if it did so.
@@ -56,7 +56,7 @@ impl From<Fault> for AttachFault {
 /// Why a command was not carried out. The tree is as it was.
 #[derive(Clone, Copy, Debug, PartialEq, Eq, Error)]
 pub enum ApplyFault {
-    /// The disk failed. The store is stopped where that came at a write or a sync, or behind one.
+    /// The disk failed. If that came at a write or a sync, or after one, the store is stopped.
     #[error("the disk failed")]
     Disk,
     /// Memory ran out. Nothing was written, and the next command may go on.

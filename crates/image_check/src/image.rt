@@ -10,9 +10,9 @@ use disk_model::Disk;
 use gate_journal::{Journal, View};
 use store_base::Fault;
 
-/// What a disk holds as recovery would leave it; the disk is only read, and handed back. `NotImage` is the answer to a
-/// disk whose header would then be that of no image of its length, and to no other; `Damaged` that to an image that
-/// represents no tree. `Disk` comes only where the disk failed, and `NoMemory` never.
+/// Finds what a disk holds as recovery would leave it. The disk is only read, and handed back. `NotImage` is the
+/// answer to a disk whose header would then be that of no image of its length, and to no other. `Damaged` is the
+/// answer to an image that represents no tree. `Disk` comes only where the disk failed, and `NoMemory` never.
 pub fn find_image<D: Disk>(mut disk: D) -> (D, Result<Contents, AttachFault>)
     ensures { FindsImage (D.state disk) (D.state result.0) result.1 }
 {

@@ -1,9 +1,9 @@
-//! The exact check: whether an image is the layout of a tree, and what that tree holds.
+//! The exact check: whether an image is the layout of a tree, and what that tree holds. Start at `check`.
 //!
 //! Five conditions are tested on the slots that recovery would leave, page by page (`layout_conditions`): what each
 //! slot holds and in which order (`table_order`), the groups of pages from the highest level down (`group_walk`), and
-//! whether the pairs of level 0 are a tree's (`tree_reader`). They hold of layouts alone. Nothing is written, no list
-//! is made, and no memory is taken: the slots are seen through a view (`gate_journal`).
+//! whether the pairs of level 0 are a tree's (`tree_reader`). Only layouts meet them. Nothing is written, no list is
+//! made, and no memory is taken: the slots are seen through a view (`gate_journal`).
 #![tactic(auto)]
 
 mod contents;

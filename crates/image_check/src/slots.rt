@@ -65,7 +65,7 @@ fn count_pages<S: ReadSlots>(
     count_by::<S, Brand>(slots, draw, height, entries, Blank::new(1))
 }
 
-/// What slots hold: `None` exactly where they are the layout of no tree. There have to be as many slots as the
+/// Finds what slots hold: `None` exactly where they are the layout of no tree. There have to be as many slots as the
 /// parameters say. A fault of the slots is handed on, and the slots are as they were. It takes no memory itself.
 // A megabyte of entries is on the stack while it runs, and not in the frame of whoever calls it.
 #[inline(never)]

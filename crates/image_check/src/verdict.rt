@@ -10,7 +10,7 @@ use store_base::Fault;
 /// What a check says of an image or of its slots.
 #[derive(Clone, Copy, Debug, PartialEq, Eq)]
 pub enum Verdict {
-    /// It represents a tree, which is one.
+    /// It represents a tree.
     Clean {
         /// How many slots hold a page.
         pages: u32,

@@ -85,7 +85,7 @@ pub record AnswersByOneTree (bytes script written : List ℕ) (run : Status)
   pub replied : run ≡ Done → written_new ≡ written ++ replies_text (replies tree (lines script) params)
   pub left : run ≡ Done → bytes_new ≡ layout (tree_after tree (lines script) params) params
 
--- A run of bytes that hold no tree, behind a check: nothing is written to the disk, one sync is made at most, no line
+-- A run of bytes that hold no tree, after a check: nothing is written to the disk, one sync is made at most, no line
 -- is answered, nothing is taken from the source or written to the sink, and a crash meanwhile leaves what one before
 -- might have.
 pub record LeavesAlone {R W : Type 0} (done : ℕ) (old new : DiskState) (source source_new : R)

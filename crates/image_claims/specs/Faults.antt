@@ -58,9 +58,10 @@ abbrev pub CanBeLoaded : DiskState → List ℕ → Type 0
 CanBeLoaded disk script = (p : Parameters) × Represents disk.bytes empty_tree p
     × ((t : Tree) × IsTreeUnder t p × IsListing t script × (page_count t p ≤ p.slots))
 
--- What is asked for can be done: a disk of the image's length that does not begin as one is formatted, an image that
--- represents a tree is run, checked, upgraded and dumped, and answers a script of sessions, one of which scrubbing
--- leaves a tree's is scrubbed, and into one of the empty tree a listing is loaded. Each disk is wiped.
+-- What is asked for can be done. A disk of the image's length that does not begin as one can be formatted. An image
+-- that represents a tree can be run, checked, upgraded and dumped, and can answer a script of sessions. An image of
+-- which scrubbing leaves a tree's can be scrubbed. Into an image of the empty tree a listing can be loaded. Any disk
+-- can be wiped.
 abbrev pub CanBeDone : Request → DiskState → SourceState → Type 0
 CanBeDone (Format p) disk source = disks.IsObservable disk × (disk.size ≡ image_len p.slots)
     × (slice_index disk.bytes 0 ≢ first_byte)

@@ -43,7 +43,7 @@ pub record MirrorsImage (status : Status) (done : ℕ) (from from_new to to_new 
   pub not_image : EndsExactly NotImage (LacksOne from.bytes to.bytes) (DiskFault ∷ []) status
   pub damaged : EndsExactly Damaged (IsBroken (Represents from.bytes) from.bytes) (DiskFault ∷ []) status
   pub unequal : EndsExactly Unequal (AreOfOther from.bytes to.bytes) (DiskFault ∷ []) status
-  -- and then, and where memory ran out, the second is only read; the first is so in any case
+  -- in these cases, and where memory ran out, the second is only read; the first is only read in any case
   pub refused : IsOneOf status (NotImage ∷ Damaged ∷ Unequal ∷ NoMemory ∷ []) → ReadsOnly to to_new
   pub spares_first : ReadsOnly from from_new
   -- so it is where they are no pair, also where a call of it failed, and where a call of the first failed
@@ -97,9 +97,9 @@ pub record RecoversAlike (p : Parameters) (second image : List ℕ) : Type 0 whe
 abbrev pub IsOldOrFirst : Tree → Parameters → List ℕ → List ℕ → Type 0
 IsOldOrFirst t p second image = RecoversAlike p second image ⊎ Represents image t p
 
--- The image of a tree is mirrored onto one of the same parameters. What is read at the end, whatever failed, recovers
--- to what the second did, or is an image of the tree. So is each image that a crash might have left, but for those
--- that one before might have.
+-- The image of a tree is mirrored onto one of the same parameters. What the second disk reads at the end, whatever
+-- failed, recovers to what it did, or is an image of the tree. The same holds of each image that a crash might have
+-- left, unless a crash before might have left it.
 pub record MirrorsAllOrNone (t : Tree) (p : Parameters) (old new : DiskState) : Type 0 where
   pub reads : IsOldOrFirst t p old.bytes new.bytes
   pub crash : (image : List ℕ) → MightLeave old new image → old.crash_images image ⊎ IsOldOrFirst t p old.bytes image

@@ -38,18 +38,18 @@ pub record UpgradesImage (status : Status) (old new : DiskState) : Type 0 where
   -- exactly what is no image is refused as such, and exactly an image of no tree as a damaged one
   pub not_image : EndsExactly NotImage (IsNone old.bytes) (DiskFault ∷ NoMemory ∷ []) status
   pub damaged : EndsExactly Damaged (IsBroken (Represents old.bytes) old.bytes) (DiskFault ∷ NoMemory ∷ []) status
-  -- it is done for an image of a tree alone, and leaves that of the same tree, of version 2, durably
+  -- it is done only for an image of a tree, and leaves that of the same tree, of version 2, durably
   pub represents : status ≡ Done → (t : Tree) × (p : Parameters) × Represents old.bytes t p
   pub upgraded : status ≡ Done → (t : Tree) (p : Parameters) → Represents old.bytes t p
       → Stands new t (with_version p Two)
-  -- where memory ran out the tree is there under the version that it had, behind a crash too
+  -- where memory ran out the tree is there under the version that it had, after a crash too
   pub kept : status ≡ NoMemory → (t : Tree) (p : Parameters) → Represents old.bytes t p → KeepsTree t p old new
   -- what represents no tree is not written, and a crash leaves what one before might have
   pub untouched : ((t : Tree) (p : Parameters) → Represents old.bytes t p → ⊥) → StaysAsItWas old new
 
--- An image of a tree is upgraded: what is read at the end, whatever failed, is of the tree, under the one version or
--- the other. So is, where this was so of each image that a crash before might have left, each image that a crash
--- might have left.
+-- An image of a tree is upgraded. What the disk reads at the end, whatever failed, is an image of the tree, under the
+-- one version or the other. Where each image that a crash before might have left was one, so is each image that a
+-- crash might have left.
 pub record UpgradesAllOrNone (t : Tree) (p : Parameters) (old new : DiskState) : Type 0 where
   pub reads : IsOfEither t p new.bytes
   pub crash : MayLeaveOnly old (λ image. Represents image t p) → (image : List ℕ)

@@ -16,14 +16,15 @@ use script_lines::MemSink;
 use std::alloc::Global;
 use store_top::{Status, Words};
 
-/// A check of any bytes, which nobody need vouch for. It says `clean` exactly of those that represent a tree, with
-/// the tree's numbers, `not-image` exactly of those that are no image, and `damaged` exactly of the others, unless a
-/// call fails or memory runs out before. It writes nothing to the disk, and takes nothing from the source. It takes
-/// no memory itself: where memory ran out, that was while the words were read, and the disk is as it was.
+/// Checks any bytes, which nobody need vouch for. It says `clean` exactly of those that represent a tree, with the
+/// tree's numbers, `not-image` exactly of those that are no image, and `damaged` exactly of the others, unless a call
+/// fails or memory runs out before. It writes nothing to the disk, and takes nothing from the source. It takes no
+/// memory itself: where memory ran out, that was while the words were read, and the disk is as it was.
 pub fn check(alloc: Global, check: &Words, machine: Machine) -> Ended
     ensures exact { request_of check.now ≡ Some Check
         → ChecksExactly result.status (meaning machine.disk) (meaning result.disk)
-        (sink_state machine.sink) (sink_state result.sink) }
+        (sink_state machine.sink)
+        (sink_state result.sink) }
     ensures takes_nothing { request_of check.now ≡ Some Check → result.source ≡ machine.source }
     ensures takes_no_memory { request_of check.now ≡ Some Check → result.status ≡ Status.NoMemory
         → result.disk ≡ machine.disk }
@@ -42,7 +43,7 @@ pub struct Judged {
     pub run: Ended,
 }
 
-/// A check of any bytes, and then a run of the same bytes, whose replies go to a sink of its own. The check says
+/// Checks any bytes, and then runs a script on the same bytes, whose replies go to a sink of its own. The check says
 /// `not-image` and `damaged` exactly where the run ends with status 7 and 8, unless a call fails or memory runs out
 /// before. A run of bytes that hold no tree leaves them alone and takes nothing, however it ends. What the check says
 /// and prints is exact. Where it says `clean`, the run is answered by one tree, the one that the bytes hold.
@@ -61,8 +62,9 @@ pub fn check_then_run(
         → AgreesWithRun result.check result.run.status }
     ensures answers { request_of check.now ≡ Some Check → request_of run.now ≡ Some Run
         → result.check ≡ Status.Done →
-        AnswersByOneTree (meaning machine.disk).bytes machine.source.left replies.written
-        result.run.status result.run.sink.written (meaning result.run.disk).bytes }
+        AnswersByOneTree (meaning machine.disk).bytes machine.source.left
+        replies.written result.run.status
+        result.run.sink.written (meaning result.run.disk).bytes }
     ensures alone { request_of check.now ≡ Some Check → request_of run.now ≡ Some Run
         → ((t : Tree) (p : Parameters) → Represents (meaning machine.disk).bytes t p → ⊥) →
         LeavesAlone result.run.done (meaning machine.disk)

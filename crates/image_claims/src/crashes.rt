@@ -18,7 +18,7 @@ use script_claims::{Ended, Machine};
 use std::alloc::Global;
 use store_top::{Status, Words};
 
-/// An image is made on a disk of its length that does not begin as one. Whatever call of the disk fails first, and
+/// Makes an image on a disk of its length that does not begin as one. Whatever call of the disk fails first, and
 /// wherever a crash comes, what is left is no image, or the whole image of the empty tree.
 pub fn format_cut_short(alloc: Global, format: &Words, machine: Machine) -> Ended
     ensures { (p : Parameters) → request_of format.now ≡ Some (Format p)
@@ -29,7 +29,7 @@ pub fn format_cut_short(alloc: Global, format: &Words, machine: Machine) -> Ende
     call(alloc, format, machine)
 }
 
-/// An image is wiped, on a disk that begins as one does. Whatever call of the disk fails first, and wherever a crash
+/// Wipes an image, on a disk that begins as one does. Whatever call of the disk fails first, and wherever a crash
 /// comes, what is left is no image any more, or each byte of it is as it was.
 pub fn wipe_cut_short(alloc: Global, wipe: &Words, machine: Machine) -> Ended
     ensures { request_of wipe.now ≡ Some Wipe
@@ -39,7 +39,7 @@ pub fn wipe_cut_short(alloc: Global, wipe: &Words, machine: Machine) -> Ended
     call(alloc, wipe, machine)
 }
 
-/// The image of a tree is upgraded. Whatever call of the disk fails first, what is read at the end is an image of that
+/// Upgrades the image of a tree. Whatever call of the disk fails first, what is read at the end is an image of that
 /// tree, of the version that it had or of version 2. So is what a crash leaves, wherever it comes, where each image
 /// that a crash before the call might have left was one of that tree, of the version that it had.
 pub fn upgrade_cut_short(alloc: Global, upgrade: &Words, machine: Machine) -> Ended
@@ -74,13 +74,16 @@ pub fn scrub_cut_short(
 ) -> Scrubs
     ensures cut { request_of scrub.now ≡ Some Scrub
         → ScrubsExactly result.cut.status (meaning machine.disk) (meaning result.cut.disk)
-        (sink_state machine.sink) (sink_state result.cut.sink) }
+        (sink_state machine.sink)
+        (sink_state result.cut.sink) }
     ensures again { request_of scrub.now ≡ Some Scrub
-        → ScrubsExactly result.again.status (meaning left.disk) (meaning result.again.disk)
-        (sink_state left.sink) (sink_state result.again.sink) }
+        → ScrubsExactly result.again.status (meaning left.disk)
+        (meaning result.again.disk) (sink_state left.sink)
+        (sink_state result.again.sink) }
     ensures whole { request_of scrub.now ≡ Some Scrub
-        → ScrubsExactly result.whole.status (meaning twin.disk) (meaning result.whole.disk)
-        (sink_state twin.sink) (sink_state result.whole.sink) }
+        → ScrubsExactly result.whole.status (meaning twin.disk)
+        (meaning result.whole.disk) (sink_state twin.sink)
+        (sink_state result.whole.sink) }
     ensures same { request_of scrub.now ≡ Some Scrub → IsDurable (meaning machine.disk) →
         MightLeave (meaning machine.disk) (meaning result.cut.disk) (meaning left.disk).bytes
         → (meaning twin.disk).bytes ≡ (meaning machine.disk).bytes →

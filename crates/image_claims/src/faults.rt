@@ -13,8 +13,8 @@ use script_lines::{Sink, Source};
 use std::alloc::Global;
 use store_top::{Outcome, Words};
 
-/// A call with any words on any disk, source and sink, whether they tell their bytes or not. It ends by one of the
-/// statuses of its subcommand. Each call of the three that fails is the status, 5, 3 or 4, and no call fails with
+/// Carries out any words on any disk, source and sink, whether they tell their bytes or not. The call ends by one of
+/// the statuses of its subcommand. Each call of the three that fails is the status, 5, 3 or 4, and no call fails with
 /// another status. Where none failed and memory was there, what can be done is done. A format refuses exactly the
 /// length that is not its own; a call that would open a store of what is no image takes nothing and writes nothing.
 pub fn call_anything<D: Disk, R: Source, W: Sink>(
@@ -24,13 +24,15 @@ pub fn call_anything<D: Disk, R: Source, W: Sink>(
     source: R,
     sink: W,
 ) -> Outcome<D, R, W>
-    ensures faults { FailsByStatus result.status (D.state disk) (D.state result.disk)
-        (R.state source) (R.state result.source) (W.state sink) (W.state result.sink) }
+    ensures faults { FailsByStatus result.status (D.state disk)
+        (D.state result.disk) (R.state source)
+        (R.state result.source) (W.state sink) (W.state result.sink) }
     ensures ends { (request : Request) → request_of words.now ≡ Some request
         → IsOneOf result.status (endings request) }
     ensures done { (request : Request) → request_of words.now ≡ Some request →
-        DoesWhatCanBeDone request result.status result.done (D.state disk) (D.state result.disk)
-        (R.state source) (R.state result.source) (W.state sink) (W.state result.sink) }
+        DoesWhatCanBeDone request result.status result.done (D.state disk)
+        (D.state result.disk) (R.state source)
+        (R.state result.source) (W.state sink) (W.state result.sink) }
     ensures lengths { (p : Parameters) → request_of words.now ≡ Some (Format p)
         → RefusesLength p result.status (D.state disk) }
     ensures refused { (request : Request) → request_of words.now ≡ Some request → OpensStore request

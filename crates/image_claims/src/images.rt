@@ -26,13 +26,14 @@ pub fn format(alloc: Global, format: &Words, machine: Machine) -> Ended
     call(alloc, format, machine)
 }
 
-/// Scrubs an image: where the free slots are all that differs from the image of a tree, behind recovery, that image
+/// Scrubs an image: where the free slots are all that differs from the image of a tree, after recovery, that image
 /// is left, byte for byte, and else nothing is written. It prints what a check of that image would. It takes no
 /// memory itself: where memory ran out, that was while the words were read, and the disk is as it was.
 pub fn scrub(alloc: Global, scrub: &Words, machine: Machine) -> Ended
     ensures exact { request_of scrub.now ≡ Some Scrub
         → ScrubsExactly result.status (meaning machine.disk) (meaning result.disk)
-        (sink_state machine.sink) (sink_state result.sink) }
+        (sink_state machine.sink)
+        (sink_state result.sink) }
     ensures takes_nothing { request_of scrub.now ≡ Some Scrub → result.source ≡ machine.source }
     ensures takes_no_memory { request_of scrub.now ≡ Some Scrub → result.status ≡ Status.NoMemory
         → result.disk ≡ machine.disk }
@@ -56,7 +57,7 @@ pub fn wipe(alloc: Global, wipe: &Words, machine: Machine) -> Ended
 
 /// Upgrades an image: that of the same tree is left, of version 2, durably. What is no image is refused, exactly, and
 /// so is what is one of no tree; neither is written, and a crash leaves of it what one before might have. Where memory
-/// ran out the tree is there under the version that it had, behind a crash too. Nothing is taken or printed.
+/// ran out the tree is there under the version that it had, after a crash too. Nothing is taken or printed.
 pub fn upgrade(alloc: Global, upgrade: &Words, machine: Machine) -> Ended
     ensures upgrades { request_of upgrade.now ≡ Some Upgrade
         → UpgradesImage result.status (meaning machine.disk) (meaning result.disk) }
@@ -66,7 +67,7 @@ pub fn upgrade(alloc: Global, upgrade: &Words, machine: Machine) -> Ended
     call(alloc, upgrade, machine)
 }
 
-/// How a wipe ended, and how making an image behind it did.
+/// How a wipe ended, and how making an image after it did.
 #[derive(Drop)]
 pub struct Remade {
     /// How the wipe ended.
@@ -75,8 +76,8 @@ pub struct Remade {
     pub format: Ended,
 }
 
-/// Wipes a disk, whatever it holds, and makes an image on it. Behind a wipe that is done the image is fresh, and
-/// never refused for what was there before; behind one for which memory ran out it is made as without one.
+/// Wipes a disk, whatever it holds, and makes an image on it. After a wipe that is done the image is fresh, and
+/// never refused for what was there before; after one for which memory ran out it is made as without one.
 pub fn wipe_then_format(alloc: Global, wipe: &Words, format: &Words, machine: Machine) -> Remade
     ensures { (p : Parameters) → request_of wipe.now ≡ Some Wipe
         → request_of format.now ≡ Some (Format p) →

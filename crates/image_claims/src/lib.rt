@@ -1,7 +1,7 @@
-//! The mission's sentences on images: what a keeper of ballots is told of `format`, `check`, `scrub`, `wipe`,
-//! `upgrade` and `mirror`, of words that are not well formed, of failed calls, of statuses and of costs. Each is a
-//! proved function that calls the program on disks, sources and sinks in memory, and whose contract says the sentence
-//! of bytes, lines, statuses and trees.
+//! The sentences on images (docs/PROMISES.md): what is promised of `format`, `check`, `scrub`, `wipe`, `upgrade` and
+//! `mirror`, of words that are not well formed, of failed calls, of statuses and of costs. Each sentence is a proved
+//! function that calls the program on disks, sources and sinks in memory. Its contract says the sentence in bytes,
+//! lines, statuses and trees. Start at `check`.
 //!
 //! All functions but the mirror come to the program by `script_claims::serve`, and all of these but one do so on one
 //! kind of machine. The mirror, which has two disks, comes to it by `top_pair`.

@@ -16,16 +16,18 @@ use store_top::{PairOutcome, top_pair};
 /// How a mirror ended, with the disks and the sink that it was given.
 pub type Mirrored = PairOutcome<Disk, Disk, MemSink>;
 
-/// One image is mirrored onto another, whatever the two disks hold, what is pending on them and which of their calls
-/// fail. The second is then what recovery leaves of the first, byte for byte, and the first is as it was. Cut short at
-/// any moment, by a failure of any call or by a crash, the second recovers to what it was or to the first, where what
-/// was pending on it did so too. Each failed call is the status, and no other; where none failed and memory was there,
-/// what can be mirrored is.
+/// Mirrors one image onto another, whatever the two disks hold, what is pending on them and which of their calls
+/// fail. The second is then what recovery leaves of the first, byte for byte, and the first is as it was. Cut short
+/// at any moment, by a failure of any call or by a crash, the second recovers to what it was or to the first, where
+/// what was pending on it did so too. Each failed call is the status, and no other; where none failed and memory was
+/// there, what can be mirrored is.
 pub fn mirror(alloc: Global, from: Disk, to: Disk, sink: MemSink) -> Mirrored
-    ensures mirrors { MirrorsImage result.status result.done (meaning from) (meaning result.from)
-        (meaning to) (meaning result.to) (sink_state sink) (sink_state result.sink) }
-    ensures fails { MirrorFails result.status (meaning from) (meaning result.from) (meaning to)
+    ensures mirrors { MirrorsImage result.status result.done (meaning from)
+        (meaning result.from) (meaning to)
         (meaning result.to) (sink_state sink) (sink_state result.sink) }
+    ensures fails { MirrorFails result.status (meaning from) (meaning result.from)
+        (meaning to) (meaning result.to)
+        (sink_state sink) (sink_state result.sink) }
     ensures cut_short { (t : Tree) (p : Parameters) → Represents (meaning from).bytes t p
         → IsImageWith (meaning to).bytes p → MirrorsAllOrNone t p (meaning to) (meaning result.to) }
     ensures either { (t u : Tree) (p : Parameters) → Represents (meaning from).bytes t p

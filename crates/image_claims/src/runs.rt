@@ -1,4 +1,4 @@
-//! A check behind any runs.
+//! A check after any runs.
 
 ghost use Rattle.std.specs.Prelude.{◌≡◌, ◌≢◌, Some, IfOk, IfErr};
 ghost use Rattle.store_model.specs.Parameters.{Parameters};
@@ -13,11 +13,11 @@ use script_lines::{MemSink, MemSource};
 use std::alloc::Global;
 use store_top::{Status, Words};
 
-/// An image is made, any number of scripts are run on it, one behind another, and it is checked. The check says
-/// `clean`, with the numbers of the tree after all their lines, and prints that into this sink.
+/// Makes an image, runs any number of scripts on it, one after another, and checks it. The check says `clean`, with
+/// the numbers of the tree after all their lines, and prints that into this sink.
 ///
 /// `Err` has the first call before the check that did not end with 0: the format refused the disk, a call of the
-/// disk, the sink or a script failed, a script was too long, or memory ran out. No call is made behind it.
+/// disk, the sink or a script failed, a script was too long, or memory ran out. No call is made after it.
 pub fn check_behind_runs(
     alloc: Global,
     format: &Words,

@@ -9,12 +9,13 @@ use script_claims::{Ended, Machine};
 use std::alloc::Global;
 use store_top::{Status, Words};
 
-/// A call with any words. Where they are not well formed it says so, or that memory ran out, and nothing at all is
+/// Carries out any words. Where they are not well formed it says so, or that memory ran out, and nothing at all is
 /// called; and it says so of no other words.
 pub fn call_unserved(alloc: Global, words: &Words, machine: Machine) -> Ended
     ensures nothing { request_of words.now ≡ None
-        → DoesNothing result.status result.done machine.disk result.disk machine.source
-        result.source machine.sink result.sink }
+        → DoesNothing result.status result.done machine.disk result.disk
+        machine.source result.source
+        machine.sink result.sink }
     ensures only { result.status ≡ Status.Usage → request_of words.now ≡ None }
 {
     call(alloc, words, machine)

@@ -1,4 +1,4 @@
--- How a call ends for which a call below it failed.
+-- The status of a call, by the fault of a call below it.
 use Rattle.std.specs.Prelude.{Result, Ok, Err}
 use Rattle.store_base.specs.declared.fault.DiskFault.{DiskFault}
 use Rattle.store_base.specs.declared.store_fault.Fault.{Fault}

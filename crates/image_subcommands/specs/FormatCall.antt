@@ -27,7 +27,7 @@ pub record IsBlank (disk : DiskState) (p : Parameters) : Type 0 where
   pub size_is : disk.size ≡ image_len p.slots
   pub other_byte : slice_index disk.bytes 0 ≢ first_byte
 
--- Formatting a blank disk writes each of its blocks once and then the first byte, and syncs behind either; with a
+-- Formatting a blank disk writes each of its blocks once and then the first byte, and syncs after either; with a
 -- fault no more.
 pub record CountsFormat (status : Status) (p : Parameters) (old new : DiskState) : Type 0 where
   pub done : status ≡ statuses.Done → Made (image_len p.slots / block_len + 1) 2 old new

@@ -51,7 +51,7 @@ module _ {D R W : Type 0} (disk_of : D → DiskState) (sink_of : W → SinkState
         → ScrubsDisk after.status (disk_of before.disk) (disk_of after.disk) (sink_of before.sink) (sink_of after.sink)
     -- what stands then
     pub source : after.source ≡ before.source
-    -- it takes no memory itself: where it was wanting while the words were read, nothing was called
+    -- it takes no memory itself: where memory ran out while the words were read, nothing was called
     pub no_memory : after.status ≡ statuses.NoMemory → after.disk ≡ before.disk
     pub report : IsJudged after.status
         → Reports (IsScrubVerdict (disk_of before.disk)) after.status (sink_of before.sink) (sink_of after.sink)

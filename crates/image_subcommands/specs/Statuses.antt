@@ -1,5 +1,5 @@
--- The statuses of a call, in one table. What other records ask of a status follows from it, so a new status is one
--- line here.
+-- The statuses of a call, in one table. What other records ask of a status follows from it; those of a dump and of a
+-- load stand beside their records.
 use Rattle.std.specs.Prelude.{◌≡◌, ◌⊎◌, ℕ, ◌==◌, List, [], ◌∷◌, Bool, true, false, IsTrue, not, ◌&&◌, if◌then◌else◌}
 use Rattle.std.specs.List.{list_any}
 use Rattle.store_base.specs.Counts.{raised}
@@ -222,7 +222,7 @@ done_of_verdict status = one_if (row status).is_judged
 abbrev pub done_of_mirror : Status → ℕ
 done_of_mirror status = one_if (row status).is_mirrored
 
--- a count of failed calls, behind a call in which that failed: the disk's, the source's and the sink's
+-- a count of failed calls, after a call in which that failed: the disk's, the source's and the sink's
 abbrev disk_faults_where : Failed → ℕ → ℕ
 disk_faults_where Nothing count = count
 disk_faults_where TheDisk count = raised count
@@ -241,7 +241,7 @@ sink_faults_where TheDisk count = count
 sink_faults_where TheSource count = count
 sink_faults_where TheSink count = raised count
 
--- the counts behind a call that ended so: that of what failed is one more, and the others are as they were
+-- the counts after a call that ended so: that of what failed is one more, and the others are as they were
 abbrev pub disk_faults_by : Status → ℕ → ℕ
 disk_faults_by status count = disk_faults_where (row status).failed count
 

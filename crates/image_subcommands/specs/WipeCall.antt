@@ -18,7 +18,7 @@ pub record IsWiped (old new : DiskState) : Type 0 where
   pub zero : new.bytes ≡ zeros (length old.bytes)
   pub durable : IsDurable new
 
--- Wiping writes the first byte and then each block once, and syncs behind either; with a fault no more.
+-- Wiping writes the first byte and then each block once, and syncs after either; with a fault no more.
 pub record CountsWipe (status : Status) (old new : DiskState) : Type 0 where
   pub done : status ≡ statuses.Done → Made (1 + block_count old.size) 2 old new
   pub limit : MadeAtMost (1 + block_count old.size) 2 old new

@@ -15,8 +15,9 @@ use script_lines::{Sink, Source};
 pub fn check_disk<D: Disk, R: Source, W: Sink>(disk: D, source: R, sink: W) -> Outcome<D, R, W>
     ensures check { IsCheck D.state W.state (outside_of disk source sink) result }
     ensures memory { result.status ≢ Status.NoMemory }
-    ensures outside { KeepsOutside result.status (D.state disk) (D.state result.disk)
-        (R.state source) (R.state result.source) (W.state sink) (W.state result.sink) }
+    ensures outside { KeepsOutside result.status (D.state disk)
+        (D.state result.disk) (R.state source)
+        (R.state result.source) (W.state sink) (W.state result.sink) }
 {
     let mut sink = sink;
     let (disk, checked) = check(disk);

@@ -13,7 +13,7 @@ use gate_journal::{Journal, JournalFault};
 use script_lines::{Sink, Source};
 use store_base::Params;
 
-/// How a call ends whose format ended so.
+/// The status of a call whose format ended so.
 fn format_status(formatted: Result<(), JournalFault>) -> Status
     ensures { result ≡ endings.status_of journal_status formatted }
 {
@@ -31,8 +31,9 @@ pub fn format_disk<D: Disk, R: Source, W: Sink>(
     sink: W,
 ) -> Outcome<D, R, W>
     ensures format { IsFormat D.state params.now (outside_of disk source sink) result }
-    ensures outside { KeepsOutside result.status (D.state disk) (D.state result.disk)
-        (R.state source) (R.state result.source) (W.state sink) (W.state result.sink) }
+    ensures outside { KeepsOutside result.status (D.state disk)
+        (D.state result.disk) (R.state source)
+        (R.state result.source) (W.state sink) (W.state result.sink) }
 {
     let mut disk = disk;
     let status = format_status(Journal::format(&mut disk, params));

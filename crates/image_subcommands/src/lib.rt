@@ -2,8 +2,8 @@
 //! sink; the mirror of an image, which is a call on two disks and a sink; and how a call of any subcommand ends: its
 //! status and its outcome.
 //!
-//! Each subcommand has a file with its call, and a file of specs/ with what it promises. Which words ask for it is
-//! said in `command_line`.
+//! Start at `check_disk` and `Outcome`. Each subcommand has a file with its call, and a file of specs/ with what it
+//! promises. `command_line` says which words ask for it.
 #![tactic(auto)]
 
 mod check;
@@ -21,5 +21,5 @@ pub use format::format_disk;
 pub use mirror::{PairOutcome, top_pair};
 pub use outcome::Outcome;
 pub use scrub::scrub_disk;
-pub use status::Status;
+pub use status::{Status, ended_status};
 pub use wipe::wipe_disk;

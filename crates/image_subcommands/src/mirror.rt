@@ -53,8 +53,8 @@ fn print_mirror<W: Sink>(sink: &mut W, mirrored: Result<u32, MirrorFault>) -> St
 }
 
 /// Makes the image of the second disk what recovery leaves of that of the first, and prints the line `mirror D`, where
-/// D is the number of slots that differed. The first disk is only read. What stands after each end is said at
-/// `mirror_copy`.
+/// D is the number of slots that differed. The first disk is only read. `mirror_copy` says what stands after each
+/// end.
 pub fn top_pair<A: Disk, B: Disk, W: Sink>(
     alloc: Global,
     from: A,

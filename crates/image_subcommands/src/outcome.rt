@@ -9,9 +9,9 @@ use crate::status::Status;
 pub struct Outcome<D, R, W> {
     /// How it ended.
     pub status: Status,
-    /// For `run` the number of lines that are not empty and were carried out, refusals included; for `big` the number
-    /// of its commands that were, in the same way; for `check` and `scrub` 1 where they came to a verdict, for the
-    /// other subcommands 1 where they were carried out, and else 0.
+    /// For `run` and `session` the number of lines that are not empty and were carried out, refusals included. For
+    /// `big` the number of its commands that were, in the same way. For `check` and `scrub` 1 where they came to a
+    /// verdict, for the other subcommands 1 where they were carried out, and else 0.
     pub done: u64,
     /// The disk.
     pub disk: D,

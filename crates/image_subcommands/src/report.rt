@@ -62,7 +62,7 @@ fn report_line(verdict: Verdict) -> Text
     }
 }
 
-/// How a call ends whose report is printed.
+/// The status of a call whose report is printed.
 fn verdict_status(verdict: Verdict) -> Status
     ensures { result ≡ verdict_status verdict }
 {

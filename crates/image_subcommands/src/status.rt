@@ -2,7 +2,8 @@
 
 ghost use Rattle.std.specs.Prelude.{◌≡◌};
 ghost use Rattle.image_subcommands.specs.Statuses.{row, done_of_work, done_of_verdict, done_of_mirror};
-ghost use Rattle.image_subcommands.specs.Endings.{fault_status, journal_status, line_status, attach_status, apply_status, mirror_status};
+ghost use Rattle.image_subcommands.specs.Endings.{fault_status, journal_status, line_status, attach_status};
+ghost use Rattle.image_subcommands.specs.Endings.{apply_status, mirror_status, ended_status};
 ghost use Rattle.image_subcommands.specs.declared.status.Status.TheVariants as statuses;
 
 use gate_journal::JournalFault;
@@ -15,21 +16,24 @@ use store_base::{DiskFault, Fault};
 #[derive(Clone, Copy, Debug, PartialEq, Eq)]
 pub enum Status {
     /// All was done: the image is formatted, or is found clean, or is scrubbed, or is one of version 2, or the second
-    /// image is the first, or the disk is wiped, or no line of the script is left and every reply is written, or all
-    /// commands of a number are carried out and summed up.
+    /// image is the first, or the disk is wiped. Or no line of the script is left and every reply is written, or all
+    /// commands of a number are carried out and summed up, or the whole dump is printed, or the tree of the listing
+    /// is loaded.
     Done,
     /// The words are not served. Nothing was read, written or printed.
     Usage,
-    /// A take from the source failed. The image is the layout of the tree after the answered lines.
+    /// A take from the source failed. The image is the layout of the tree after the answered lines; with a load, of
+    /// the tree that it had.
     SourceFault,
     /// A put into the sink failed. With `run` and `session` the image is the layout of the tree after the answered
     /// lines, with `big` that of the tree after all commands; with `scrub` it is scrubbed, where scrubbing leaves the
-    /// layout of a tree; with a mirror the second image is the first.
+    /// layout of a tree; with `dump` and `load` it is that of the tree that it had; with a mirror the second image is
+    /// the first.
     SinkFault,
     /// A read, a write or a sync of a disk failed.
     DiskFault,
-    /// As many bytes were taken as a script may have, and one more came. The image is the layout of the tree
-    /// after the answered lines.
+    /// As many bytes were taken as a script may have, and one more came. The image is the layout of the tree after
+    /// the answered lines; with a load, of the tree that it had.
     TooLong,
     /// The disk's header, as recovery would leave it, is that of no image of its length; with a mirror, that of either
     /// disk. Nothing was written.
@@ -106,6 +110,16 @@ impl Status {
             Status::Done | Status::SinkFault => 1,
             _ => 0,
         }
+    }
+}
+
+/// The status of a call whose work ended so.
+pub fn ended_status(ended: Result<(), Status>) -> Status
+    ensures { result ≡ ended_status ended }
+{
+    match ended {
+        Ok(()) => Status::Done,
+        Err(status) => status,
     }
 }
 

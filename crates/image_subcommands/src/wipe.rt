@@ -13,7 +13,7 @@ use gate_journal::Journal;
 use script_lines::{Sink, Source};
 use store_base::DiskFault;
 
-/// How a call ends whose wipe ended so.
+/// The status of a call whose wipe ended so.
 fn wipe_status(wiped: Result<(), DiskFault>) -> Status
     ensures { result ≡ endings.status_of disk_status wiped }
 {
@@ -26,8 +26,9 @@ fn wipe_status(wiped: Result<(), DiskFault>) -> Status
 /// Wipes a disk of any length.
 pub fn wipe_disk<D: Disk, R: Source, W: Sink>(disk: D, source: R, sink: W) -> Outcome<D, R, W>
     ensures wipe { IsWipe D.state (outside_of disk source sink) result }
-    ensures outside { KeepsOutside result.status (D.state disk) (D.state result.disk)
-        (R.state source) (R.state result.source) (W.state sink) (W.state result.sink) }
+    ensures outside { KeepsOutside result.status (D.state disk)
+        (D.state result.disk) (R.state source)
+        (R.state result.source) (W.state sink) (W.state result.sink) }
 {
     let mut disk = disk;
     let status = wipe_status(Journal::wipe(&mut disk));

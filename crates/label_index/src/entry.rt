@@ -16,7 +16,7 @@ impl Entry {
     /// An entry that stands for no page, to fill an array with.
     pub const BLANK: Entry = Entry { digest: 0, slot: 0 };
 
-    /// That of a page in slot `at` whose label has this digest.
+    /// The entry of a page in slot `at` whose label has this digest.
     pub fn new(digest: u64, at: u32) -> Entry
         ensures { result ≡ entry_of digest at }
     {

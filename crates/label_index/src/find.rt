@@ -17,8 +17,8 @@ fn first_of(entries: &[Entry], digest: u64) -> usize
     entries.partition_point(|entry| entry.digest < digest)
 }
 
-/// The page of the label, which has this digest, read from the slots by an index of them; `None` exactly where no slot
-/// holds such a page. The digest has to be the one that the index was made with.
+/// Finds the page of the label, which has this digest, by an index of the slots; `None` exactly where no slot holds
+/// such a page. The digest has to be the one that the index was made with.
 ///
 /// It reads the slots of the entries that have this digest, one after another, until one holds the page. The slots
 /// that entries name have to be there. A fault of the slots ends the call; it writes nothing, and takes no memory.

@@ -53,8 +53,8 @@ fn add_slot(slot: &Slot, pairs: &mut Vec<(Key, Value)>) -> Result<bool, NoMemory
     }
 }
 
-/// The pairs that slots hold on level 0, slot after slot: at most ten a slot. `None` comes for no table. A fault of the
-/// slots is handed on.
+/// Reads the pairs that slots hold on level 0, slot after slot: at most ten a slot. `None` comes for no table. A
+/// fault of the slots is handed on.
 pub fn read_pairs<S: ReadSlots>(
     alloc: Global,
     slots: &mut S,
@@ -67,7 +67,8 @@ pub fn read_pairs<S: ReadSlots>(
     ensures few { IfOk result
         (λ found. IfSome found (λ pairs. length pairs.items ≤ most_table_pairs)) }
     ensures pairs { IsObservable (S.state slots.old) → (table : Table)
-        → (S.state slots.old).slots ≡ slots_of table → AllByRecursion MayHold table
+        → (S.state slots.old).slots ≡ slots_of table
+        → AllByRecursion MayHold table
         → IfOk result (λ found. MatchOption found ⊥ (λ pairs. pairs.items ≡ pairs_of_table table)) }
 {
     let mut pairs = Vec::new(alloc);

@@ -84,8 +84,9 @@ fn first_node(pairs: &[(Key, Value)], version: Version) -> Option<Entry>
 pub fn first_entry(pairs: &[(Key, Value)], version: Version) -> Option<Entry>
     ensures found { IfSome result
         (λ entry. EntryStandsFirst version pairs.now entry.path entry.kind entry.count) }
-    ensures only { (path : paths.Path) (entry : trees.Entry) (rest : List model.Pair)
-        (p : Parameters) → p.version ≡ version → MayStandFirst version path entry rest
+    ensures only { (path : paths.Path) (entry : trees.Entry)
+        (rest : List model.Pair) (p : Parameters)
+        → p.version ≡ version → MayStandFirst version path entry rest
         → pairs.now ≡ model.entry_pairs path entry p ++ rest
         → MatchOption result ⊥ (λ found. (found.path ≡ path) × (found.kind ≡ kind_of entry.node)
         × (found.count ≡ length (model.entry_pairs path entry p))) }

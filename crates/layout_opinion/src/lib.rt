@@ -1,4 +1,5 @@
-//! The other opinion on slots: whether they are the layout of a tree, found by making that layout.
+//! The other opinion on slots: whether they are the layout of a tree, found by making that layout. Start at
+//! `judge_slots`.
 //!
 //! The pairs of the pages of level 0 are sorted, and it is tested whether they are a tree's. Then they are laid out
 //! anew (`layout_scratch`), and each slot is compared with the layout. `image_check` tells the same from conditions

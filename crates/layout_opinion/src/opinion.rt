@@ -1,4 +1,4 @@
-//! What is said of slots.
+//! What the tree has whose layout slots are.
 
 use tree_reader::Counts;
 

@@ -1,4 +1,4 @@
-//! What is said of slots.
+//! Whether slots are the layout of a tree, and what that tree has.
 
 ghost use Rattle.std.specs.Prelude.{◌≡◌, ◌≤◌, IfOk, IfSome, MatchOption, false, length};
 ghost use Rattle.std.specs.List.Sorted.{IsPermutation};
@@ -47,8 +47,8 @@ fn in_key_order(
     Ok(Some((list_of(alloc, pairs)?, counts)))
 }
 
-/// How much the tree has whose layout slots are; `None` exactly where they are the layout of no tree. There have to
-/// be as many slots as the parameters say. A fault of the slots is handed on, and the slots are as they were;
+/// Counts what the tree has whose layout these slots are; `None` exactly where they are the layout of no tree. There
+/// have to be as many slots as the parameters say. A fault of the slots is handed on, and the slots are as they were;
 /// `NoMemory` comes for want of memory too.
 pub fn judge_slots<S: ReadSlots>(
     alloc: Global,

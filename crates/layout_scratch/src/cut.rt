@@ -56,8 +56,8 @@ fn cut_levels(alloc: Global, height: u8, ranked: &[Ranked]) -> Result<PageList, 
     Ok(pages)
 }
 
-/// The pages of pairs whose keys rise, level after level and group after group. `Full` comes exactly where they are
-/// more than the draw's slots.
+/// Cuts pairs whose keys rise into pages, level after level and group after group. `Full` comes exactly where they
+/// are more than the draw's slots.
 pub fn cut_pages<W: Draw>(
     alloc: Global,
     draw: &W,

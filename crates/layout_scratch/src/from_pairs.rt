@@ -27,8 +27,8 @@ fn lay_out<W: Draw>(alloc: Global, draw: &W, pairs: Vec<Ranked>) -> Result<Layou
     requires levels { AreRanked (W.drawn draw.now) pairs.items }
     requires few { length pairs.items ≤ sorted_limit }
     requires height { (W.drawn draw.now).height ≤ height_limit }
-    ensures value { IfOk result
-        (λ layout. layout ≡ place (W.drawn draw.now)
+    ensures value { IfOk result (λ layout. layout
+        ≡ place (W.drawn draw.now)
         (pages_of_pairs (W.drawn draw.now) (pairs_of pairs.entry.items))) }
     ensures fits { IfOk result
         (λ _. length (pages_of_pairs (W.drawn draw.now) (pairs_of pairs.entry.items))
@@ -46,9 +46,8 @@ fn build_by<W: Draw>(alloc: Global, draw: &W, pairs: &PairList) -> Result<Layout
     requires distinct { HasDistinctKeys pairs.now }
     requires few { length pairs.now ≤ sorted_limit }
     requires height { (W.drawn draw.now).height ≤ height_limit }
-    ensures value { IfOk result
-        (λ layout. layout ≡ place (W.drawn draw.now)
-        (pages_of_pairs (W.drawn draw.now) (by_key pairs.now))) }
+    ensures value { IfOk result (λ layout. layout
+        ≡ place (W.drawn draw.now) (pages_of_pairs (W.drawn draw.now) (by_key pairs.now))) }
     ensures fits { IfOk result (λ _. length (pages_of_pairs (W.drawn draw.now) (by_key pairs.now))
         ≤ (W.drawn draw.now).slots) }
     ensures full { IfErr result (IsRefusal (W.drawn draw.now) pairs.now) }
@@ -66,9 +65,8 @@ fn build_sorted_by<W: Draw>(
     requires rising { IsPairs pairs.now }
     requires few { length pairs.now ≤ sorted_limit }
     requires height { (W.drawn draw.now).height ≤ height_limit }
-    ensures value { IfOk result
-        (λ layout. layout ≡ place (W.drawn draw.now)
-        (pages_of_pairs (W.drawn draw.now) pairs.now)) }
+    ensures value { IfOk result (λ layout. layout
+        ≡ place (W.drawn draw.now) (pages_of_pairs (W.drawn draw.now) pairs.now)) }
     ensures fits { IfOk result (λ _. length (pages_of_pairs (W.drawn draw.now) pairs.now)
         ≤ (W.drawn draw.now).slots) }
     ensures full { IfErr result
@@ -85,26 +83,25 @@ fn reveal_params(params: &Params)
     let _ = params.height();
 }
 
-/// The layout of a list of pairs with distinct keys, at most 268,435,456 of them, in whatever order they come: the
-/// pairs are sorted by key, cut into groups and pages, and the pages placed by rank (Blelloch and Golovin 2007).
+/// Lays out a list of pairs with distinct keys, at most 268,435,456 of them, in whatever order they come: sorts the
+/// pairs by key, cuts them into groups and pages, and places the pages by rank (Blelloch and Golovin 2007).
 ///
 /// `Full` comes exactly where the pages are more than the slots, and says how many they are.
 #[tactic(auto, unfolding(store_model::specs::Draws::draw_of))]
 pub fn build(alloc: Global, params: &Params, pairs: &PairList) -> Result<Layout, ScratchFault>
     requires distinct { HasDistinctKeys pairs.now }
     requires few { length pairs.now ≤ sorted_limit }
-    ensures value { IfOk result
-        (λ layout. layout ≡ place (draw_of params.now)
-        (pages_of_pairs (draw_of params.now) (by_key pairs.now))) }
-    ensures fits { IfOk result
-        (λ _. length (pages_of_pairs (draw_of params.now) (by_key pairs.now)) ≤ params.now.slots) }
+    ensures value { IfOk result (λ layout. layout
+        ≡ place (draw_of params.now) (pages_of_pairs (draw_of params.now) (by_key pairs.now))) }
+    ensures fits { IfOk result (λ _. length (pages_of_pairs (draw_of params.now) (by_key pairs.now))
+        ≤ params.now.slots) }
     ensures full { IfErr result (IsRefusal (draw_of params.now) pairs.now) }
 {
     reveal_params(params);
     build_by(alloc, &AnyDraw::new(params), pairs)
 }
 
-/// The layout of a list of pairs whose keys rise, at most 268,435,456 of them, as `build`: nothing is sorted.
+/// Lays out a list of pairs whose keys rise, at most 268,435,456 of them, as `build` does: nothing is sorted.
 ///
 /// `Full` comes exactly where the pages are more than the slots, and says how many they are.
 #[tactic(auto, unfolding(store_model::specs::Draws::draw_of))]
@@ -115,9 +112,8 @@ pub fn build_sorted(
 ) -> Result<Layout, ScratchFault>
     requires rising { IsPairs pairs.now }
     requires few { length pairs.now ≤ sorted_limit }
-    ensures value { IfOk result
-        (λ layout. layout ≡ place (draw_of params.now)
-        (pages_of_pairs (draw_of params.now) pairs.now)) }
+    ensures value { IfOk result (λ layout. layout
+        ≡ place (draw_of params.now) (pages_of_pairs (draw_of params.now) pairs.now)) }
     ensures fits { IfOk result
         (λ _. length (pages_of_pairs (draw_of params.now) pairs.now) ≤ params.now.slots) }
     ensures full { IfErr result

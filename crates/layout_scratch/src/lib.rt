@@ -1,8 +1,8 @@
 //! The layout of a list of pairs, computed from nothing: the pairs are sorted by their keys, cut into groups and
 //! pages, and the pages placed by rank.
 //!
-//! This is the plain program of the layout: what a store in place must come to, and what loads many pairs at once.
-//! Slots can be compared with it (`are_layout`).
+//! Start at `build`. This is the plain program of the layout: what a store in place must come to, and what loads many
+//! pairs at once. Slots can be compared with it (`are_layout`).
 #![tactic(auto)]
 
 mod compare;

@@ -14,7 +14,7 @@ pub record LeavesAllOrNothing (t : Tree) (p : Parameters) (disk : Memory) (left 
   -- where the run ended with 0
   pub either : MightHaveLeft (memory_state disk).clock crash.first.disk left → crash.next.status ≡ statuses.Done
       → HasImage crash.next.disk empty_tree p ⊎ HasImage crash.next.disk t p
-  -- of an image that a crash behind a load that was done may leave
+  -- of an image that a crash after a load that was done may leave
   pub acknowledged : crash.first.status ≡ statuses.Done → MayLeave crash.first.disk left
       → crash.next.status ≡ statuses.Done → HasImage crash.next.disk t p
   -- and it ends so where no call of it failed and memory was there

@@ -1,6 +1,6 @@
-//! The mission's sentences about listings: what a user is told of `dump` and `load`, as proved functions over disks,
-//! sources and sinks in memory that call the program. Their contracts speak of bytes, lines, statuses and trees, and of
-//! the image of a tree.
+//! The sentences about listings (docs/PROMISES.md): what is promised of `dump` and `load`. Each is a proved function
+//! over disks, sources and sinks in memory that calls the program. Its contract says the sentence in bytes, lines,
+//! statuses and trees, and of the image of a tree. Start at `a_listing_is_loaded`.
 //!
 //! All of them come to the program by `script_claims::serve`, on one kind of machine.
 #![tactic(auto)]

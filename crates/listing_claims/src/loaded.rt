@@ -18,7 +18,7 @@ use store_top::Words;
 /// Loads a listing into an image. With status 0 the image was empty, the lines are those of the dump of a tree, and the
 /// image is that of this tree, by one commit. 14 comes exactly where the image was not empty, and then nothing was
 /// taken from the source; 15 exactly where the lines are the dump of no tree; 16 exactly where the tree has more pages
-/// than the image has slots, and then both numbers are printed. Behind each of these the image is that of the tree that
+/// than the image has slots, and then both numbers are printed. After each of these the image is that of the tree that
 /// it had. However the load ends, and whenever a crash comes, all of the tree is loaded or nothing of it.
 ///
 /// `NoMemory`: nothing was called.
@@ -30,8 +30,9 @@ pub fn a_listing_is_loaded(
 ) -> Result<Ended, NoMemory>
     ensures loads { (u : Tree) (p : Parameters) → Represents (bytes_of disk) u p
         → IfOk result (LoadsListing u p disk source sink) }
-    ensures whole { (t : Tree) (p : Parameters) → Represents (bytes_of disk) empty_tree p
-        → Says p source.left t → IfOk result (LoadsAllOrNothing t p disk) }
+    ensures whole { (t : Tree) (p : Parameters)
+        → Represents (bytes_of disk) empty_tree p → Says p source.left t
+        → IfOk result (LoadsAllOrNothing t p disk) }
 {
     let words = load_word(alloc)?;
     Ok(serve(alloc, &words, disk, source, sink))

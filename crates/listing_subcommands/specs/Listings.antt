@@ -68,7 +68,7 @@ abbrev pub BreaksOffBy : Tree → Parameters → Result Command Refusal → Type
 BreaksOffBy t p read = (c : Command) → read ≡ Ok c → BreaksOff t c p
 
 -- The text of a line comes behind the dump of a tree, if all lines before were a listing: it is taken where some
--- tree's dump begins so. Behind a bad line nothing is.
+-- tree's dump begins so. After a bad line nothing is.
 pub record TakesText (is_listing : Bool) (old new : Listing) (text : List ℕ)
     (result : Result Bool Status) : Type 0 where
   pub fault : IfErr result (λ status. status ≡ statuses.NoMemory)

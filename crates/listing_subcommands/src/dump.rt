@@ -15,23 +15,20 @@ ghost use Rattle.script_lines.specs.SinkState as sinks;
 ghost use Rattle.script_lines.specs.Parsing.{command_of};
 ghost use Rattle.script_lines.specs.Replies.{reply_of};
 ghost use Rattle.image_check.specs.Standing.{IsFitting};
-ghost use Rattle.image_subcommands.specs.Endings.{ended_status};
 ghost use Rattle.image_subcommands.specs.Outside.{KeepsOutside, outside_of};
 ghost use Rattle.listing_subcommands.specs.DumpCall.{IsDump};
 ghost use Rattle.listing_subcommands.specs.Dumping.{Spot, IsSpot, IsStanding, first_pair, spots_text, AreLeft};
 ghost use Rattle.listing_subcommands.specs.Dumping.{WritesNext, KeepsStore, KeepsSink};
 
 use disk_model::Disk;
-use image_subcommands::{Outcome, Status};
+use image_subcommands::{Outcome, Status, ended_status};
 use path_keys::{AttrName, Path, last_at, of_attr_key};
 use script_lines::{Command, Reply, Sink, Source, write_command, write_piece};
 use std::alloc::Global;
 use store_base::{Bytes, Key, Value};
 use store_core::Store;
+use tree_listing::DUMP_PIECE as PIECE;
 use tree_pairs::{Kind, attribute_in, inline_in, kind_told};
-
-/// The most bytes of a file that one line writes.
-const PIECE: u32 = 2048;
 
 /// Puts out the dump of an image's tree: the commands that make it, in the order of paths, a line each. It takes no
 /// memory but the store's.
@@ -42,31 +39,22 @@ pub fn dump_image<D: Disk, R: Source, W: Sink>(
     sink: W,
 ) -> Outcome<D, R, W>
     ensures dump { IsDump D.state W.state (outside_of disk source sink) result }
-    ensures outside { KeepsOutside result.status (D.state disk) (D.state result.disk)
-        (R.state source) (R.state result.source) (W.state sink) (W.state result.sink) }
+    ensures outside { KeepsOutside result.status (D.state disk)
+        (D.state result.disk) (R.state source)
+        (R.state result.source) (W.state sink) (W.state result.sink) }
 {
     let mut store = match Store::attach(alloc, disk) {
         Ok(store) => store,
         Err((fault, disk)) => return Outcome::idle(fault.into(), disk, source, sink),
     };
     let mut sink = sink;
-    let status = dump_status(write_dump(&mut store, &mut sink));
+    let status = ended_status(write_dump(&mut store, &mut sink));
     Outcome {
         status,
         done: status.done_of_work(),
         disk: store.into_disk(),
         source,
         sink,
-    }
-}
-
-/// How a call ends whose dump ended so.
-fn dump_status(ended: Result<(), Status>) -> Status
-    ensures { result ≡ ended_status ended }
-{
-    match ended {
-        Ok(()) => Status::Done,
-        Err(status) => status,
     }
 }
 
@@ -91,8 +79,8 @@ fn write_dump<D: Disk, W: Sink>(store: &mut Store<D>, sink: &mut W) -> Result<()
     Ok(())
 }
 
-/// Writes what stands at the first place behind a key, and gives the last key of that place; nothing where no place is
-/// behind it. So the blocks of a file are passed.
+/// Writes what stands at the first place behind a key, and gives the last key of that place; `None` where no place is
+/// behind the key. So the next call passes the blocks of a file.
 fn write_next<D: Disk, W: Sink>(
     store: &mut Store<D>,
     sink: &mut W,
@@ -102,9 +90,9 @@ fn write_next<D: Disk, W: Sink>(
     requires runs { store.old.is_stopped ≡ false }
     ensures kept { KeepsStore D.state store.old store.new (W.state sink.old)
         (W.state sink.new) result }
-    ensures next { (t : Tree) (p : Parameters) → IsTree t → store.old.tree ≡ t
-        → store.old.params ≡ p → disks.IsObservable (D.state store.old.disk)
-        → sinks.IsObservable (W.state sink.old)
+    ensures next { (t : Tree) (p : Parameters) → IsTree t
+        → store.old.tree ≡ t → store.old.params ≡ p
+        → disks.IsObservable (D.state store.old.disk) → sinks.IsObservable (W.state sink.old)
         → (left : List Spot) → AreLeft t p key.now left
         → WritesNext t p left (W.state sink.old) (W.state sink.new) result }
 {
@@ -128,7 +116,8 @@ fn write_place<D: Disk, W: Sink>(
     ensures kept { KeepsStore D.state store.old store.new (W.state sink.old)
         (W.state sink.new) result }
     ensures puts { disks.IsObservable (D.state store.old.disk)
-        → sinks.IsObservable (W.state sink.old) → (spot : Spot) → IsSpot store.old.tree spot
+        → sinks.IsObservable (W.state sink.old) → (spot : Spot)
+        → IsSpot store.old.tree spot
         → pair ≡ first_pair store.old.params spot
         → PutsBytes (W.state sink.old) (W.state sink.new) (spots_text (spot ∷ [])) result }
 {
@@ -151,7 +140,8 @@ fn write_attribute<W: Sink>(
 ) -> Result<(), Status>
     ensures kept { KeepsSink (W.state sink.old) (W.state sink.new) result }
     ensures puts { sinks.IsObservable (W.state sink.old) → (bytes : List ℕ)
-        → length bytes ≤ attribute_limit → value.now ≡ attribute_value bytes
+        → length bytes ≤ attribute_limit
+        → value.now ≡ attribute_value bytes
         → PutsBytes (W.state sink.old) (W.state sink.new)
         (commands_text (SetAttribute path name bytes ∷ [])) result }
 {
@@ -201,8 +191,8 @@ fn write_file<D: Disk, W: Sink>(
     ensures kept { KeepsStore D.state store.old store.new (W.state sink.old)
         (W.state sink.new) result }
     ensures puts { disks.IsObservable (D.state store.old.disk)
-        → sinks.IsObservable (W.state sink.old) → (bytes : List ℕ)
-        → IsStanding store.old.tree path (file_node bytes)
+        → sinks.IsObservable (W.state sink.old)
+        → (bytes : List ℕ) → IsStanding store.old.tree path (file_node bytes)
         → length bytes ≡ len → PutsBytes (W.state sink.old) (W.state sink.new)
         (commands_text (file_commands path bytes)) result }
 {
@@ -224,8 +214,8 @@ fn write_pieces<D: Disk, W: Sink>(
     ensures kept { KeepsStore D.state store.old store.new (W.state sink.old)
         (W.state sink.new) result }
     ensures puts { disks.IsObservable (D.state store.old.disk)
-        → sinks.IsObservable (W.state sink.old) → (bytes : List ℕ)
-        → IsStanding store.old.tree path (file_node bytes)
+        → sinks.IsObservable (W.state sink.old)
+        → (bytes : List ℕ) → IsStanding store.old.tree path (file_node bytes)
         → length bytes ≡ len → 0 < len
         → PutsBytes (W.state sink.old) (W.state sink.new)
         (commands_text (file_commands path bytes)) result }
@@ -248,8 +238,9 @@ fn write_read<D: Disk, W: Sink>(
     ensures kept { KeepsStore D.state store.old store.new (W.state sink.old)
         (W.state sink.new) result }
     ensures puts { disks.IsObservable (D.state store.old.disk)
-        → sinks.IsObservable (W.state sink.old) → (bytes : List ℕ)
-        → node_at store.old.tree path ≡ Some (file_node bytes) → at ≤ length bytes
+        → sinks.IsObservable (W.state sink.old)
+        → (bytes : List ℕ) → node_at store.old.tree path
+        ≡ Some (file_node bytes) → at ≤ length bytes
         → PutsBytes (W.state sink.old) (W.state sink.new)
         (commands_text (Write path at (take dump_piece (drop at bytes)) ∷ [])) result }
 {

@@ -1,4 +1,5 @@
-//! The subcommands that put the tree of an image out as lines, and make it of lines: `dump` and `load`.
+//! The subcommands `dump`, which prints the tree of an image as lines, and `load`, which makes a tree of such lines.
+//! Start at `dump_image` and `load_image`.
 //!
 //! A dump goes from place to place of the store's pairs, and keeps nothing of the tree. A load reads its listing to the
 //! end, and then lays the tree out at once, by one commit.

@@ -1,4 +1,4 @@
-//! The subcommand `load`: makes the tree of an empty image of a listing.
+//! The subcommand `load`: makes the tree of a listing in an empty image.
 
 ghost use Rattle.std.specs.Prelude.{◌≡◌};
 ghost use Rattle.store_model.specs.Trees.{Tree, empty_tree};
@@ -64,7 +64,7 @@ fn print_full<W: Sink>(sink: &mut W, need: u32, slots: u32) -> Status
     }
 }
 
-/// How a call ends whose store was filled so; what is to be printed is.
+/// Ends a call whose store was filled so: prints what is to be printed, and gives the status.
 fn print_filled<W: Sink>(sink: &mut W, filled: Result<LoadAnswer, Status>) -> Status
     ensures { PrintsFilled W.state filled sink.old sink.new result }
 {
@@ -84,8 +84,9 @@ pub fn load_image<D: Disk, R: Source, W: Sink>(
     sink: W,
 ) -> Outcome<D, R, W>
     ensures load { IsLoad D.state R.state W.state (outside_of disk source sink) result }
-    ensures outside { KeepsOutside result.status (D.state disk) (D.state result.disk)
-        (R.state source) (R.state result.source) (W.state sink) (W.state result.sink) }
+    ensures outside { KeepsOutside result.status (D.state disk)
+        (D.state result.disk) (R.state source)
+        (R.state result.source) (W.state sink) (W.state result.sink) }
 {
     let mut reader = match LineReader::new(alloc, source) {
         Ok(reader) => reader,

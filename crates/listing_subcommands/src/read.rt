@@ -13,8 +13,8 @@ use script_lines::{Command, Line, LineReader, MAX_LINE, Source, read_command};
 use store_base::NoMemory;
 use tree_listing::Listing;
 
-/// Takes the command that a text spells, unless a line before it was bad: whether all that came is a listing so far. It
-/// is put in the place of another one.
+/// Takes the command that a text spells, unless a line before it was bad, and says whether all that came is a listing
+/// so far. The command is read into `command`.
 fn take_text(
     text: &[u8],
     is_listing: bool,
@@ -58,8 +58,8 @@ fn take_line<R: Source>(
     Ok(true)
 }
 
-/// Reads all lines: whether they are a listing, whose commands are then taken. Behind the first line that goes on with
-/// no dump the others are read too, and nothing of them is kept: so a take that fails and a source that is too long are
+/// Reads all lines, takes their commands, and says whether they are a listing. After the first line that continues no
+/// dump the others are read too, and nothing of them is kept. So a take that fails and a source that is too long are
 /// told of a bad listing as of a good one. `Err` has the status of a call that a fault ended.
 pub fn read_listing<R: Source>(
     reader: &mut LineReader<R>,

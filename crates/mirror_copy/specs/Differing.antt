@@ -14,7 +14,7 @@ slots_differing slots old new = differing (recovered_slot slots old) (recovered_
 abbrev pub recovery_syncs : ℕ → List ℕ → ℕ
 recovery_syncs slots image = if has_journal slots image then redo_syncs image + 2 else 1
 
--- the writes of recovering an image and of a commit of so many slots behind that
+-- the writes of recovering an image and of a commit of so many slots after that
 abbrev pub rewrite_writes : ℕ → List ℕ → ℕ → ℕ
 rewrite_writes slots image count = opening_writes slots image + commit_writes count
 

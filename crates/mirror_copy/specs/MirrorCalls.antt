@@ -32,7 +32,7 @@ pub record CallsBoth {T : Type 0} (from from_new to to_new : DiskState) (result 
   pub to_faults : to_new.faults ≡ to_faults_after to.faults result
   pub from_reads : IsObservable from → ReadsOnly from from_new
 
--- A disk is made to read the target, by a commit of so many slots behind its recovery. Each image that a crash at any
+-- A disk is made to read the target, by a commit of so many slots after its recovery. Each image that a crash at any
 -- moment of it may leave is one that a crash before it might have left, or recovers to what the disk did or to the
 -- target. What the disk reads recovers so too, whatever the answer. Ok says that it reads the target, with nothing
 -- pending. Just so many writes and syncs are made, and with a fault no more.

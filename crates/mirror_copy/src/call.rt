@@ -24,8 +24,8 @@ use store_base::DiskFault;
 /// the first is not read from then on. Then the second is recovered, and the slots that differ are written in one
 /// commit. Each image of the second that a crash at any moment of the call may leave is one that a crash before it
 /// might have left, or recovers to what the second did or to what the first does. What it reads after `ToDisk`
-/// recovers so too: mirror it again. After Ok it reads the second of these, and durably. With d slots that differ that
-/// takes 5d + 2 writes and 5 syncs, or none of either where d is 0, besides those of recovery.
+/// recovers so too: mirror it again. After Ok it is durable, and reads what recovery leaves of the first. With d
+/// slots that differ that takes 5d + 2 writes and 5 syncs, or none of either where d is 0, besides those of recovery.
 pub fn mirror<A: Disk, B: Disk>(
     alloc: Global,
     from: A,

@@ -71,7 +71,8 @@ fn find_differences<S: ReadSlots, T: ReadSlots>(
     Ok(ChangedSlots { slots: changed })
 }
 
-/// The slots of the first image that differ from the second's, each as recovery leaves it. Both disks are only read.
+/// Finds the slots of the first image that differ from the second's, each as recovery leaves it. Both disks are only
+/// read.
 pub fn compare_slots<A: Disk, B: Disk>(
     alloc: Global,
     from: A,

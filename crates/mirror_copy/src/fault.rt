@@ -9,7 +9,7 @@ use store_base::{NoMemory, Params};
 use thiserror::Error;
 
 /// Why an image was not mirrored. Where several hold, the first of them in this order is the answer, but for faults
-/// and want of memory, which come where they come. What stands after it is said at `mirror`.
+/// and want of memory, which come where they come. `mirror` says what stands then.
 #[derive(Clone, Copy, Debug, Error)]
 pub enum MirrorFault {
     /// The header of the first disk, as recovery would leave it, is that of no image of its length.

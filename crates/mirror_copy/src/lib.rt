@@ -1,4 +1,4 @@
-//! A copy of an image onto another: the second image becomes what recovery leaves of the first.
+//! A copy of an image onto another: the second image becomes what recovery leaves of the first. Start at `mirror`.
 //!
 //! Both images have to have the same parameters and version. The first is checked whole and then read once more, slot
 //! by slot beside the second, and is never written. Only the slots that differ are kept in memory, and only they are

@@ -37,8 +37,8 @@ fn judge_second<D: Disk>(to: &mut D, from: Params) -> Result<Params, MirrorFault
     Ok(from)
 }
 
-/// The parameters that both images have, or why the second can't become the first. Both disks are only read. The first
-/// is checked whole before the second is looked at. It takes no memory.
+/// Finds the parameters that both images have, or why the second can't become the first. Both disks are only read.
+/// The first is checked whole before the second is looked at. It takes no memory.
 pub fn judge_pair<A: Disk, B: Disk>(from: A, to: &mut B) -> (A, Result<Params, MirrorFault>)
     ensures { JudgesPair (A.state from) (A.state result.0) (B.state to.old)
         (B.state to.new) result.1 }

@@ -1,4 +1,4 @@
-//! How slots of an image are rewritten behind its recovery.
+//! How slots of an image are rewritten after its recovery.
 
 ghost use Rattle.std.specs.Prelude.{◌≡◌};
 ghost use Rattle.store_model.specs.Parameters.{image_len};
@@ -24,7 +24,8 @@ pub fn rewrite<D: Disk, S: SlotChanges>(
     ensures rewrites { IsObservable (D.state disk.old) →
         RewritesImage params.now.slots (with_slots params.now.slots (S.changes changes.now)
         (recovered params.now.slots (D.state disk.old).bytes))
-        (S.changes changes.now).count (D.state disk.old) (D.state disk.new) result }
+        (S.changes changes.now).count (D.state disk.old)
+        (D.state disk.new) result }
 {
     // Recovered first: a commit begins with an empty journal, and with nothing pending.
     Journal::recover(disk, params)?;

@@ -6,7 +6,7 @@ use Rattle.std.proofs.lemmas.Bool.{le-leb, eq-eqb, and_from}
 use Rattle.std.proofs.lemmas.List.{drop-set-add, take-set-le, drop-take, take-take}
 use Rattle.std.proofs.lemmas.Nat.{from_be_bytes-to_be_bytes_4}
 use Rattle.store_model.specs.Lists.{zero_filled}
-use Rattle.store_model.specs.Parameters.{Parameters, IsParameters, image_len}
+use Rattle.store_model.specs.Parameters.{Parameters, IsParameters, slots_limit, image_len}
 use Rattle.store_model.specs.Images.{header, is_flag_set, is_marked, viewed_header}
 use Rattle.model_laws.specs.Headers.{named_slots, has_named_length, header_of}
 
@@ -38,8 +38,8 @@ pub same_reading : (image : List ℕ) (p : Parameters) → IsParameters p → le
 unfolding viewed_header header_of
 same_reading image p is long named =
     let right : has_named_length image ≡ true =
-    ap (λ n. (nat_le 1 n && nat_le n 65536) && (length image == image_len n)) named
-    ∙ and_from _ _ (and_from _ _ (le-leb 1 p.slots is.some_slot) (le-leb p.slots 65536 is.slots_in_range))
+    ap (λ n. (nat_le 1 n && nat_le n slots_limit) && (length image == image_len n)) named
+    ∙ and_from _ _ (and_from _ _ (le-leb 1 p.slots is.some_slot) (le-leb p.slots slots_limit is.slots_in_range))
     (eq-eqb (length image) (image_len p.slots) long) in
     λ i. seen (right i && (is_flag_set image && is_marked image (named i))) image
 

@@ -49,7 +49,9 @@ next_cell level count done bytes last rest cell after key below so_far cell_is a
     let to = λ (h : Whole level count bytes).
     first.0 (subst (λ n. SpellsRising level last n rest) left (so_far.same.0 h)) in
     let from =
-    λ (h : SpellsCell level cell × (key_cmp last key ≡ Less) × SpellsRising level key (count - (done + 1)) (drop (cell_size level) rest)). so_far.same.1 (subst (λ n. SpellsRising level last n rest) (sym left) (first.1 h)) in (
+    λ (h : SpellsCell level cell × (key_cmp last key ≡ Less)
+    × SpellsRising level key (count - (done + 1)) (drop (cell_size level) rest)).
+    so_far.same.1 (subst (λ n. SpellsRising level last n rest) (sym left) (first.1 h)) in (
       λ h. (let all = to h in (all.0, all.1, subst (SpellsRising level key (count - (done + 1))) (sym after_is) all.2)),
       λ h. from (h.0, h.1, subst (SpellsRising level key (count - (done + 1))) after_is h.2),
     )

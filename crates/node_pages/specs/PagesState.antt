@@ -49,8 +49,9 @@ pub record DropsPage {T : Type 0} (old new : PagesState) (label : Label) (result
   pub changed : OnOk result (new.pages ≡ without_page old.pages label)
   pub unchanged : OnErr result (new.pages ≡ old.pages)
 
--- Asking for the page under a label: one more lookup where it answers, and at most one where it fails. What is at hand
--- is had without memory, and what was answered is at hand then. Pages that were not observable stay so, here and below.
+-- Asking for the page under a label: one more lookup where it answers, and at most one where it fails. What is at
+-- hand is found without memory, and what was answered is at hand then. Pages that were not observable stay so, here
+-- and below.
 pub record IsPageGet (old new : PagesState) (label : Label) (result : Result (Option Page) Fault) : Type 0 where
   pub faults : new.faults ≡ disk_faults_after old.faults result
   pub memory : old.at_hand label → result ≢ Err NoMemory

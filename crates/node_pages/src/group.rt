@@ -13,8 +13,8 @@ use crate::sequence::PageList;
 use std::alloc::Global;
 use store_base::{Lead, NoMemory};
 
-/// The pages of the group that `lead` leads on the level of the cells: these cut into runs of 10 at level 0 and of 31
-/// above, the last run holding the rest, with labels numbered from 0.
+/// Cuts the cells of the group that `lead` leads into pages: runs of 10 cells at level 0 and of 31 above, the last
+/// run holding the rest, with labels numbered from 0.
 pub fn cut_group(alloc: Global, lead: &Lead, cells: &Cells) -> Result<PageList, NoMemory>
     requires { IsStrictlySortedBy key_cmp (map (λ c. c.key) cells.now.cells) }
     ensures { IfOk result (λ pages. pages
@@ -42,16 +42,16 @@ pub fn append_group(pages: &mut PageList, lead: &Lead, cells: &Cells) -> Result<
     Ok(())
 }
 
-/// The cells of the pages that are of the level, one page after another: of the pages that `cut_group` gives,
-/// the cells of the group.
+/// Joins the cells of the pages that are of the level, one page after another. For the pages that `cut_group` gives,
+/// these are the cells of the group.
 pub fn join_group(alloc: Global, level: u8, pages: &PageList) -> Result<Cells, NoMemory>
     ensures cells { IfOk result (λ joined. joined ≡ record {
       level = level;
-      cells =
-          flat_map (λ page. page.cells) (filter (λ page. page.label.level == level) pages.now);
+      cells = flat_map (λ page. page.cells) (filter (λ page. page.label.level == level) pages.now);
     }) }
     ensures group { (lead : ModelLead) (cells : List ModelCell)
-        → pages.now ≡ group_pages level lead cells → IfOk result (λ joined. joined.cells ≡ cells) }
+        → pages.now ≡ group_pages level lead cells
+        → IfOk result (λ joined. joined.cells ≡ cells) }
 {
     let room = pages
         .as_slice()

@@ -1,9 +1,9 @@
 //! The page layer: pages and their bytes, the groups that they hold, and stores of pages.
 //!
-//! A page holds the cells of one run of a group under its label. It is kept as the slot that it has in an
-//! image, so that it is written by one copy; cells are read from it where they are asked for. A group's cells
-//! are one run of bytes (`Cells`), cut into pages (`cut_group`). `Pages` is the trait of a finite map from
-//! labels to pages, and `MapPages` the one in memory. Where a page lies in a table is nothing to this crate.
+//! Start at `Page` and `Pages`. A page holds the cells of one run of a group under its label. It is kept as the slot
+//! that it has in an image, so that it is written by one copy; cells are read from it where they are asked for. A
+//! group's cells are one run of bytes (`Cells`), cut into pages (`cut_group`). `Pages` is the trait of a finite map
+//! from labels to pages, and `MapPages` the one in memory. This crate does not know where a page lies in a table.
 #![tactic(auto)]
 
 mod cell;

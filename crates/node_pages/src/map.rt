@@ -19,7 +19,7 @@ use std::alloc::Global;
 use std::cmp::Ordering;
 use store_base::{Fault, Label};
 
-/// Pages in memory, always observable. A page is found by halving. It never answers `Fault::Disk`: its count of
+/// Pages in memory, always observable. A page is found by binary search. It never answers `Fault::Disk`: its count of
 /// faults is always 0.
 #[derive(Debug, Drop)]
 pub struct MapPages {
@@ -45,7 +45,7 @@ fn place_of(pages: &[Box<Page>], label: &Label) -> Result<usize, usize>
 }
 
 impl MapPages {
-    /// No page.
+    /// Makes an empty map.
     pub fn new(alloc: Global) -> Self
         ensures pages { (⟦<MapPages as Pages>⟧.state result).pages ≡ maps.empty }
         ensures lookups { (⟦<MapPages as Pages>⟧.state result).lookups ≡ 0 }
@@ -60,8 +60,7 @@ impl MapPages {
 impl Pages for MapPages {
     ghost state = { λ p. record {
       is_observable = Unit {0};
-      pages =
-          map_of_sorted (map (λ page. page.value) p.pages.items);
+      pages = map_of_sorted (map (λ page. page.value) p.pages.items);
       faults = 0;
       lookups =
           p.lookups;

@@ -137,13 +137,14 @@ fn put_before(label: &Label, slot: &mut Slot, at: u32, cell: &Cell)
     );
 }
 
-/// The label of the page that a slot holds, by its first 131 bytes alone: the cells are not looked at.
-/// `None` exactly where byte 0 is not 1 or no label stands behind it, as in a free slot.
+/// Reads the label of the page that a slot holds, from its first 131 bytes alone: the cells are not looked at. `None`
+/// exactly where byte 0 is not 1 or no label stands behind it, as in a free slot.
 pub fn label_in(slot: &Slot) -> Option<Label>
     ensures found { IfSome result (λ label. IsLabel label
         × (take COUNT_AT slot.now ≡ 1 ∷ label_bytes label)) }
     ensures only { (label : labels.Label) → IsLabel label
-        → take COUNT_AT slot.now ≡ 1 ∷ label_bytes label → result ≡ Some label }
+        → take COUNT_AT slot.now ≡ 1 ∷ label_bytes label
+        → result ≡ Some label }
 
     // What a slot of the table holds is free or a page.
     ensures free { slot.now ≡ slot_bytes None → result ≡ None }
@@ -158,10 +159,10 @@ pub fn label_in(slot: &Slot) -> Option<Label>
     Label::from_bytes(&label)
 }
 
-/// The page that a slot holds; `None` exactly where its bytes are no page's: byte 0 is not 1, the label's
-/// bytes are no label's, there is no cell or more than the level has room for, the length of a value is not
-/// 1 to 256 or other bytes than zeros fill it up, the keys do not strictly rise, or other bytes than zeros
-/// stand behind the last cell.
+/// Reads the page that a slot holds; `None` exactly where its bytes are no page's: byte 0 is not 1, the label's bytes
+/// are no label's, there is no cell or more than the level has room for, the length of a value is not 1 to 256 or
+/// other bytes than zeros fill it up, the keys do not strictly rise, or other bytes than zeros stand behind the last
+/// cell.
 pub fn decode_page(slot: &Slot) -> Option<Page>
     ensures found { IfSome result (λ page. IsPage page × (page_bytes page ≡ slot.now)) }
     ensures only { (page : model.Page) → IsPage page
@@ -269,8 +270,7 @@ impl Page {
     /// Whether the keys of the first `past` cells are below this one.
     fn are_below(&self, past: u32, key: &Key) -> bool
         requires { past ≤ length self.now.cells }
-        ensures { IsTrue result
-            ↔ AllByRecursion (λ k. key_cmp k key.now ≡ Less)
+        ensures { IsTrue result ↔ AllByRecursion (λ k. key_cmp k key.now ≡ Less)
             (map (λ c. c.key) (take past self.now.cells)) }
     {
         past == 0 || is_below(self.key_bytes(past - 1), key.as_bytes())
@@ -279,8 +279,7 @@ impl Page {
     /// Whether the keys of the cells from number `first` on are above this one.
     fn are_above(&self, first: u32, key: &Key) -> bool
         requires { first ≤ length self.now.cells }
-        ensures { IsTrue result
-            ↔ AllByRecursion (λ k. key_cmp key.now k ≡ Less)
+        ensures { IsTrue result ↔ AllByRecursion (λ k. key_cmp key.now k ≡ Less)
             (map (λ c. c.key) (drop first self.now.cells)) }
     {
         first == self.len() || is_below(key.as_bytes(), self.key_bytes(first))
@@ -289,8 +288,7 @@ impl Page {
     /// Whether a key stands between those of the first `at` cells and those of the others.
     fn is_between(&self, at: u32, key: &Key) -> bool
         requires { at ≤ length self.now.cells }
-        ensures { IsTrue result
-            ↔ IsStrictlySortedBy key_cmp
+        ensures { IsTrue result ↔ IsStrictlySortedBy key_cmp
             (map (λ c. c.key) (take at self.now.cells) ++ key.now
             ∷ map (λ c. c.key) (drop at self.now.cells)) }
     {

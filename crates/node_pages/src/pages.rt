@@ -19,9 +19,9 @@ use store_base::{Fault, Label};
 /// Clauses on the map hold where the pages are observable, those on counts for all pages; pages that were not
 /// observable stay so. A call answers `Fault::Disk` only where the count of faults rises in it, by one (a count that is
 /// 2^64 - 1 stays). The count of lookups rises by one where a page is asked for, and by one at most where that fails;
-/// no other call changes it. What is at hand under a label, a page or that there is none, is had without memory.
-/// `follows` says what every call keeps of the state below, as that nothing was committed, also where the call fails;
-/// pages in memory have nothing below them.
+/// no other call changes it. What is at hand under a label, a page or that there is none, is found without memory.
+/// `follows` says what every call keeps of the state below, even where it fails: for example, that nothing was
+/// committed. Pages in memory have nothing below them.
 pub trait Pages {
     /// What the pages mean at this moment.
     ghost state: { Self → PagesState };
@@ -35,16 +35,16 @@ pub trait Pages {
         ensures call { IsPageGet (state self.old) (state self.new) label.now result }
         ensures follows { follows self.old self.new };
 
-    /// As `get`, with a reference to the page in the place of a copy. It may answer `Fault::NoMemory` for what is
-    /// not at hand.
+    /// As `get`, with a reference to the page instead of a copy. It may answer `Fault::NoMemory` for what is not at
+    /// hand.
     fn look(&mut self, label: &Label) -> Result<Option<&Page>, Fault>
         ensures* after_borrow { sem 𝓛
             (Rests Self.row self.entry (λ new.
             IsPageGet (state self.old) (state new) label.now (looked_at result)
             × follows self.old new)) };
 
-    /// Puts the page under its label, in the place of the one that was there. There have to be fewer than 2^32 - 1
-    /// pages. After a fault the pages are as they were.
+    /// Puts the page under its label. It replaces the one that was there. There have to be fewer than 2^32 - 1 pages.
+    /// After a fault the pages are as they were.
     fn put(&mut self, page: Page) -> Result<(), Fault>
         requires { IsObservable (state self.old) → maps.len (state self.old).pages < most_pages }
         ensures call { IsPagePut (state self.old) (state self.new) page result }
@@ -60,8 +60,10 @@ pub trait Pages {
         }) }
         requires room { IsObservable (state self.old)
             → maps.len (state self.old).pages < most_pages }
-        ensures call { IsPagePut (state self.old) (state self.new)
-            (record { label = label.now; cells = cells_in label.now.level count run.now }) result }
+        ensures call { IsPagePut (state self.old) (state self.new) (record {
+          label = label.now;
+          cells = cells_in label.now.level count run.now;
+        }) result }
         ensures follows { follows self.old self.new }
     {
         self.put(Page::of_run(*label, count, run))

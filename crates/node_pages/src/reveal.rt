@@ -1,4 +1,4 @@
-//! What the types of keys, values and leads know, said to a proof.
+//! Says to a proof what the types of keys, values and leads know.
 //!
 //! Contracts see a key or a value as a list of bytes. That these are 124, or 1 to 256, is a fact of the type,
 //! which a proof has only from a call that promises it. These functions do nothing but promise it.

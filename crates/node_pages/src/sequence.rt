@@ -72,7 +72,7 @@ impl<T> Sequence<T> {
         self.items.as_slice()
     }
 
-    /// Its items, moved out.
+    /// Gives its items away.
     pub fn into_items(self) -> Vec<T>
         ensures { result.items ≡ self }
     {

@@ -1,4 +1,4 @@
-//! Sorted lists of pairs: what each offers, and the list in memory.
+//! Sorted lists of pairs: what each offers (`OrderedPairs`, where to start), and the list in memory (`MapPairs`).
 #![tactic(auto)]
 
 mod map;

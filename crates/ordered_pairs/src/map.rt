@@ -14,7 +14,7 @@ use std::alloc::Global;
 use std::cmp::Ordering;
 use store_base::{Fault, Key, NoMemory, Value};
 
-/// A list of pairs in memory, always observable. A key is found by halving. It never answers `Fault::Disk`: its
+/// A list of pairs in memory, always observable. A key is found by binary search. It never answers `Fault::Disk`: its
 /// count of faults is always 0.
 #[derive(Debug, Drop)]
 pub struct MapPairs {

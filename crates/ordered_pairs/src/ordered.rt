@@ -11,8 +11,8 @@ use store_base::{Fault, Key, Value};
 ///
 /// Clauses on the pairs hold where the list is observable, those on faults for every list; a list that was
 /// not observable stays so. A call answers `Fault::Disk` only where the count of faults rises in it, by one
-/// (a count that is 2^64 - 1 stays). `follows` says what every call keeps of the state below, as that nothing
-/// was committed, also where the call fails; pairs in memory have nothing below them.
+/// (a count that is 2^64 - 1 stays). `follows` says what every call keeps of the state below, even where it fails:
+/// for example, that nothing was committed. Pairs in memory have nothing below them.
 pub trait OrderedPairs {
     /// What the list means at this moment.
     ghost state: { Self → PairsState };
@@ -25,8 +25,8 @@ pub trait OrderedPairs {
         ensures call { IsPairGet (state self.old) (state self.new) key.now result }
         ensures follows { follows self.old self.new };
 
-    /// Puts the value under the key, in the place of the one that was there. The list has to have fewer than
-    /// 8,388,608 pairs. After a fault nothing is promised of the list: it is discarded.
+    /// Puts the value under the key. It replaces the one that was there. The list has to have fewer than 8,388,608
+    /// pairs. After a fault nothing is promised of the list: it is discarded.
     fn put(&mut self, key: Key, value: Value) -> Result<(), Fault>
         requires { IsObservable (state self.old) → length (state self.old).pairs < most_pairs }
         ensures call { IsPairPut (state self.old) (state self.new) key value result }

@@ -1,4 +1,4 @@
--- Slots in memory that fail the calls that they were told to fail, as their clauses see them.
+-- Slots in memory, some of whose calls fail on purpose, as their clauses see them.
 use Rattle.std.specs.Prelude.{◌≡◌, ◌↔◌, ℕ, ◌==◌, Bool, true, List, IsTrue, Result, IsErr, length}
 use Rattle.std.specs.List.{list_any}
 use Rattle.store_base.specs.Counts.{raised}
@@ -32,6 +32,6 @@ pub record CountsCall (old new : MemSlots) : Type 0 where
   pub listed : listed new ≡ listed old
   pub number : call_number new ≡ raised (call_number old)
 
--- a call fails where it was told to, and nowhere else
+-- a call fails where its number is listed, and nowhere else
 abbrev pub FailsAsTold : {T : Type 0} → MemSlots → Result T Fault → Type 0
 FailsAsTold old result = IsErr result ↔ IsTrue (will_fail old)

@@ -1,4 +1,4 @@
-//! Slots in memory, for tests: calls fail where they are told to.
+//! Slots in memory, for tests: some calls fail on purpose.
 
 ghost use Rattle.store_base.specs.SlotsState.{AreWhole};
 

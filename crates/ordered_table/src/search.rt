@@ -64,7 +64,7 @@ fn find_by<S: ReadSlots, C: Compare<S>, W: Draw, L: Ledger>(
     Ok(None)
 }
 
-/// The slot that holds the page of the label, or `None` exactly where the slots hold no such page.
+/// Finds the slot that holds the page of the label; `None` exactly where the slots hold no such page.
 ///
 /// From the label's start on, going round, the search ends at the slot that holds the label, at an empty slot, at
 /// one that holds a greater label, or when all slots were read. Each slot that is read counts as a step.

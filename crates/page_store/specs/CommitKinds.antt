@@ -16,7 +16,7 @@ abbrev pub committed : CommitKind → ℕ → Changes → List ℕ → List ℕ
 committed Plain slots changes image = with_slots slots changes image
 committed Upgrade slots changes image = upgraded slots changes image
 
--- the version of an image behind a commit, where it had this one
+-- the version of an image after a commit, where it had this one
 abbrev pub version_by : CommitKind → Version → Version
 version_by Plain version = version
 version_by Upgrade version = Two
@@ -25,7 +25,7 @@ version_by Upgrade version = Two
 abbrev pub params_by : CommitKind → Parameters → Parameters
 params_by kind p = with_version p (version_by kind p.version)
 
--- what it is made with behind calls that end with a commit: a fault leaves that
+-- what it is made with after calls that end with a commit: a fault leaves that
 abbrev pub params_after : {T E : Type 0} → CommitKind → Parameters → Result T E → Parameters
 params_after Plain p result = p
 params_after Upgrade p (Ok value) = with_version p Two

@@ -6,7 +6,7 @@ use Rattle.store_base.specs.declared.store_fault.Fault.TheVariants as below
 use Rattle.page_store.specs.declared.fault.SettleFault.{SettleFault}
 use Rattle.page_store.specs.declared.fault.SettleFault.TheVariants as causes
 
--- behind a settle: one more where the disk failed
+-- after a settle: one more where the disk failed
 abbrev pub settle_faults_after : {T : Type 0} → ℕ → Result T SettleFault → ℕ
 settle_faults_after count (Ok value) = count
 settle_faults_after count (Err (causes.Full need slots)) = count

@@ -49,8 +49,7 @@ pub record SettlesDiskBy {T : Type 0} (kind : CommitKind) (d : Draw) (p : Parame
   pub too_many : (need slots : ℕ) → IsErrOf result (causes.Full need slots) → ReadsOnly old new
   -- the slots that differ are committed, and no others
   pub counts : CountsBy kind (slots_between d table map) old new result
-  -- the value is spent by a fault that came behind a write or a sync alone, and any other fault leaves the disk as it
-  -- was
+  -- only a fault at a write or a sync, or after one, spends the value, and any other fault leaves the disk as it was
   pub spends : is_spent ≡ true → IsErrOf result causes.Disk × (Rose old.writes new.writes ⊎ Rose old.syncs new.syncs)
   pub goes_on : is_spent ≡ false → IsErrOf result causes.Disk → ReadsOnly old new
 
@@ -107,7 +106,7 @@ pub record SettlesSlotsTo {T E : Type 0} (d : Draw) (p : Parameters) (table map 
   -- these slots are committed, and no others; where there are none the disk is as it was
   pub still : count ≡ 0 → ReadsOnly old new
   pub counts : CountsCommit count old new result
-  -- a fault came at a write, or behind one
+  -- a fault came at a write, or after one
   pub wrote : OnErr result (Rose old.writes new.writes)
 
 -- These slots are settled, of which nothing is staged.

@@ -33,8 +33,8 @@ fn take_page<S: Slots + OrderSlots, W: Draw>(
     }
 }
 
-/// Lays a page into the slots, in the place of the one of its label; where they hold none of it, there has to be a free
-/// slot. A fault of the slots ends the call; nothing is promised of the slots after it.
+/// Lays a page into the slots, in the place of the page with its label. Where they hold no such page, a slot has to
+/// be free. A fault of the slots ends the call; nothing is promised of the slots after it.
 fn lay_page<S: Slots + OrderSlots, W: Draw>(
     slots: &mut S,
     finder: &mut Finder<W>,
@@ -58,8 +58,8 @@ fn lay_page<S: Slots + OrderSlots, W: Draw>(
     }
 }
 
-/// Takes the pages of the labels away that the changes leave without one. A fault of the slots ends the call; nothing
-/// is promised of the slots after it.
+/// Takes away the pages whose labels the changes leave without one. A fault of the slots ends the call; nothing is
+/// promised of the slots after it.
 fn take_pages<S: Slots + OrderSlots, W: Draw>(
     slots: &mut S,
     finder: &mut Finder<W>,
@@ -80,7 +80,7 @@ fn take_pages<S: Slots + OrderSlots, W: Draw>(
     Ok(())
 }
 
-/// Lays the pages of the changes into the slots; with all of them there have to be no more pages than slots. A fault of
+/// Lays the pages of the changes into the slots. With all of them there may be no more pages than slots. A fault of
 /// the slots ends the call; nothing is promised of the slots after it.
 fn lay_pages<S: Slots + OrderSlots, W: Draw>(
     slots: &mut S,
@@ -89,7 +89,8 @@ fn lay_pages<S: Slots + OrderSlots, W: Draw>(
 ) -> Result<(), Fault>
     requires { (S.ReadSlots.state slots.old).count ≡ (W.drawn finder.old.draw).slots }
     ensures call { LaysPages (W.drawn finder.old.draw) (S.ReadSlots.state slots.old)
-        (S.ReadSlots.state slots.new) (values changes.now.pages) result }
+        (S.ReadSlots.state slots.new)
+        (values changes.now.pages) result }
     ensures follows { S.ReadSlots.follows slots.old slots.new }
     ensures draw { finder.new.draw ≡ finder.old.draw }
 {

@@ -24,8 +24,8 @@ pub struct Changes {
     pub spares: Spares<Page>,
 }
 
-/// Inserts a cell into the page that a change is, where it lies, and answers whether it did. A change that does not
-/// take it is as it was. It takes no memory.
+/// Inserts a cell into the page of a change, in place, and says whether it did. A change that does not take it is as
+/// it was. It takes no memory.
 fn insert_into(change: &mut Option<Boxed<Page>>, at: u32, cell: &Cell) -> bool
     ensures done { result ≡ true → InsertsCell change.old change.new at cell.now }
     ensures kept { result ≡ false → change.new ≡ change.old }
@@ -46,7 +46,7 @@ fn no_page_takes_it() -> NoMemory {
 }
 
 impl Changes {
-    /// Nothing is staged. It takes no memory.
+    /// Makes the empty set of changes. It takes no memory.
     pub fn new(alloc: Global) -> Changes
         ensures { result.pages.entries ≡ [] }
     {
@@ -84,8 +84,8 @@ impl Changes {
         Ok(())
     }
 
-    /// What is known of the label, whose place in the memo this is, by the changes, or else by the memo: a page, or
-    /// that there is none. It takes no memory.
+    /// Says what is known of the label: a page, or that there is none. It asks the changes, and then the memo, where
+    /// the label has this place. It takes no memory.
     pub fn known<'a>(
         &'a self,
         memo: &'a PageMemo,
@@ -104,8 +104,8 @@ impl Changes {
         }
     }
 
-    /// Whether something is known of the label, whose place in the memo this is, by the changes or by the memo. It
-    /// takes no memory.
+    /// Whether the changes or the memo know something of the label, which has this place in the memo. It takes no
+    /// memory.
     // The memo comes first, since to find a label among the changes takes comparisons of labels.
     pub fn knows(&self, memo: &PageMemo, place: usize, label: &Label) -> bool
         requires { place ≡ memo_place (label_bytes label.now) }
@@ -114,8 +114,8 @@ impl Changes {
         memo.recall(place, label).is_some() || self.pages.contains_key(label)
     }
 
-    /// Inserts a cell into the page that is staged under the label, where it lies, and answers whether it did, or that
-    /// nothing is staged there. Where it did not the changes are as they were. It takes no memory.
+    /// Inserts a cell into the page that is staged under the label, in place, and says whether it did; `None` where
+    /// nothing is staged there. If it did not, the changes are as they were. It takes no memory.
     fn insert_staged(&mut self, label: &Label, at: u32, cell: &Cell) -> Option<bool>
         ensures done { (memo : Remembered) → result ≡ Some true
             → StagesCell self.old.pages.entries self.new.pages.entries memo label.now at cell.now }

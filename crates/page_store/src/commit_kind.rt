@@ -8,14 +8,14 @@ use store_base::{Params, Version};
 /// Which commit a settle ends with.
 #[derive(Clone, Copy)]
 pub enum CommitKind {
-    /// That of the slots that differ.
+    /// Commits the slots that differ.
     Plain,
-    /// That of the slots that differ, and of version 2 with them.
+    /// Commits the slots that differ, and version 2 with them.
     Upgrade,
 }
 
 impl CommitKind {
-    /// What an image of these parameters is made with behind such a commit.
+    /// The parameters of an image after such a commit, which had these before.
     pub fn params(self, before: &Params) -> Params
         ensures { result ≡ params_by self before.now }
     {

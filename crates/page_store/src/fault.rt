@@ -5,7 +5,7 @@ ghost use Rattle.std.specs.Prelude.{◌≡◌};
 use store_base::Fault;
 use thiserror::Error;
 
-/// Why pages were not settled. What stands after it is said at `Staged::settle`.
+/// Why pages were not settled. `Staged::settle` says what stands then.
 #[derive(Clone, Copy, Debug, PartialEq, Eq, Error)]
 pub enum SettleFault {
     /// The pages are more than the slots. Nothing was written.

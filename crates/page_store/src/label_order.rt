@@ -1,4 +1,4 @@
-//! How the label in a slot stands to other bytes, told where the slot lies.
+//! Compares the label of the page in a slot with other bytes, in place: the slot is not copied.
 
 ghost use Rattle.ordered_table.specs.Tables.{TellsOrder};
 
@@ -7,7 +7,7 @@ use std::cmp::Ordering;
 use store_model::Slot;
 use table_memory::Told;
 
-/// How the label of the page in a slot stands to the one of other bytes; `None` for a free slot.
+/// The order of the label of the page in a slot and the bytes of another; `None` for a free slot.
 pub struct LabelOrder {
     /// How it stands.
     pub order: Option<Ordering>,

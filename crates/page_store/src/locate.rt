@@ -30,7 +30,8 @@ fn locate_counted<S: OrderSlots, W: Draw, L: Ledger>(
     find_from(slots, draw, start, label, &mut Steps::<L>::new(blank))
 }
 
-/// The slot where the page of the label was found last, if it holds the page still; `None` tells nothing.
+/// Looks into the slot where the page of the label was found last, and gives it if it still holds the page. `None`
+/// tells nothing.
 fn locate_again<S: OrderSlots, W: Draw>(
     slots: &mut S,
     finder: &Finder<W>,
@@ -51,8 +52,8 @@ fn locate_again<S: OrderSlots, W: Draw>(
     Ok(None)
 }
 
-/// The slot that holds the page of the label; `None` exactly where the slots hold no such page. It is searched for only
-/// where it is not the one where the page was found last.
+/// Finds the slot that holds the page of the label; `None` exactly where the slots hold no such page. It looks first
+/// where the page was found last, and searches only if it is not there.
 pub fn locate<S: OrderSlots, W: Draw>(
     slots: &mut S,
     finder: &mut Finder<W>,

@@ -1,4 +1,4 @@
-//! How the page of a label is looked up.
+//! Looks up the page of a label.
 
 ghost use Rattle.std.specs.Prelude.{◌≡◌, Some, Ok};
 ghost use Rattle.store_model.specs.Labels.{label_bytes};
@@ -50,8 +50,8 @@ impl<D: Disk, W: Draw> Lookup<D, W> {
         Ok(())
     }
 
-    /// Reads and remembers the page of the label, whose place in the memo this is, unless it is known by the changes or
-    /// by the memo. It is not remembered where there is no memory for it. Where it is known the call only answers.
+    /// Reads the page of the label and remembers it, unless the changes or the memo know it: then the call only
+    /// answers. The label has this place in the memo. Where there is no memory for it, the page is not remembered.
     pub fn learn(&mut self, changes: &Changes, place: usize, label: &Label) -> Result<(), Fault>
         requires { place ≡ memo_place (label_bytes label.now) }
         ensures call { Consults (slots_seen D.state self.old.overlay)
@@ -72,7 +72,7 @@ impl<D: Disk, W: Draw> Lookup<D, W> {
         self.remember_at(at, label)
     }
 
-    /// Whether there is a page under the label, by the changes, or else by the memo, or else by the slots.
+    /// Whether there is a page under the label. It asks the changes, then the memo, then the slots.
     pub fn has_page(&mut self, changes: &Changes, label: &Label) -> Result<bool, Fault>
         ensures call { LooksUp (W.drawn self.old.finder.draw) (slots_seen D.state self.old.overlay)
             (slots_seen D.state self.new.overlay) changes.now.pages.entries label.now result }

@@ -17,8 +17,8 @@ use store_base::{Fault, Params, ReadSlots, Slots};
 use store_model::Slot;
 use table_memory::{Boxed, SlotCache, Spares, read_slot, tell_slot};
 
-/// The slots of the table of a disk, of which those that were written are kept in memory, and those that were read
-/// last. The disk is only read.
+/// The slots of the table of a disk. It keeps in memory the slots that were written, and those that were read last.
+/// The disk is only read.
 #[derive(Drop)]
 pub struct Overlay<D: Disk> {
     /// Where memory is taken.
@@ -44,8 +44,8 @@ pub struct Overlay<D: Disk> {
 impl<D: Disk> Overlay<D> {
     ghost use Rattle.page_store.specs.Overlays.{disk_of, params_of, touched_of};
 
-    /// The slots as the disk has them. The disk has the length of these parameters, and what the cache keeps are slots
-    /// of its table.
+    /// Makes an overlay with nothing written: the slots are as the disk has them. The disk has the length of these
+    /// parameters, and the cache keeps slots of its table.
     pub fn new(alloc: Global, disk: D, params: &Params, cache: SlotCache) -> Overlay<D>
         requires size { (D.state disk).size ≡ image_len params.now.slots }
         requires cached { IsSlotCacheOf params.now.slots (D.state disk) cache }
@@ -90,15 +90,16 @@ impl<D: Disk> ReadSlots for Overlay<D> {
     ghost counted = { λ o observable. overlaid_count (params_of o).slots (touched_of o)
         (D.state (disk_of o)) };
 
-    ghost whole = { λ o observable. overlaid_whole (params_of o).slots (touched_of o)
-        (D.state (disk_of o)) (D.sound (disk_of o) observable) o.sized o.filled };
+    ghost whole = { λ o observable.
+        overlaid_whole (params_of o).slots (touched_of o) (D.state (disk_of o))
+        (D.sound (disk_of o) observable) o.sized o.filled };
 
     ghost follows_refl = { λ o. KeepsView-refl (params_of o) (D.state (disk_of o))
         (D.sound (disk_of o)) };
 
     ghost follows_trans = { λ old mid new.
-        KeepsView-trans (params_of old) (params_of mid) (params_of new) (D.state (disk_of old))
-        (D.state (disk_of mid)) (D.state (disk_of new)) };
+        KeepsView-trans (params_of old) (params_of mid) (params_of new)
+        (D.state (disk_of old)) (D.state (disk_of mid)) (D.state (disk_of new)) };
 
     fn get(&mut self, at: u32, into: &mut Slot) -> Result<(), Fault> {
         if let Some(slot) = self.touched.get(&at) {

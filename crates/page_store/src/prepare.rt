@@ -13,8 +13,8 @@ use seeded_draw::Draw;
 use store_base::Fault;
 use table_memory::{ChangedSlots, Finder, find_changes};
 
-/// The slots in which the table differs once the changes are carried out. The disk is only read; which slots the
-/// overlay has written after the call is not said.
+/// Finds the slots in which the table differs once the changes are carried out. The disk is only read. Nothing is
+/// promised of which slots the overlay has written after the call.
 pub fn find_slots<D: Disk, W: Draw>(
     overlay: &mut Overlay<D>,
     finder: &mut Finder<W>,
@@ -25,7 +25,8 @@ pub fn find_slots<D: Disk, W: Draw>(
         (touched_of overlay.old) changes.now.pages.entries (D.state (disk_of overlay.old))
         (D.state (disk_of overlay.new)) result }
     ensures follows { KeepsView (params_of overlay.old) (params_of overlay.new)
-        (D.state (disk_of overlay.old)) (D.state (disk_of overlay.new)) }
+        (D.state (disk_of overlay.old))
+        (D.state (disk_of overlay.new)) }
     ensures draw { finder.new.draw ≡ finder.old.draw }
 {
     lay_changes(overlay, finder, changes)?;

@@ -57,8 +57,9 @@ impl<D: Disk, W: Draw> Model for Staged<D, W> {
 
     ghost coded = { staged_code D.code W.code };
 
-    ghost view = { λ s. staged_state D.state s.lookup.overlay.params s.lookup.finder.draw
-        s.lookup.overlay.disk s.changes.pages.entries s.lookup.memo s.lookups s.is_spent };
+    ghost view = { λ s. staged_state D.state s.lookup.overlay.params
+        s.lookup.finder.draw s.lookup.overlay.disk
+        s.changes.pages.entries s.lookup.memo s.lookups s.is_spent };
 
     ghost invariant = { λ s. IsStaged (W.drawn s.lookup.finder.draw)
         s.lookup.overlay.params (D.state s.lookup.overlay.disk)
@@ -88,10 +89,10 @@ impl<D: Disk, W: Draw> Staged<D, W> {
     ghost use Rattle.page_store.specs.StagedState.{IsTold, pages_state, Follows, without_changes};
     ghost use Rattle.page_store.specs.Stagings.{Stages};
 
-    /// The pages in the table of a disk, so many of them, and no change. It takes no memory.
+    /// Takes a disk whose table has so many pages, with no change staged. It takes no memory.
     ///
-    /// The disk has the length of an image of these parameters, and the draw their slots; an observable disk reads the
-    /// layout of so many pages under the parameters, and nothing is pending. The cache keeps no slot yet.
+    /// The disk has the length of an image of these parameters, and the draw their slots. An observable disk reads
+    /// the layout of so many pages under the parameters, with nothing pending. The cache keeps no slot yet.
     pub fn new(
         alloc: Global,
         disk: D,
@@ -104,7 +105,8 @@ impl<D: Disk, W: Draw> Staged<D, W> {
         requires drawn { (W.drawn draw).slots ≡ params.now.slots }
         requires stands { IsObservable (D.state disk)
             → SlotStandsAt (W.drawn draw)
-            params.now (pages_in_table params.now.slots (D.state disk).bytes) (D.state disk) }
+            params.now (pages_in_table params.now.slots (D.state disk).bytes)
+            (D.state disk) }
         requires count { IsObservable (D.state disk)
             → pages ≡ maps.len (pages_in_table params.now.slots (D.state disk).bytes) }
         requires empty { cache ≡ [] }
@@ -138,7 +140,8 @@ impl<D: Disk, W: Draw> Staged<D, W> {
         self.used
     }
 
-    /// Whether it is spent: a fault of the disk came behind a write or a sync of a settle. It takes no memory.
+    /// Whether it is spent: a fault of the disk came at a write or a sync of a settle, or after one. It takes no
+    /// memory.
     pub fn is_spent(&self) -> bool
         ensures { result ≡ self.now.is_spent }
     {
@@ -182,8 +185,8 @@ impl<D: Disk, W: Draw> Staged<D, W> {
         self.used = self.settled;
     }
 
-    /// SHA-256 (FIPS 180-4) of all bytes that the disk reads, the changes not among them. It takes no memory. After
-    /// `DiskFault` the pages are as they were.
+    /// Computes SHA-256 (FIPS 180-4) of all bytes that the disk reads. Staged changes are not among them. It takes no
+    /// memory. After `DiskFault` the pages are as they were.
     pub fn digest(&mut self) -> Result<[u8; 32], DiskFault>
         ensures calls { AreCalls (D.state self.old.disk) (D.state self.new.disk) result }
         ensures reads { IsObservable (D.state self.old.disk)
@@ -197,8 +200,8 @@ impl<D: Disk, W: Draw> Staged<D, W> {
         Journal::digest(&mut self.lookup.overlay.disk)
     }
 
-    /// The page under the label, whose place in the memo this is, as far as it is known; what is not known was left out
-    /// for want of memory. It takes no memory.
+    /// The page under the label, which has this place in the memo. `NoMemory` exactly where nothing is known of the
+    /// label: there was no memory to remember it. It takes no memory.
     fn shown(&self, place: usize, label: &Label) -> Result<Option<&Page>, Fault>
         requires { place ≡ memo_place (label_bytes label.now) }
         ensures found { IsTold D.state self.now
@@ -236,9 +239,9 @@ impl<D: Disk, W: Draw> Staged<D, W> {
     /// none.
     ///
     /// `Full` comes exactly where there are more pages than slots. After `Full` and `NoMemory` nothing was written.
-    /// `Disk`: the disk failed; where that came at a write or a sync, or behind one, the value is spent, and the disk
-    /// has the pages that the table had or those that there were. After each of them a value that is not spent has the
-    /// map and the table that it had. A value that is spent is settled no more.
+    /// `Disk`: the disk failed. If that came at a write or a sync, or after one, the value is spent, and the disk has
+    /// the pages that the table had or those that there were. After each fault a value that is not spent has the map
+    /// and the table that it had. A value that is spent cannot be settled again.
     pub fn settle(&mut self) -> Result<(), SettleFault>
         requires { self.old.is_spent ≡ false }
         ensures call { Settles D.state W.drawn self.old self.new result }
@@ -260,20 +263,21 @@ impl<D: Disk, W: Draw> Staged<D, W> {
         self.settle_by(CommitKind::Upgrade)
     }
 
-    /// Changes slots of the table together, which lead to the placement of so many pages, where nothing is staged. It
-    /// takes no memory: whoever makes a whole table hands its slots over, and no page is staged.
+    /// Changes slots of the table together, where nothing is staged. With them the table is the placement of so many
+    /// pages. It takes no memory: whoever makes a whole table hands its slots over, and no page is staged.
     ///
     /// A commit of d slots makes 5d + 2 writes and 5 syncs, and one of none makes none. Each image that a crash at
     /// any moment of the call may leave holds the pages that the table had or those to which the slots lead. After Ok
-    /// nothing is kept of the table that was. `DiskFault`: it came at a write or behind one. The value is spent, and
-    /// the disk has the one pages or the other.
+    /// nothing is kept of the table that was. `DiskFault`: the disk failed at a write or after one. The value is
+    /// spent, and the disk has the old pages or the new ones.
     pub fn settle_slots<S: SlotChanges>(&mut self, changes: &S, pages: u32) -> Result<(), DiskFault>
         requires runs { self.old.is_spent ≡ false }
         requires none_staged { self.old.staged ≡ [] }
         requires changes { AreChanges self.old.params.slots (S.changes changes.now) }
         requires table { IsObservable (D.state self.old.disk)
             → (m : PageMap) × LeadsTo (W.drawn self.old.draw)
-            self.old.params (S.changes changes.now) (D.state self.old.disk).bytes m pages }
+            self.old.params (S.changes changes.now)
+            (D.state self.old.disk).bytes m pages }
         ensures call { SettlesSlots D.state W.drawn (S.changes changes.now) pages
             self.old self.new result }
     {

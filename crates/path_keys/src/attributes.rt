@@ -41,7 +41,7 @@ impl AttrName {
     /// The most bytes of an attribute's name.
     pub const MAX_LEN: usize = 32;
 
-    /// The name that a text is; nothing where it is no name, or one of more than 32 bytes.
+    /// Reads the name that a text is; `None` where it is no name, or one of more than 32 bytes.
     pub fn parse(text: &[u8]) -> Option<AttrName>
         ensures some { IfSome result (λ name. (name ≡ text.now)
             × IsTrue (model.is_attribute_name name)) }
@@ -67,7 +67,7 @@ impl AttrName {
     }
 }
 
-/// The key of an attribute of a path; nothing for the root, and where path and name need more than 120 bytes.
+/// Makes the key of an attribute of a path; `None` for the root, and where path and name need more than 120 bytes.
 pub fn attr_key(path: &Path, name: &AttrName) -> Option<Key>
     ensures value { IfSome result (λ key. key ≡ model.attribute_key path.now name.now) }
     ensures valid { IfSome result IsKey }
@@ -86,7 +86,7 @@ pub fn attr_key(path: &Path, name: &AttrName) -> Option<Key>
     Some(Key::new(bytes))
 }
 
-/// The path and the name of an attribute's key; nothing where it is no such key.
+/// Reads the path and the name from an attribute's key; `None` where it is no such key.
 pub fn of_attr_key(key: &Key) -> Option<(Path, AttrName)>
     ensures some { IfSome result (λ found. model.attribute_key found.0 found.1 ≡ key.now) }
     ensures path { IfSome result (λ found. IsTrue (model.is_path found.0)) }

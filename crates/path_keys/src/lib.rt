@@ -1,4 +1,5 @@
-//! Paths and their attributes, and the keys that pairs have in the list: the bytes of a key are in the order of paths.
+//! Paths and their attributes, and the keys that pairs have in the list: keys, as bytes, are in the order of paths.
+//! Start at `Path`.
 #![tactic(auto)]
 
 mod attributes;

@@ -80,7 +80,7 @@ impl Path {
         self.len == 0
     }
 
-    /// The path that a text spells: `/` for the root, and else `/` and a name once or more.
+    /// Reads the path that a text spells: `/` for the root, and else `/` and a name once or more.
     pub fn parse(text: &[u8]) -> Result<Path, PathFault>
         ensures value { IfOk result (λ p. path_of text.now ≡ Some p) }
         ensures valid { IfOk result (λ p. IsTrue (model.is_path p)) }
@@ -143,7 +143,7 @@ impl Path {
         Key::new(bytes)
     }
 
-    /// The path and the block number of a key; nothing where its field is no path's, or the root's.
+    /// Reads the path and the block number of a key; `None` where its field is no path's, or the root's.
     pub fn of_key(key: &Key) -> Option<(Path, u32)>
         ensures some { IfSome result (λ found. model.key found.0 found.1 ≡ key.now) }
         ensures valid { IfSome result (λ found. IsTrue (model.is_path found.0)) }
@@ -202,7 +202,7 @@ impl Path {
         &self.bytes[self.name_start()..self.len as usize - 1]
     }
 
-    /// The path without its last name, and nothing for the root.
+    /// The path without its last name; `None` for the root.
     pub fn parent(&self) -> Option<Path>
         ensures none { IsNone result ↔ IsTrue (model.is_root self.now) }
         ensures value { IfSome result (λ q. q ≡ model.parent self.now) }

@@ -9,8 +9,8 @@ use crate::paths::{Path, block_of};
 use byteorder::{BigEndian, ByteOrder};
 use store_base::Key;
 
-/// The key with the new path in the stead of the old one, at which or below which its place lies; nothing where its
-/// field would have more than 120 bytes. Attributes are moved as paths are.
+/// The key after a move of `old` to `new`; its place lies at `old` or below it. `None` where its field would have
+/// more than 120 bytes. Attributes move as paths do.
 pub fn replant(key: &Key, old: &Path, new: &Path) -> Option<Key>
     ensures value { (place : model.Path) (block : ℕ) → IsTrue (model.is_place place)
         → IsTrue (model.is_at_or_inside place old.now)
@@ -32,8 +32,9 @@ pub fn replant(key: &Key, old: &Path, new: &Path) -> Option<Key>
 
 /// The last key that stands at the key's place: the one with the greatest block number.
 pub fn last_at(key: &Key) -> Key
-    ensures value { (place : model.Path) (block : ℕ) → IsTrue (model.is_place place)
-        → block < 2 ^ 32 → key.now ≡ model.key place block
+    ensures value { (place : model.Path) (block : ℕ)
+        → IsTrue (model.is_place place) → block < 2 ^ 32
+        → key.now ≡ model.key place block
         → result ≡ model.key place (2 ^ 32 - 1) }
     ensures valid { IsKey result }
 {

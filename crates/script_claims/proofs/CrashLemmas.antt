@@ -245,10 +245,9 @@ script_loses_nothing as_run t p failing source sink left crash first only laid_o
             in_part = ⊎_elim (λ none. inl none) (λ is. inr ((behind _ is).image e)) found.in_part;
           };
       recovers = λ leaves. (behind _ (way_left left leaves).represents).recovers;
-      represents = way_left left;
-      any_moment = λ leaves e.
+      any_moment = λ leaves.
           let found = way_left left leaves in
-          record { count = found.count; in_limit = found.in_limit; image = (behind _ found.represents).image e };
+          record { before = found; image = (behind _ found.represents).image };
     }
 
 pub loses_nothing : (t : Tree) (p : Parameters) (failing : Disk) (source : SourceMemory) (sink : SinkMemory)

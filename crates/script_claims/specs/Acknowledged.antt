@@ -13,12 +13,12 @@ use Rattle.image_subcommands.specs.declared.status.Status.TheVariants as statuse
 use Rattle.script_claims.specs.Crashes.{WroteReplies}
 use Rattle.script_claims.specs.Machines.{Ended, HasImage, bytes_of}
 
--- with 0, 3, 4 or 6
+-- the call ended with status 0, 3, 4 or 6: it is done, the source or the sink failed, or the script is too long
 abbrev pub EndsWhole : Status → Type 0
 EndsWhole status = (status ≡ statuses.Done)
     ⊎ ((status ≡ statuses.SourceFault) ⊎ ((status ≡ statuses.SinkFault) ⊎ (status ≡ statuses.TooLong)))
 
--- with 3, 5, 6 or 9
+-- the call ended with status 3, 5, 6 or 9: the source or the disk failed, the script is too long, or memory ran out
 abbrev pub EndsEarly : Status → Type 0
 EndsEarly status = (status ≡ statuses.SourceFault)
     ⊎ ((status ≡ statuses.DiskFault) ⊎ ((status ≡ statuses.TooLong) ⊎ (status ≡ statuses.NoMemory)))
@@ -39,7 +39,7 @@ pub record KeepsAcknowledged (texts : List (List ℕ)) (trees : ℕ → Tree) (t
   -- with 5 the bytes are an image of that tree, or of the one after the next line
   pub disk_fault : after.status ≡ statuses.DiskFault → Represents (bytes_of after.disk) (trees after.done) p
       ⊎ Represents (bytes_of after.disk) (trees (after.done + 1)) p
-  -- with 9 it is the image of that tree, or the one before the call was not written to and no line was carried out
+  -- with 9 it is the image of that tree, or no line was carried out and the bytes represent the tree from before
   pub no_memory : after.status ≡ statuses.NoMemory → HasImage after.disk (trees after.done) p
       ⊎ ((after.done ≡ 0) × Represents (bytes_of after.disk) t p)
   -- with 0 each line was carried out, and each reply written

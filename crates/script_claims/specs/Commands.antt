@@ -18,11 +18,11 @@ use Rattle.script_claims.specs.Refusals.{IsAtRest, IsUntouched}
 abbrev pub commanded_tree : Tree → ℕ → ℕ → Parameters → ℕ → Tree
 commanded_tree t number count p k = tree_by (step_under p) t (take k (first_commands number count))
 
--- with 0 or 4
+-- the call ended with status 0 or 4: it is done, or the sink failed
 abbrev pub IsSummedUp : Status → Type 0
 IsSummedUp status = (status ≡ statuses.Done) ⊎ (status ≡ statuses.SinkFault)
 
--- with 5 or 9
+-- the call ended with status 5 or 9: the disk failed, or memory ran out
 abbrev pub IsBrokenOff : Status → Type 0
 IsBrokenOff status = (status ≡ statuses.DiskFault) ⊎ (status ≡ statuses.NoMemory)
 
@@ -38,12 +38,12 @@ pub record KeepsCommands (number count : ℕ) (t : Tree) (p : Parameters) (disk 
     (sink : SinkMemory) (after : Ended) : Type 0 where
   -- it ends in no other way
   pub ends : IsSummedUp after.status ⊎ IsBrokenOff after.status
-  -- with 0 and 4 all commands were carried out, the image is that of the tree behind them, and a crash leaves just that
+  -- with 0 and 4 all commands were carried out, the image is that of the tree after them, and a crash leaves just that
   pub all_done : IsSummedUp after.status → after.done ≡ count
   pub image : IsSummedUp after.status → HasImage after.disk (commanded_tree t number count p after.done) p
   pub done_limit : after.done ≤ count
   -- with 5 the bytes are an image of the tree after those that were carried out, or of the one after the next; with 9
-  -- it is the image of the tree after those, or the one before was not written to
+  -- it is the image of the tree after those, or none was carried out and the bytes represent the tree from before
   pub disk_fault : after.status ≡ statuses.DiskFault
       → Represents (bytes_of after.disk) (commanded_tree t number count p after.done) p
       ⊎ Represents (bytes_of after.disk) (commanded_tree t number count p (after.done + 1)) p

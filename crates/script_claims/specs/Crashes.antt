@@ -17,11 +17,11 @@ pub record WroteReplies (count : ℕ) (texts : List (List ℕ)) (before after : 
   pub next_is : concat (take 1 (drop count texts)) ≡ part ++ rest
   pub written_is : after ≡ before ++ (concat (take count texts) ++ part)
 
--- The disk has the image of the tree after some lines of the script, at most so many.
-pub record HasSomeLines (limit : ℕ) (trees : ℕ → Tree) (p : Parameters) (disk : Disk) : Type 0 where
-  pub count : ℕ
-  pub in_limit : count ≤ limit
-  pub image : HasImage disk (trees count) p
+-- An image that was left is of the tree after some lines of the script, at most so many, and the disk of the run behind
+-- it has the image of this very tree where the run ended with 0.
+pub record LeavesSomeTree (limit : ℕ) (trees : ℕ → Tree) (p : Parameters) (left : List ℕ) (next : Ended) : Type 0 where
+  pub before : RepresentsSomeTree limit trees p left
+  pub image : next.status ≡ statuses.Done → HasImage next.disk (trees before.count) p
 
 -- The disk has the image of the tree after just the lines whose replies were written, or after one line more; the one
 -- of whose reply any byte was written is among them.
@@ -48,15 +48,13 @@ pub record RunsBehind (t : Tree) (p : Parameters) (next : Ended) : Type 0 where
 -- left. Where the run ended with 0:
 pub record LosesNothing (texts : List (List ℕ)) (trees : ℕ → Tree) (p : Parameters) (disk : Memory) (sink : SinkMemory)
     (left : List ℕ) (crash : Crash) : Type 0 where
-  -- of an image that a crash behind the first call may leave
+  -- of an image that a crash after the first call may leave
   pub acknowledged : MayLeave crash.first.disk left → crash.next.status ≡ statuses.Done
       → HasRepliedLines texts trees p sink.written crash.first.sink.written crash.next.disk
   -- it does so where no call of it failed and memory was there
   pub recovers : MightHaveLeft (memory_state disk).clock crash.first.disk left → NeverFailed crash.next
       → (crash.next.status ≡ statuses.Done) ⊎ (crash.next.status ≡ statuses.NoMemory)
   -- of one that a crash at some moment of it may leave: it is of the tree after some lines, at most one more than
-  -- were carried out
-  pub represents : MightHaveLeft (memory_state disk).clock crash.first.disk left
-      → RepresentsSomeTree (crash.first.done + 1) trees p left
-  pub any_moment : MightHaveLeft (memory_state disk).clock crash.first.disk left → crash.next.status ≡ statuses.Done
-      → HasSomeLines (crash.first.done + 1) trees p crash.next.disk
+  -- were carried out, and the run leaves the image of the same tree
+  pub any_moment : MightHaveLeft (memory_state disk).clock crash.first.disk left
+      → LeavesSomeTree (crash.first.done + 1) trees p left crash.next

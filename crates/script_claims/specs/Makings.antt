@@ -27,7 +27,7 @@ pub record SparesCounts (disk : Disk) (sink : SinkMemory) (after : Ended) : Type
   pub disk_faults : (meaning after.disk).faults ≡ (meaning disk).faults
   pub sink_faults : after.sink.faults ≡ sink.faults
 
--- with 3, 4, 5, 6 or 9
+-- the run ended with status 3, 4, 5, 6 or 9: a call failed, the script was too long, or memory ran out
 abbrev pub IsRunCut : Status → Type 0
 IsRunCut status = (status ≡ statuses.SourceFault)
     ⊎ ((status ≡ statuses.SinkFault)
@@ -56,7 +56,7 @@ pub record StopsFormat (p : Parameters) (disk : Disk) (ended : Ended) : Type 0 w
   pub already_image : ended.status ≡ statuses.AlreadyImage → slice_index (bytes_of disk) 0 ≡ first_byte
   pub wrong_length : ended.status ≡ statuses.WrongLength → (meaning disk).size ≢ image_len p.slots
 
--- An image was not made: the format was the first call that did not end with 0, or one of the runs behind it.
+-- An image was not made: the format was the first call that did not end with 0, or one of the runs after it.
 abbrev pub StopsMaking : Parameters → Disk → List SourceMemory → SinkMemory → Ended → Type 0
 StopsMaking p disk scripts sink ended = StopsFormat p disk ended
     ⊎ StopsRuns disk (λ script. Contains scripts script) sink ended

@@ -14,7 +14,7 @@ use Rattle.script_claims.specs.Machines.{Disk, Ended, MayLeave, MightHaveLeft, b
 abbrev pub HasNoTree : List ℕ → Type 0
 HasNoTree bytes = (t : Tree) (p : Parameters) → Represents bytes t p → ⊥
 
--- with 5 or 9
+-- the call ended with status 5 or 9: the disk failed, or memory ran out
 abbrev pub ComesFirst : Status → Type 0
 ComesFirst status = (status ≡ statuses.DiskFault) ⊎ (status ≡ statuses.NoMemory)
 

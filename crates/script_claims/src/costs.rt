@@ -32,7 +32,8 @@ pub fn a_run_costs_its_changes(
     ensures { (t : Tree) (p : Parameters) → Represents (bytes_of disk) t p
         → IfOk result
         (λ after. CostsJust after.status after.done
-        (λ k. tree_after t (take k (lines source.left)) p) p disk after.disk) }
+        (λ k. tree_after t (take k (lines source.left)) p) p
+        disk after.disk) }
 {
     let words = run_word(alloc)?;
     Ok(serve(alloc, &words, disk, source, sink))
@@ -42,7 +43,8 @@ pub fn a_run_costs_its_changes(
 /// commands; the summary takes none.
 pub fn big_costs_its_changes(alloc: Global, words: &Words, machine: Machine) -> Ended
     ensures { (number count : ℕ) (t : Tree) (p : Parameters)
-        → request_of words.now ≡ Some (Big number count) → Represents (bytes_of machine.disk) t p
+        → request_of words.now ≡ Some (Big number count)
+        → Represents (bytes_of machine.disk) t p
         → CostsJust result.status result.done (generated_trees t number count p) p
         machine.disk result.disk }
 {

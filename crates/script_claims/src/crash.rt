@@ -21,7 +21,7 @@ use store_base::NoMemory;
 /// The room of the record of the disk that the second run is on, in bytes: a write takes 16 and those that it writes.
 const ROOM: usize = 4_194_304;
 
-/// A call that a crash cut short, and the run behind it.
+/// A call that a crash cut short, and the run after it.
 #[derive(Drop)]
 pub struct Crash {
     /// The call on the disk that fails.

@@ -90,7 +90,7 @@ fn run_scripts(
 /// Formats a disk by these words, and runs each script on it. The image is that of the tree that the lines of all
 /// scripts leave.
 ///
-/// `Err` has the first call that did not end with 0, and no call is made behind it: the format refused the disk, a
+/// `Err` has the first call that did not end with 0, and no call is made after it: the format refused the disk, a
 /// call of the disk, the sink or a script failed, a script was too long, or memory ran out.
 pub fn make_image(alloc: Global, format: &Words, making: Making) -> Result<Disk, Ended>
     ensures image { (p : Parameters) → request_of format.now ≡ Some (Format p)
@@ -111,7 +111,7 @@ pub fn make_image(alloc: Global, format: &Words, making: Making) -> Result<Disk,
 /// Makes two images of the same parameters, each by scripts of its own. Where all calls ended with 0 the images are
 /// equal, byte for byte, exactly where the trees are that the scripts leave.
 ///
-/// `Err` has the first call that did not end with 0, as of `make_image`.
+/// `Err` has the first call that did not end with 0, as from `make_image`.
 pub fn equal_contents_have_equal_bytes(
     alloc: Global,
     format: &Words,

@@ -1,6 +1,6 @@
-//! The mission's sentences about scripts: proved functions over disks, sources and sinks in memory that call the
-//! program, and whose contracts a keeper of ballots understands. They speak of bytes, scripts, replies, statuses and
-//! trees, and of the image of a tree.
+//! The sentences about scripts (docs/PROMISES.md). Each is a proved function over disks, sources and sinks in memory
+//! that calls the program. Its contract says the sentence in bytes, scripts, replies, statuses and trees, and of the
+//! image of a tree. Start at `what_was_acknowledged_stays`.
 //!
 //! `serve` alone calls `top`; every other function comes to it over one kind of disk. What leads from the program's
 //! records to a sentence stands in lemmas over these records alone, in proofs/, a file a sentence.

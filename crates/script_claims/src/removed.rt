@@ -21,14 +21,14 @@ use store_top::Status;
 pub struct Removal {
     /// How the first run ended.
     pub first: Status,
-    /// The bytes of the image behind it.
+    /// The bytes of the image after it.
     pub image: Vec<u8>,
     /// The second run.
     pub second: Ended,
 }
 
 /// Runs two scripts on a disk, one after the other. Where the first leaves nothing at a path, and the second works
-/// there and below it alone and prunes the path at last, the image behind the second is the one behind the first,
+/// there and below it alone and prunes the path at last, the image after the second is the one after the first,
 /// byte for byte, if both end with 0. The first image is then that of the tree that the first script leaves, and each
 /// line of the second was carried out.
 ///

@@ -39,7 +39,7 @@ fn upgrade_image(alloc: Global, disk: Disk, sink: MemSink) -> Result<Ended, Ende
 /// `version` on the first, the images are equal, byte for byte.
 ///
 /// `sink` is for the upgrade, which prints nothing. `Err` has the first call that did not end with 0, and no call is
-/// made behind it.
+/// made after it.
 pub fn an_upgraded_image_is_the_one_made_so(
     alloc: Global,
     format: &Words,
@@ -58,8 +58,7 @@ pub fn an_upgraded_image_is_the_one_made_so(
         → HaveSameArguments format.now format2.now
         → IfErr result (λ ended. StopsMaking p first.disk first.scripts.items first.sink ended
         ⊎ (StopsUpgrading first.scripts.items p ended
-        ⊎ StopsMaking (with_version p Two)
-        second.disk second.scripts.items second.sink ended)) }
+        ⊎ StopsMaking (with_version p Two) second.disk second.scripts.items second.sink ended)) }
 {
     let formatted = make_image(alloc, format, first)?;
     let upgraded = upgrade_image(alloc, formatted, sink)?;

@@ -7,6 +7,7 @@ pub mod LineLemmas
 pub mod Loops
 pub mod PathTexts
 pub mod Pieces
+pub mod Putting
 pub mod ReplyLemmas
 pub mod SameReplies
 pub mod Search

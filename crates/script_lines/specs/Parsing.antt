@@ -1,10 +1,11 @@
 -- What is read from the fields of a line, and the program's commands seen as those of the definitions.
 use Rattle.std.specs.Prelude.{◌≡◌, ℕ, ◌<◌, ◌≤◌, Bool, true, false, ◌||◌, List, [], ◌∷◌, length, Result, Ok, Err, Option}
-use Rattle.std.specs.Prelude.{Some, None, ◌==◌, codes}
+use Rattle.std.specs.Prelude.{Some, None, ◌==◌, ◌&&◌, nat_le, if◌then◌else◌, codes}
 use Rattle.std.specs.List.{slice_split}
 use Rattle.store_model.specs.Lists.{same_bytes}
 use Rattle.store_model.specs.Paths.{Path, fits_field}
-use Rattle.store_model.specs.Grammar.{path_of, number_of, content_of, attribute_name_of, ◌>>=◌, on_word}
+use Rattle.store_model.specs.Grammar.{path_of, number_of, is_numeral, digits_value, content_of, attribute_name_of}
+use Rattle.store_model.specs.Grammar.{◌>>=◌, on_word}
 use Rattle.store_model.specs.Commands as model
 use Rattle.store_model.specs.Commands.Command.{Make, Write, Cut, Rename, Remove, Prune, ListChildren, Read, Space}
 use Rattle.store_model.specs.Commands.Command.{Digest, SetAttribute, UnsetAttribute, GetAttribute, ListAttributes}
@@ -38,6 +39,14 @@ command_of (declared.Attrs p) = ListAttributes p
 abbrev pub reading_of : Result Command Refusal → Result model.Command Refusal
 reading_of (Ok c) = Ok (command_of c)
 reading_of (Err refusal) = Err refusal
+
+-- the greatest number of 64 bits
+abbrev pub long_limit : ℕ
+long_limit = 18446744073709551615
+
+-- the number of 64 bits that a text spells, as fields spell numbers
+unfoldable pub long_of : List ℕ → Option ℕ
+long_of text = if is_numeral text && nat_le (digits_value text) long_limit then Some (digits_value text) else None
 
 -- the parts of a line between its spaces
 abbrev pub parts_of : List ℕ → List (List ℕ)

@@ -35,3 +35,10 @@ pub record IsPut {T E : Type 0} (old new : SinkState) (bytes : List ℕ) (result
   -- a count stays at the last value of a u64
   pub last_fault : new.faults < 2 ^ 64
   pub observed : IsObservable old → PutsBytes old new bytes result
+
+-- A text is put out in some puts, perhaps in none, of which the first that fails is the last: then a prefix of it was
+-- put out, and the sink had one fault.
+pub record Puts {T E : Type 0} (old new : SinkState) (text : List ℕ) (result : Result T E) : Type 0 where
+  pub observable : new.is_observable ≡ old.is_observable
+  pub faults : new.faults ≡ faults_after old.faults result
+  pub observed : IsObservable old → PutsBytes old new text result

@@ -37,7 +37,8 @@ pub fn read_on_attribute(
     Ok(())
 }
 
-/// Reads the command of a word, a path, the name of an attribute, and bytes: the one that gives the path the attribute.
+/// Reads the command of a word, a path, the name of an attribute, and bytes: `set`, which gives the path the
+/// attribute.
 #[tactic(auto, unfolding(store_model::specs::Grammar::has_short_paths))]
 // Joined to its caller, its room would be cleared for other commands too.
 #[inline(never)]

@@ -13,7 +13,8 @@ use path_keys::{AttrName, Path};
 use store_base::Bytes;
 use store_model::Refusal;
 
-/// How many bytes of a `write` are few: to clear the room of as many as there may be takes longer than to decode them.
+/// Up to so many bytes, a `write` is decoded in a small room: to clear the large one would take longer than to
+/// decode.
 const FEW_BYTES: usize = 256;
 
 /// What a line of a script asks for.
@@ -23,7 +24,7 @@ pub enum Command {
     Make(Path),
     /// Puts bytes into a file from an offset on, over what is there and past its end.
     Write(Path, u32, Bytes),
-    /// Leaves the first bytes of a file, so many.
+    /// Cuts a file to its first bytes, so many.
     Cut(Path, u32),
     /// Moves a file or a subtree.
     Rename(Path, Path),
@@ -39,7 +40,7 @@ pub enum Command {
     Space,
     /// Asks for the digest of the image.
     Digest,
-    /// Gives a path an attribute with these bytes, in the stead of what it had by this name.
+    /// Sets an attribute of a path to these bytes. It replaces one of this name.
     Set(Path, AttrName, Bytes),
     /// Takes an attribute of a path away.
     Unset(Path, AttrName),
@@ -49,9 +50,9 @@ pub enum Command {
     Attrs(Path),
 }
 
-/// The command that a line spells.
-/// `Syntax`: the line spells none, however long paths may be. `Path`: it spells one, and a path in it has
-/// more than 120 bytes.
+/// Reads the command that a line spells.
+/// `Syntax`: the line spells none, however long paths may be. `Path`: it spells one, and a path in it has more than
+/// 120 bytes.
 pub fn parse_command(text: &[u8]) -> Result<Command, Refusal>
     requires { length text.now ≤ MAX_LINE }
     ensures { reading_of result ≡ parse text.now }
@@ -61,8 +62,8 @@ pub fn parse_command(text: &[u8]) -> Result<Command, Refusal>
     Ok(command)
 }
 
-/// Reads the command that a line spells, as `parse_command`, into the place of another: a command is large, and whoever
-/// reads one after another has one place for them all. After a refusal some command stands there.
+/// Reads the command that a line spells, as `parse_command` does, into `command`. A command is large, so a reader of
+/// many keeps one place for them all. After a refusal any command may stand there.
 #[tactic(auto, unfolding(store_model::specs::Grammar::parse, store_model::specs::Grammar::command_of, store_model::specs::Grammar::command_of_fields))]
 pub fn read_command(text: &[u8], command: &mut Command) -> Result<(), Refusal>
     requires { length text.now ≤ MAX_LINE }
@@ -236,7 +237,7 @@ fn read_write_in<const ROOM: usize>(
     Ok(())
 }
 
-/// Puts a `write` in the place of a command; where a `write` stands there, its bytes take the place of the other's.
+/// Puts a `write` into `command`; where a `write` stands there, its bytes take the place of the other's.
 fn put_write(path: Path, at: u32, bytes: &[u8], command: &mut Command)
     requires { length bytes.now ≤ Bytes.MAX_LEN }
     ensures { command_of command.new ≡ Write path at bytes.now }
@@ -250,7 +251,7 @@ fn put_write(path: Path, at: u32, bytes: &[u8], command: &mut Command)
     }
 }
 
-/// Makes a `write` in the place of another command.
+/// Makes a `write` in `command`.
 // Joined to `put_write`, its room for a command would be cleared also where a `write` stands there.
 #[inline(never)]
 fn make_write(path: Path, at: u32, bytes: &[u8], command: &mut Command)

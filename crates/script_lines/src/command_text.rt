@@ -6,7 +6,6 @@ ghost use Rattle.store_model.specs.Paths.{path_text};
 ghost use Rattle.store_model.specs.Commands.{command_text, content_text, line};
 ghost use Rattle.store_model.specs.Commands.Command.{Write, Rename, Read, SetAttribute};
 ghost use Rattle.script_lines.specs.Parsing.{command_of};
-ghost use Rattle.script_lines.specs.CommandLines.{names_text};
 ghost use Rattle.script_lines.specs.SinkState.{IsPut};
 
 use crate::command::Command;
@@ -172,7 +171,7 @@ fn begin_on_path(text: &mut Text, word: &[u8], path: &Path)
     ensures fits { length text.new ≤ length text.old + MAX_WORD + Path.MAX_LEN }
 {
     text.push(word);
-    push_path(text, path);
+    text.push_path(path);
 }
 
 /// Adds a space and a number, 11 bytes at most.
@@ -209,30 +208,4 @@ fn end_with_content(text: &mut Text, bytes: &[u8])
         text.push_hex(bytes);
     }
     text.push(b"\n");
-}
-
-/// Adds the text of a path, 120 bytes at most.
-#[tactic(auto, unfolding(store_model::specs::Paths::path_text))]
-fn push_path(text: &mut Text, path: &Path)
-    requires { length text.old + Path.MAX_LEN ≤ MAX_TEXT }
-    ensures value { text.new ≡ text.old ++ path_text path.now }
-    ensures fits { length text.new ≤ length text.old + Path.MAX_LEN }
-{
-    if path.is_root() {
-        text.push(b"/");
-    } else {
-        push_names(text, path);
-    }
-}
-
-/// Adds `/` and the name for each name of a path.
-fn push_names(text: &mut Text, path: &Path)
-    requires { length text.old + length (names_text path.now) ≤ MAX_TEXT }
-    ensures { text.new ≡ text.old ++ names_text path.now }
-{
-    if let Some(parent) = path.parent() {
-        push_names(text, &parent);
-        text.push(b"/");
-        text.push(path.name());
-    }
 }

@@ -7,7 +7,7 @@ ghost use Rattle.script_lines.specs.Sessions.{same_child, same_attribute};
 use std::alloc::Global;
 use store_base::{AttrEntries, Bytes, Entries, NoMemory};
 
-/// The same bytes once more.
+/// Copies the bytes.
 pub fn copied(bytes: &Bytes) -> Bytes
     ensures { result ≡ bytes.now }
 {
@@ -44,8 +44,8 @@ pub fn same_attributes(one: &AttrEntries, other: &AttrEntries) -> bool
     true
 }
 
-/// The same children once more.
-/// `NoMemory`: there was no room for them. There is one at least.
+/// Copies the children.
+/// `NoMemory`: there was no memory for them. It comes only where there is a child.
 pub fn copy_children(children: &Entries, alloc: Global) -> Result<Entries, NoMemory>
     ensures { MatchResult result (λ copy. copy ≡ children.now) (λ _. 0 < length children.now) }
 {
@@ -57,8 +57,8 @@ pub fn copy_children(children: &Entries, alloc: Global) -> Result<Entries, NoMem
     Ok(copy)
 }
 
-/// The same attributes once more.
-/// `NoMemory`: there was no room for them. There is one at least.
+/// Copies the attributes.
+/// `NoMemory`: there was no memory for them. It comes only where there is an attribute.
 pub fn copy_attributes(attributes: &AttrEntries, alloc: Global) -> Result<AttrEntries, NoMemory>
     ensures { MatchResult result (λ copy. copy ≡ attributes.now) (λ _. 0 < length attributes.now) }
 {

@@ -4,10 +4,9 @@ ghost use Rattle.std.specs.Prelude.{◌≡◌, ◌≤◌, ◌*◌, ◌/◌, ◌�
 ghost use Rattle.std.specs.Prelude.{IfSome, MatchOption};
 ghost use Rattle.std.specs.List.{list_all};
 ghost use Rattle.store_model.specs.Grammar.{number_of, content_of, ok_value, is_numeral, is_digit, digits_value};
-ghost use Rattle.store_model.specs.Grammar.{number_limit};
 ghost use Rattle.hex.specs.Hex.{decode_of};
 ghost use Rattle.script_lines.specs.Parsing.{parts_of, AreFields, FitFields, AreCallFields, FitCallFields, ReadsPath};
-ghost use Rattle.script_lines.specs.Parsing.{has_change_word, is_change_word};
+ghost use Rattle.script_lines.specs.Parsing.{has_change_word, is_change_word, long_limit, long_of};
 
 use crate::find::find_byte;
 use path_keys::{Path, PathFault};
@@ -41,7 +40,7 @@ fn cut_field(text: &[u8]) -> (&[u8], Option<&[u8]>)
     }
 }
 
-/// The fields of a line.
+/// Splits a line into its fields.
 pub fn split_fields(text: &[u8]) -> Fields<'_>
     ensures value { AreFields result (parts_of text.now) }
     ensures fits { FitFields (length text.now) result }
@@ -77,7 +76,7 @@ pub enum CallFields<'a> {
     More(&'a [u8], &'a [u8], &'a [u8]),
 }
 
-/// The fields of a session's line.
+/// Splits a session's line into its fields.
 pub fn split_call(text: &[u8]) -> CallFields<'_>
     ensures value { AreCallFields result (parts_of text.now) }
     ensures fits { FitCallFields (length text.now) result }
@@ -115,7 +114,7 @@ fn is_change_word(word: &[u8]) -> bool
         || word == b"unset".as_slice()
 }
 
-/// The path that a field spells.
+/// Reads the path that a field spells.
 pub fn read_path(text: &[u8]) -> Result<Path, Refusal>
     ensures { ReadsPath text.now result }
 {
@@ -144,12 +143,21 @@ fn are_digits(text: &[u8]) -> bool
     text.iter().all(u8::is_ascii_digit)
 }
 
-/// The number that a text spells, 0 to 4,294,967,295: one or more of the digits `0` to `9`, the highest
-/// first, with no leading zero but `0` itself, and nothing else: no sign, no space, no separator.
-/// `None` exactly where the text spells no number, or a greater one. It takes no memory.
-#[tactic(auto, unfolding(store_model::specs::Grammar::number_of))]
+/// Reads the number that a text spells, 0 to 4,294,967,295: one or more of the digits `0` to `9`, the highest first,
+/// with no leading zero but `0` itself, and nothing else: no sign, no space, no separator. `None` exactly where the
+/// text spells no number, or a greater one. It takes no memory.
 pub fn parse_number(text: &[u8]) -> Option<u32>
     ensures { result ≡ number_of text.now }
+{
+    let number = parse_long(text)?;
+    u32::try_from(number).ok()
+}
+
+/// Reads the number that a text spells in the same way, 0 to 18,446,744,073,709,551,615. `None` exactly where the text
+/// spells no number, or a greater one. It takes no memory.
+#[tactic(auto, unfolding(crate::specs::Parsing::long_of))]
+pub fn parse_long(text: &[u8]) -> Option<u64>
+    ensures { result ≡ long_of text.now }
 {
     if !is_numeral(text) {
         return None;
@@ -157,23 +165,22 @@ pub fn parse_number(text: &[u8]) -> Option<u32>
     digits_value(text)
 }
 
-/// The number that digits spell, where it is at most 4,294,967,295.
-fn digits_value(digits: &[u8]) -> Option<u32>
+/// The number that digits spell, where it has 64 bits.
+fn digits_value(digits: &[u8]) -> Option<u64>
     requires { list_all is_digit digits.now ≡ true }
-    ensures { result
-        ≡ (if nat_le (digits_value digits.now) number_limit then Some
+    ensures { result ≡ (if nat_le (digits_value digits.now) long_limit then Some
         (digits_value digits.now) else None) }
 {
-    let mut value = 0u32;
+    let mut value = 0u64;
     for digit in digits {
         let tens = value.checked_mul(10)?;
-        value = tens.checked_add(u32::from(*digit - b'0'))?;
+        value = tens.checked_add(u64::from(*digit - b'0'))?;
     }
     Some(value)
 }
 
-/// The bytes that a field spells, in the room that is lent, a byte for two of the field: `-` for none, or pairs of
-/// hexadecimal digits of either case.
+/// Reads the bytes that a field spells, into the room that is lent, a byte for two of the field: `-` for none, or
+/// pairs of hexadecimal digits of either case.
 pub fn read_bytes<'a>(text: &[u8], room: &'a mut [u8]) -> Option<&'a [u8]>
     requires { length text.now ≤ 2 * length room.old }
     ensures value { MatchOption result (content_of text.now ≡ None)

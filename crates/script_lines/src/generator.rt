@@ -31,7 +31,7 @@ impl Model for Generator {
 }
 
 impl Generator {
-    /// The commands of this number, of which none was given yet.
+    /// The commands of this number, from the first on.
     pub fn new(number: u32) -> Self
         ensures { result ≡ model.state_after number 0 }
     {
@@ -40,7 +40,7 @@ impl Generator {
         }
     }
 
-    /// The next command.
+    /// Gives the next command.
     pub fn next(&mut self) -> Command
         ensures state { (number place : ℕ) → self.old ≡ model.state_after number place
             → self.new ≡ model.state_after number (place + 1) }
@@ -52,7 +52,7 @@ impl Generator {
     }
 }
 
-/// One step.
+/// One step of the linear congruential generator of Knuth's MMIX.
 fn next_state(state: u64) -> u64
     ensures { result ≡ model.next_state state }
 {

@@ -1,5 +1,5 @@
-//! What stands between a script or a session and the store: sources and sinks of bytes, the lines of both, the commands
-//! that they spell, and the text of answers, replies and reports.
+//! What stands between a script or a session and the store: sources and sinks of bytes, lines, the commands that they
+//! spell, and the text of replies. Start at `LineReader`, `Command` and `Reply`.
 #![tactic(auto)]
 
 mod attributes;
@@ -24,7 +24,7 @@ mod text;
 pub use command::{Command, parse_command, read_command};
 pub use command_text::{write_command, write_piece};
 pub use fault::{SinkFault, SourceFault};
-pub use fields::parse_number;
+pub use fields::{parse_long, parse_number};
 pub use generator::Generator;
 pub use lines::{Line, LineFault, LineReader, MAX_LINE, MAX_SCRIPT};
 pub use memory::{MemSink, MemSource};

@@ -48,7 +48,7 @@ pub enum LineFault {
 }
 
 /// Reads the lines of a script one after another. A script is cut at each LF, bytes after the last LF are
-/// a line, and empty lines are passed over. All of its room is taken as it is made.
+/// a line, and empty lines are passed over. All of its memory is taken when it is made.
 #[derive(Drop)]
 pub struct LineReader<R: Source> {
     source: R,
@@ -73,9 +73,9 @@ impl<R: Source> Model for LineReader<R> {
     ghost view = { λ r. record {
       source = r.source;
       held = take (r.end - r.start) (drop r.start r.buffer.items);
-      taken =
-          r.taken;
-      limit = r.limit;
+      taken = r.taken;
+      limit =
+          r.limit;
       is_ended = r.is_ended;
       is_live = r.is_live;
       text =
@@ -98,8 +98,7 @@ impl<R: Source> LineReader<R> {
           held = [];
           taken = 0;
           limit = MAX_SCRIPT;
-          is_ended =
-              false;
+          is_ended = false;
           is_live = true;
           text = [];
         }) }
@@ -116,8 +115,7 @@ impl<R: Source> LineReader<R> {
           held = [];
           taken = 0;
           limit = limit;
-          is_ended =
-              false;
+          is_ended = false;
           is_live = true;
           text = [];
         }) }
@@ -155,7 +153,7 @@ impl<R: Source> LineReader<R> {
         &self.buffer[self.text_start..self.text_end]
     }
 
-    /// The source.
+    /// Gives the source back.
     pub fn into_source(self) -> R
         ensures { result ≡ self.source }
     {
@@ -193,12 +191,11 @@ impl<R: Source> LineReader<R> {
     /// Answers the line of this length, which an LF ends.
     fn answer(&mut self, line_len: usize) -> Line
         requires { line_len < length self.old.held }
-        ensures state { self.new
-            ≡ record self.old {
-              held = drop (line_len + 1) self.old.held;
-              text =
-                  (if nat_lt MAX_LINE line_len then [] else take line_len self.old.held);
-            } }
+        ensures state { self.new ≡ record self.old {
+          held = drop (line_len + 1) self.old.held;
+          text =
+              (if nat_lt MAX_LINE line_len then [] else take line_len self.old.held);
+        } }
         ensures answer { result ≡ (if nat_lt MAX_LINE line_len then Line.Long else Line.Text) }
     {
         self.text_start = self.start;
@@ -291,12 +288,12 @@ impl<R: Source> LineReader<R> {
         }
     }
 
-    /// The next line of the script. Bytes are taken only where no whole line is held, and none after the
+    /// Reads the next line of the script. It takes bytes only where no whole line is held, and none after the
     /// source's end.
     /// `Source`: a take failed, and nothing was taken after it. `TooLong`: as many bytes were taken as a
-    /// script may have, and one more came. After either the reader is not live. In both cases each line
-    /// that an LF ended among the bytes taken, or allowed, was answered; one in progress is not. After `End`
-    /// the answer is `End` again.
+    /// script may have, and one more came. After either the reader is not live. Each line that an LF ended among the
+    /// bytes taken, or allowed, was answered before. A line in progress is not answered. After `End` the answer is
+    /// `End` again.
     pub fn next_line(&mut self) -> Result<Line, LineFault>
         requires { IsTrue self.old.is_live }
         ensures source { KeepsSource (R.state self.old.source) (R.state self.new.source) result }

@@ -1,5 +1,5 @@
-//! A source and a sink in memory, whose calls fail where they are told to. What they mean is computed from
-//! what they keep.
+//! A source and a sink in memory, some of whose calls fail on purpose. What they mean is computed from what they
+//! keep.
 
 ghost use Rattle.std.specs.Prelude.{◌≡◌, ◌≤◌, ◌↔◌, IsOk, IsErr, IfOk, OnOk, OnErr, Contains, length};
 ghost use Rattle.script_lines.specs.SourceState.{IsTake};
@@ -34,9 +34,9 @@ impl Model for MemSource {
     ghost view = { λ s. record {
       left = drop s.start s.bytes.items;
       pieces = s.pieces.items;
-      failing =
-          s.failing.items;
-      takes = s.takes;
+      failing = s.failing.items;
+      takes =
+          s.takes;
       faults = s.faults;
     } };
 
@@ -44,15 +44,14 @@ impl Model for MemSource {
 }
 
 impl MemSource {
-    /// A source that has these bytes. Its take number `k`, from 0, gives at most `pieces[k]` bytes, though
-    /// at least 1 where one is left, and as many as asked for once the pieces are used up; it fails exactly
-    /// where `k` stands in `failing`.
+    /// A source that has these bytes. Its takes are numbered from 0. Take `k` gives at most `pieces[k]` bytes, though
+    /// at least 1 where one is left. Once the pieces are used up, a take gives as many as it asks for. It fails
+    /// exactly where `k` stands in `failing`.
     pub fn new(bytes: Vec<u8>, pieces: Vec<usize>, failing: Vec<u64>) -> Self
         ensures { result ≡ record {
           left = bytes.items;
           pieces = pieces.items;
-          failing =
-              failing.items;
+          failing = failing.items;
           takes = 0;
           faults = 0;
         } }
@@ -125,8 +124,7 @@ impl Model for MemSink {
       written = s.written.items;
       room = s.room;
       failing = s.failing.items;
-      puts =
-          s.puts;
+      puts = s.puts;
       faults = s.faults;
     } };
 
@@ -136,9 +134,9 @@ impl Model for MemSink {
 impl MemSink {
     ghost use Rattle.std.specs.Prelude.{◌≡◌, IfOk, []};
 
-    /// A sink to which nothing was written, with room for so many bytes, all of it taken here. `failing`
-    /// has the numbers, from 0, of the puts that fail; a put fails too where it has more bytes than there is
-    /// room for, and none other does. One that fails appends nothing.
+    /// An empty sink with room for so many bytes, all of it taken here. `failing` has the numbers, from 0, of the
+    /// puts that fail. A put fails too where it has more bytes than there is room for, and no other does. A put that
+    /// fails appends nothing.
     /// `NoMemory`: there is no sink.
     pub fn new(alloc: Global, room: usize, failing: Vec<u64>) -> Result<Self, NoMemory>
         ensures { IfOk result (λ sink. sink ≡ record {

@@ -39,8 +39,8 @@ fn reveal_bytes(bytes: &Bytes)
     let _ = bytes.as_slice();
 }
 
-/// Tells that a command is one of the definitions': its paths are paths, its names are
-/// names of attributes, its numbers have 32 bits, its bytes are bytes.
+/// Tells the prover that a command is one of the definitions': its paths are paths, its names are names of
+/// attributes, its numbers have 32 bits, its bytes are bytes.
 /// It is called for this fact alone, and costs nothing.
 pub fn reveal(command: &Command)
     ensures { IsCommand (command_of command.now) }

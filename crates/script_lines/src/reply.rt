@@ -47,7 +47,7 @@ pub enum Reply {
 }
 
 impl Reply {
-    /// Puts `Ok` in its place. A reply is large, and none is made where `Ok` stands there.
+    /// Puts `Ok` in its place. A reply is large, so none is made where `Ok` stands there already.
     pub fn put_ok(&mut self)
         ensures { self.new ≡ Reply.Ok }
     {
@@ -98,8 +98,8 @@ impl Reply {
         }
     }
 
-    /// The same reply once more.
-    /// `NoMemory`: there was no room for its listing, which has an entry at least.
+    /// Copies the reply.
+    /// `NoMemory`: there was no memory for its listing. It comes only where that has an entry.
     pub fn copy(&self, alloc: Global) -> Result<Reply, NoMemory>
         ensures { MatchResult result (λ copy. copy ≡ self.now)
             (λ _. HasEntries (reply_of self.now)) }
@@ -305,7 +305,7 @@ fn push_attribute(text: &mut Text, name: &[u8], size: u32)
     text.push(b"\n");
 }
 
-/// Puts the text out where a child's line might not fit behind it.
+/// Writes the text out and empties it, where a child's line might not fit behind it.
 fn make_room<W: Sink>(sink: &mut W, text: &mut Text) -> Result<(), SinkFault>
     ensures puts { MakesRoom (W.state sink.old) (W.state sink.new) text.old text.new result }
     ensures room { OnOk result (length text.new + MAX_CHILD ≤ MAX_TEXT) }

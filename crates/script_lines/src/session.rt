@@ -34,7 +34,7 @@ pub enum Question {
 }
 
 impl Question {
-    /// The command that it is.
+    /// The question as a command.
     pub fn command(&self) -> Command
         ensures { command_of result ≡ question_of self.now }
     {
@@ -48,7 +48,7 @@ impl Question {
         }
     }
 
-    /// The same question once more. It takes no memory.
+    /// Copies the question. It takes no memory.
     pub fn copy(&self) -> Question
         ensures { result ≡ self.now }
     {
@@ -70,7 +70,7 @@ pub enum Change {
     Make(Path),
     /// Puts bytes into a file from an offset on, over what is there and past its end.
     Write(Path, u32, Bytes),
-    /// Leaves the first bytes of a file, so many.
+    /// Cuts a file to its first bytes, so many.
     Cut(Path, u32),
     /// Moves a file or a subtree.
     Rename(Path, Path),
@@ -78,14 +78,14 @@ pub enum Change {
     Remove(Path),
     /// Takes away a path and all below it.
     Prune(Path),
-    /// Gives a path an attribute with these bytes, in the stead of what it had by this name.
+    /// Sets an attribute of a path to these bytes. It replaces one of this name.
     Set(Path, AttrName, Bytes),
     /// Takes an attribute of a path away.
     Unset(Path, AttrName),
 }
 
 impl Change {
-    /// The command that it is.
+    /// The change as a command.
     pub fn command(&self) -> Command
         ensures { command_of result ≡ change_of self.now }
     {
@@ -101,7 +101,7 @@ impl Change {
         }
     }
 
-    /// The same change once more. It takes no memory.
+    /// Copies the change. It takes no memory.
     pub fn copy(&self) -> Change
         ensures { result ≡ self.now }
     {
@@ -133,7 +133,7 @@ pub enum SessionLine {
     Leave(u32),
 }
 
-/// What a line of a session asks for.
+/// Reads what a line of a session asks for.
 /// `Syntax`: the line spells nothing, however long paths may be. `Path`: it does, and a path in it has more than 120
 /// bytes. It takes no memory.
 pub fn parse_session(text: &[u8]) -> Result<SessionLine, Refusal>
@@ -146,9 +146,9 @@ pub fn parse_session(text: &[u8]) -> Result<SessionLine, Refusal>
     Ok(line)
 }
 
-/// Reads what a line of a session asks for, as `parse_session`, into the place of another line; a command in it is read
-/// in a place of its own. Both are large, and whoever reads one line after another has these two places for them all.
-/// Behind the call any command stands in the second place, and after a refusal any line in the first.
+/// Reads what a line of a session asks for, as `parse_session` does, into `line`. A command in it is read in
+/// `command`. Both are large, so a reader of many lines keeps these two places for them all. After the call any
+/// command may stand in `command`, and after a refusal any line in `line`.
 pub fn read_session_line(
     text: &[u8],
     command: &mut Command,
@@ -260,7 +260,7 @@ fn read_stage(
     }
 }
 
-/// Puts the line that asks the question which a command is in the place of another line.
+/// Replaces a line by the one that asks this command. `Syntax`: the command is no question.
 fn put_question(number: u32, command: &Command, line: &mut SessionLine) -> Result<(), Refusal>
     ensures { session_reading_of (in_place line.new result)
         ≡ call_that is_question (Ask number) (command_of command.now) }
@@ -277,7 +277,7 @@ fn put_question(number: u32, command: &Command, line: &mut SessionLine) -> Resul
     Ok(())
 }
 
-/// Makes the line that asks a question in the place of another line.
+/// Makes the line that asks a question, in `line`.
 // Joined to `put_question`, its room for a line would be cleared also where a question stands there.
 #[inline(never)]
 fn make_ask(number: u32, question: Question, line: &mut SessionLine)
@@ -302,7 +302,7 @@ fn question_from(command: &Command) -> Option<Question>
     }
 }
 
-/// Puts the line that stages the change which a command is in the place of another line; where a `write` is staged
+/// Replaces a line by the one that stages this command. `Syntax`: the command is no change. Where a `write` is staged
 /// there, its bytes take the place of the other's.
 fn put_change(number: u32, command: &Command, line: &mut SessionLine) -> Result<(), Refusal>
     ensures { session_reading_of (in_place line.new result)
@@ -322,7 +322,7 @@ fn put_change(number: u32, command: &Command, line: &mut SessionLine) -> Result<
     make_stage(number, command, line)
 }
 
-/// Makes the line that stages the change which a command is in the place of another line.
+/// Makes the line that stages this command, in `line`. `Syntax`: the command is no change.
 // Joined to `put_change`, its room for a line would be cleared also where a `write` takes the place of another.
 #[inline(never)]
 fn make_stage(number: u32, command: &Command, line: &mut SessionLine) -> Result<(), Refusal>

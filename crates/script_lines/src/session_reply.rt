@@ -23,13 +23,13 @@ pub enum SessionReply {
     Answer(Reply),
     /// A change was staged, a group was committed, or a session was dropped.
     Done,
-    /// A question is answered otherwise than it was; nothing was carried out.
+    /// A question now has another answer than it had; nothing was carried out.
     Conflict {
         /// The number of the question, from 0.
         question: u32,
-        /// What it was answered.
+        /// The reply that it had.
         was: Reply,
-        /// What it is answered now.
+        /// The reply that it has now.
         now: Reply,
     },
     /// A change is refused; nothing was carried out.

@@ -32,7 +32,7 @@ impl<R> StdSource<R> {
         StdSource { reader, faults: 0 }
     }
 
-    /// The reader.
+    /// Gives the reader back.
     pub fn into_inner(self) -> R
         ensures { result ≡ self.inner }
     {
@@ -93,7 +93,7 @@ impl<W> StdSink<W> {
         StdSink { writer, faults: 0 }
     }
 
-    /// The writer.
+    /// Gives the writer back.
     pub fn into_inner(self) -> W
         ensures { result ≡ self.inner }
     {

@@ -3,9 +3,12 @@
 ghost use Rattle.std.specs.Prelude.{◌≡◌, ◌≤◌, ◌+◌, ◌*◌, ◌++◌, ◌∷◌, [], length};
 ghost use Rattle.std.specs.Fmt.{decimal};
 ghost use Rattle.hex.specs.Hex.{encode_lower};
+ghost use Rattle.store_model.specs.Paths.{path_text};
+ghost use Rattle.script_lines.specs.CommandLines.{names_text};
 
 use arrayvec::ArrayVec;
 use itoa::Buffer;
+use path_keys::Path;
 use std::marker::Model;
 use store_base::Bytes;
 
@@ -30,7 +33,7 @@ impl Model for Text {
 }
 
 impl Text {
-    /// No text.
+    /// An empty text.
     pub fn new() -> Self
         ensures { result ≡ [] }
     {
@@ -53,7 +56,7 @@ impl Text {
         self.bytes.len()
     }
 
-    /// Leaves no text.
+    /// Empties the text.
     pub(crate) fn clear(&mut self)
         ensures { self.new ≡ [] }
     {
@@ -88,6 +91,32 @@ impl Text {
     {
         let mut digits = Buffer::new();
         self.push(digits.format(number).as_bytes());
+    }
+
+    /// Adds the text of a path, 120 bytes at most.
+    #[tactic(auto, unfolding(store_model::specs::Paths::path_text))]
+    pub fn push_path(&mut self, path: &Path)
+        requires { length self.old + Path.MAX_LEN ≤ MAX_TEXT }
+        ensures value { self.new ≡ self.old ++ path_text path.now }
+        ensures fits { length self.new ≤ length self.old + Path.MAX_LEN }
+    {
+        if path.is_root() {
+            self.push(b"/");
+        } else {
+            self.push_names(path);
+        }
+    }
+
+    /// Adds `/` and the name for each name of a path.
+    fn push_names(&mut self, path: &Path)
+        requires { length self.old + length (names_text path.now) ≤ MAX_TEXT }
+        ensures { self.new ≡ self.old ++ names_text path.now }
+    {
+        if let Some(parent) = path.parent() {
+            self.push_names(&parent);
+            self.push(b"/");
+            self.push(path.name());
+        }
     }
 
     /// Adds two lower-case hexadecimal digits for each byte.

@@ -25,7 +25,7 @@ pub record ScrubsImage {T E : Type 0} (slots : ℕ) (old new : DiskState) (resul
 abbrev pub writes_to_scrub : ℕ → List ℕ → ℕ
 writes_to_scrub slots image = opening_writes slots image + scrub_writes (recovered_slot slots image) slots
 
--- A scrub makes just these writes, and as many syncs as opening the image: one behind the last slot stands in place of
+-- A scrub makes just these writes, and as many syncs as opening the image: one after the last slot stands in place of
 -- the one before the check. With a fault it makes no more.
 pub record CountsScrub {T E : Type 0} (slots : ℕ) (old new : DiskState) (result : Result T E) : Type 0 where
   pub made : OnOk result (Made (writes_to_scrub slots old.bytes) (opening_syncs slots old.bytes) old new)

@@ -37,8 +37,8 @@ fn answer_of(scrubbed: Result<(), DiskFault>, verdict: Verdict) -> Result<Verdic
     Ok(verdict)
 }
 
-/// Makes an image what scrubbing leaves of it, where that is the layout of a tree: recovers its journal, and makes each
-/// free slot of the table zero (its byte 0 is 0 already). The disk is handed back.
+/// Scrubs an image, where that leaves the layout of a tree: recovers its journal, and makes each free slot of the
+/// table zero (its byte 0 is 0 already). The disk is handed back.
 ///
 /// `NotImage` is the answer to a disk whose header, as recovery would leave it, is that of no image of its length, and
 /// to no other; `Damaged` that to any other disk of which scrubbing would leave the layout of no tree. Then nothing was

@@ -1,4 +1,4 @@
-//! The repair of an image: the journal is recovered, and each free slot of the table is made zero.
+//! The repair of an image: recovers the journal, and makes each free slot of the table zero. Start at `scrub`.
 //!
 //! A slot whose byte 0 is 0 is free. In the layout of a tree it is zero throughout, so what stands behind that byte is
 //! a trace of no tree. The image that scrubbing would leave is checked first, through a view; only where it is the

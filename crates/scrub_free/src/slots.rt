@@ -31,8 +31,8 @@ fn scrub_slot<D: Disk>(disk: &mut D, slots: u32, slot: u32) -> Result<(), DiskFa
     ensures reaches { IsObservable (D.state disk.old)
         → Reaches (OutsideFreeSlot slots slot (D.state disk.old).bytes)
         (λ image. table_slot slots image slot
-        ≡ scrubbed_block (table_slot slots (D.state disk.old).bytes slot)) (D.state disk.old)
-        (D.state disk.new) result }
+        ≡ scrubbed_block (table_slot slots (D.state disk.old).bytes slot))
+        (D.state disk.old) (D.state disk.new) result }
     ensures makes { IsObservable (D.state disk.old)
         → Makes (block_writes (table_slot slots (D.state disk.old).bytes slot)) 0 (D.state disk.old)
         (D.state disk.new) result }
@@ -57,12 +57,13 @@ pub fn scrub_slots<D: Disk>(disk: &mut D, slots: u32, clean: u32) -> Result<(), 
     ensures call { IsCall (D.state disk.old) (D.state disk.new) result }
     ensures reaches { IsObservable (D.state disk.old)
         → Reaches (OutsideFree slots (D.state disk.old).bytes)
-        (AreScrubbed slots slots (D.state disk.old).bytes) (D.state disk.old)
-        (D.state disk.new) result }
+        (AreScrubbed slots slots (D.state disk.old).bytes)
+        (D.state disk.old) (D.state disk.new) result }
     ensures durable { IsObservable (D.state disk.old) → OnOk result (IsDurable (D.state disk.new)) }
     ensures makes { IsObservable (D.state disk.old)
         → Makes (scrub_writes (table_slot slots (D.state disk.old).bytes) slots) 1
-        (D.state disk.old) (D.state disk.new) result }
+        (D.state disk.old)
+        (D.state disk.new) result }
 {
     for slot in clean..slots {
         scrub_slot(disk, slots, slot)?;

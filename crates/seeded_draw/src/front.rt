@@ -31,7 +31,7 @@ fn copy_of(hasher: &Sha256) -> Sha256
 }
 
 impl Front {
-    /// What is digested first are zeros.
+    /// Makes the front of a message that begins with zeros.
     pub fn new() -> Front {
         let bytes = [0; FRONT_LEN];
         Front {

@@ -1,5 +1,5 @@
 //! The draws of the store: where the probe sequence of a page's label starts, and on how many levels of
-//! the lists a key stands. Everything above is proved for any type with the trait `Draw`.
+//! the lists a key stands. Start at `Draw`: the crates above are proved for any type with this trait.
 #![tactic(auto)]
 
 mod any;

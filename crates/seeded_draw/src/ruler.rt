@@ -11,8 +11,9 @@ use crate::front::Front;
 use crate::sha::number_of_digest;
 use store_base::{Key, Label, Params};
 
-/// The draw `ruler`, with which small images can be worked out by hand. A label starts at its bytes' sum, counted
-/// round the table, and each letter `U` in the path of a key lifts it by a level, up to the highest.
+/// The draw `ruler`, with which small images can be worked out by hand. A label starts at the sum of its bytes,
+/// modulo the number of slots. In a key with the block number 0 each letter `U` of its field lifts it by a level, up
+/// to the highest. Every other key stands on level 0 alone.
 #[derive(Clone, Copy, Debug)]
 pub struct RulerDraw {
     slots: u32,

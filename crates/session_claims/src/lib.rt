@@ -1,6 +1,6 @@
-//! The mission's sentences about sessions: proved functions over disks, sources and sinks in memory that call the
-//! program with the word `session`, and whose contracts a keeper of ballots understands. They speak of bytes, scripts,
-//! replies, statuses and trees, and of the groups of changes that lines commit.
+//! The sentences about sessions (docs/PROMISES.md). Each is a proved function over disks, sources and sinks in memory
+//! that calls the program with the word `session`. Its contract says the sentence in bytes, scripts, replies,
+//! statuses and trees, and of the groups of changes that lines commit. Start at `what_a_session_acknowledged_stays`.
 //!
 //! `hold` alone calls the program; every other function comes to it. What leads from the program's record to a
 //! sentence stands in lemmas over this record alone, in proofs/.

@@ -99,7 +99,8 @@ first_difference p t (note ∷ notes) =
     later None = None
     later (Some found) = Some (suc found.0, found.1, found.2)
 
--- a commit: each question is answered as it was, and then each change is acknowledged; or the first that is not is told
+-- what a commit answers: `Done` where each question is answered as it was and then each change is acknowledged, and
+-- else the first that is not
 abbrev pub commit_answer : Parameters → Tree → Session → SessionAnswer
 commit_answer p t session = by_questions (first_difference p t session.asked)
   where
@@ -125,7 +126,7 @@ answered p m call = unwrap_or (turned_away m.places call) (served p m call)
 
 -- ---- what stands then
 
--- the sessions behind a call that was answered so: a note or a change comes last, and a commit and a drop end their
+-- the sessions after a call that was answered so: a note or a change comes last, and a commit and a drop end their
 -- session
 abbrev pub places_after : Places → SessionCall → SessionAnswer → Places
 places_after places Begin (Began id) = slice_set places id (Some new_session)
@@ -141,7 +142,7 @@ places_after places (Commit id) (RefusedAt k refusal) = slice_set places id None
 places_after places (Leave id) Done = slice_set places id None
 places_after places call answer = places
 
--- the tree behind a call that was answered so: that of the whole group where it was committed
+-- the tree after a call that was answered so: that of the whole group where it was committed
 abbrev pub tree_after_call : Parameters → Machine → SessionCall → SessionAnswer → Tree
 tree_after_call p m (Commit id) Done = group_tree p m.tree (the_session m.places id).staged
 tree_after_call p m call answer = m.tree
@@ -154,7 +155,7 @@ turn p m call =
 
 -- ---- faults and crashes
 
--- The machine, and whether it is stopped: a crash came, or a fault at a write or a sync, or behind one. Then nothing
+-- The machine, and whether it is stopped: a crash came, or a fault at a write or a sync, or after one. Then nothing
 -- goes on before the image is attached.
 pub record World : Type 0 where
   pub machine : Machine
@@ -170,7 +171,7 @@ pub data Event : Type 0 where
   Acts : SessionCall → Event
   -- a call that ends by a fault, with nothing written or synced
   Fails : SessionCall → Event
-  -- a crash in a call, or a fault at a write or a sync or behind one: what it had to commit landed, or did not, as
+  -- a crash in a call, or a fault at a write or a sync or after one: what it had to commit landed, or did not, as
   -- the next attachment finds; its sessions can be asked nothing more
   Breaks : SessionCall → Bool → Event
   -- a crash between two calls

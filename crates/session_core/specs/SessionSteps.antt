@@ -84,7 +84,7 @@ module _ {D : Type 0} (state : D → DiskState) (question : Command) (old new : 
   AsksSession session now (Err causes.Many) = (note_limit ≤ length session.asked) × (new ≡ old) × (now ≡ Some session)
   AsksSession session now (Err causes.Disk) = (length session.asked < note_limit)
       × Applies state question old new (Err apply.Disk) × (now ≡ Some session)
-  -- memory ran out in the store, or behind its answer
+  -- memory ran out in the store, or after its answer
   AsksSession session now (Err causes.NoMemory) =
       (length session.asked < note_limit)
       × (Applies state question old new (Err apply.NoMemory)
@@ -102,7 +102,7 @@ abbrev pub difference_at : List Note → model.Reply → Option ℕ → Option (
 difference_at notes now None = None
 difference_at notes now (Some number) = option_map (λ (note : Note). (number, note.1, now)) (slice_get notes number)
 
--- the tree behind the commit of a session
+-- the tree after the commit of a session
 abbrev pub committed_tree : Parameters → Tree → Session → Tree
 committed_tree p t session = behind (first_difference p t session.asked)
   where

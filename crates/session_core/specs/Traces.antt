@@ -98,7 +98,8 @@ is_live id (entry ∷ before) = if begins id entry then true else if ends id ent
 
 -- ---- the law
 
--- Whatever is called, fails, crashes and is attached, the tree is that of one serial run of the groups committed.
+-- In every history of calls, faults, crashes and attachments, the tree is that of one serial run of the groups
+-- committed.
 pub record IsSerial (p : Parameters) (t : Tree) (events : List Event) : Type 0 where
   pub tree : (world_after p t events).machine.tree ≡ serial_tree p t (groups (trace p t events))
   -- none of their changes is refused in that run: each group is in it whole

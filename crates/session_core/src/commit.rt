@@ -18,14 +18,14 @@ use store_core::{ApplyFault, GroupAnswer, Store};
 impl<D: Disk> Sessions<D> {
     /// Commits the group of a session. Each of its questions is asked again. Where all are answered as they were, its
     /// changes are carried out as `Store::apply_all` does: all of them, durable at the return, or none where one is
-    /// refused. With each answer that is no fault the session has ended.
+    /// refused. Each answer that is no fault ends the session.
     ///
     /// A group that changes d slots makes 5d + 2 writes and 5 syncs; a conflict, a refusal and a group that changes no
     /// slot make none. Each image that a crash at any moment of the call may leave represents the tree before the whole
     /// group or the one after it.
     ///
     /// `Stopped`, exactly where the store is stopped. `Unknown`, exactly where no live session has the number. Then
-    /// `Disk` and `NoMemory`, as of `Store::apply_all`: the session stays live, and unless the store is stopped
+    /// `Disk` and `NoMemory`, as from `Store::apply_all`: the session stays live, and unless the store is stopped
     /// nothing was written.
     pub fn commit(&mut self, id: u32) -> Result<Committed, SessionFault>
         ensures call { CallsSessions D.state (Commit id) committed_answer self.old self.new result }
@@ -35,8 +35,8 @@ impl<D: Disk> Sessions<D> {
     }
 }
 
-/// Commits the group of the session in a place, which is empty behind each answer. `Unknown`, exactly where none is
-/// live there. After a fault the place is as it was.
+/// Commits the group of the session in a place. After an answer the place is empty. `Unknown`, exactly where no
+/// session is live there. After a fault the place is as it was.
 fn commit_in<D: Disk>(
     store: &mut Store<D>,
     place: &mut Option<Session>,
@@ -77,10 +77,10 @@ fn commit_session<D: Disk>(
     }
 }
 
-/// Asks noted questions again, one after another, in the place of a reply: up to the first that is answered otherwise
-/// than is noted. Its number is told, and its answer stands in the place.
+/// Asks noted questions again, one after another, up to the first whose answer is not the one noted. It gives the
+/// number of that question, whose answer then stands in `now`.
 ///
-/// `Disk` and `NoMemory`, as of `Store::apply`.
+/// `Disk` and `NoMemory`, as from `Store::apply`.
 fn first_difference<D: Disk>(
     store: &mut Store<D>,
     notes: &[Note],

@@ -8,13 +8,13 @@ use store_model::Refusal;
 pub enum Committed {
     /// The changes were carried out together, and are durable.
     Ok,
-    /// A question is answered otherwise than it was, and nothing was carried out.
+    /// A question has another answer than it had, and nothing was carried out.
     Conflict {
         /// The number of the first such question, from 0.
         question: u32,
-        /// What it was answered.
+        /// The reply that it had.
         was: Reply,
-        /// What it is answered now.
+        /// The reply that it has now.
         now: Reply,
     },
     /// A change is refused where they are carried out one after another, and nothing was carried out.

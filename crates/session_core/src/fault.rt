@@ -8,23 +8,23 @@ use store_base::NoMemory;
 use store_core::ApplyFault;
 use thiserror::Error;
 
-/// Why a call on sessions gave no answer: the sessions are as they were. Of the first four the first that holds is
-/// told, and before either of the last two.
+/// Why a call on sessions gave no answer. The sessions are as they were. Of the first four a call answers the first
+/// that holds, and it answers these before `Disk` or `NoMemory`.
 #[derive(Clone, Copy, Debug, PartialEq, Eq, Error)]
 pub enum SessionFault {
     /// The store is stopped, and nothing was called.
     #[error("the store is stopped")]
     Stopped,
-    /// As many sessions are live as may be.
+    /// 64 sessions are live, the most there may be.
     #[error("too many sessions")]
     Crowded,
     /// No live session has the number.
     #[error("no such session")]
     Unknown,
-    /// The session has as many questions, or changes, as it may have.
+    /// The session has 64 questions, or 64 changes, the most it may have.
     #[error("too many questions or changes")]
     Many,
-    /// The disk failed. The store is stopped where that came at a write or a sync, or behind one.
+    /// The disk failed. The store is stopped where that came at a write or a sync, or after one.
     #[error("the disk failed")]
     Disk,
     /// Memory ran out. Nothing was written.

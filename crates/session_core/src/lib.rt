@@ -1,8 +1,8 @@
-//! Sessions over a store: each asks questions and stages changes, and its group is committed whole or not at all, and
-//! only where its questions still have the answers that they had.
+//! Sessions over a store. A session asks questions and stages changes. Its commit carries out all of these changes or
+//! none, and only where its questions still have the answers that they had.
 //!
-//! At most 64 sessions are live at a time, each under a number. A question sees the tree as it was last committed, and
-//! not what its session staged. Nothing but a commit writes to the disk.
+//! Start at `Sessions`. At most 64 sessions are live at a time, each under a number. A question sees the tree as it
+//! was last committed, and not what its session staged. Nothing but a commit writes to the disk.
 #![tactic(auto)]
 
 mod commit;

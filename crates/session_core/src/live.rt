@@ -40,7 +40,7 @@ impl<D: Disk> Sessions<D> {
     /// Answers a question on the tree as it was last committed, and notes it with its answer.
     ///
     /// `Stopped`, exactly where the store is stopped. `Unknown`, exactly where no live session has the number.
-    /// `Many`, exactly where it has 64 questions. Then `Disk` and `NoMemory`, as of `Store::apply`. After each of
+    /// `Many`, exactly where it has 64 questions. Then `Disk` and `NoMemory`, as from `Store::apply`. After each of
     /// them nothing is noted, and nothing was written.
     pub fn ask(&mut self, id: u32, question: &Question) -> Result<Reply, SessionFault>
         ensures call { CallsSessions D.state (Ask id (question_of question.now))
@@ -51,7 +51,7 @@ impl<D: Disk> Sessions<D> {
         Ok(reply)
     }
 
-    /// Answers a question, as `ask`, and puts the reply in the place of another. After a fault some reply stands there.
+    /// Answers a question, as `ask` does, and puts the reply into `reply`. After a fault any reply may stand there.
     pub fn ask_into(
         &mut self,
         id: u32,
@@ -113,7 +113,7 @@ impl<D: Disk> Sessions<D> {
         Ok(())
     }
 
-    /// The place of a number. Whether a session is live there it does not tell.
+    /// The place of a number, whether or not a session is live there.
     ///
     /// `Stopped`, exactly where the store is stopped. `Unknown`: there is no place of that number.
     pub(crate) fn place_of(&self, id: u32) -> Result<usize, SessionFault>

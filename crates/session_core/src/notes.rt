@@ -61,8 +61,7 @@ impl Session {
         ensures { TakesNote (length self.old.asked) self.old (record {
           asked = self.old.asked ++ note_of note ∷ [];
           staged = self.old.staged;
-        })
-            self.new result }
+        }) self.new result }
     {
         self.asked.push(note)?;
         Ok(())
@@ -74,8 +73,7 @@ impl Session {
         ensures { TakesNote (length self.old.staged) self.old (record {
           asked = self.old.asked;
           staged = self.old.staged ++ change_of change.now ∷ [];
-        })
-            self.new result }
+        }) self.new result }
     {
         if self.staged.len() >= MAX_NOTES {
             return Err(SessionFault::Many);

@@ -38,8 +38,9 @@ impl<D: Disk> Model for Sessions<D> {
 }
 
 impl<D: Disk> Sessions<D> {
-    /// No sessions on a store. It takes the room for all that may be live, so `begin` takes none.
-    /// `NoMemory`: there was no room. The store is given back as it was.
+    /// Takes a store, with no session on it yet. It takes the memory for all sessions that may be live, so `begin`
+    /// takes none.
+    /// `NoMemory`: there was none. The store is given back as it was.
     pub fn new(alloc: Global, store: Store<D>) -> Result<Sessions<D>, (NoMemory, Store<D>)>
         ensures ok { IfOk result (λ sessions. sessions ≡ record {
           store = store;

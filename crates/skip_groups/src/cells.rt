@@ -210,8 +210,7 @@ pub fn merge_page(
     requires { cells.old.cells ≡ [] }
     ensures valid { IsRisingList cells.old.level cells.new }
     ensures merged { AreCells cells.old.level (merged key.now page.now.cells own.now page.now.cells)
-        → IfOk result
-        (λ next. IsMerged (model_lead lead.now)
+        → IfOk result (λ next. IsMerged (model_lead lead.now)
         key.now page.now.cells own.now page.now.cells (next, cells.new.cells)) }
     ensures few { length cells.new.cells ≤ length page.now.cells
         + (length own.now + length page.now.cells) }

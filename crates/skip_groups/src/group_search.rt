@@ -78,7 +78,8 @@ pub fn search_group<P: Pages, T: Wanted>(
     found: &mut T,
 ) -> Result<(), Fault>
     ensures call { IsGroupSearch (T.floor key.now) (T.after key.now) (P.state pages.old)
-        (P.state pages.new) level (model_lead lead.now) key.now found.old found.new result }
+        (P.state pages.new) level
+        (model_lead lead.now) key.now found.old found.new result }
     ensures follows { P.follows pages.old pages.new }
 {
     for index in 0..u32::MAX {

@@ -1,7 +1,7 @@
 //! One group of the skip list: the cells of a level that one key, or the start, leads, in the pages that hold them.
 //!
-//! A group is searched, read and changed through any `Pages`, one page at a time and none behind a page with
-//! room. Nothing here knows of the list that has the group: no draw, and no other level.
+//! Start at `search_group`. A group is searched, read and changed through any `Pages`, one page at a time and none
+//! behind a page with room. Nothing here knows the list that has the group: no draw, and no other level.
 #![tactic(auto)]
 
 mod cells;

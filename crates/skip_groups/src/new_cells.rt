@@ -54,7 +54,7 @@ impl NewCells {
         }
     }
 
-    /// Those of the group that `lead` leads on the level, before its first page. They take no memory.
+    /// Begins with the group that `lead` leads on the level, before its first page. It takes no memory.
     pub fn new(alloc: Global, level: u8, lead: &Lead) -> Self
         ensures valid { IsRisingList level result.cells }
         ensures empty { result.cells.cells ≡ [] }
@@ -106,8 +106,7 @@ impl NewCells {
             (self.new.kept + self.new.count ≡ self.old.kept + self.old.count + 1) }
         ensures set { (pages : List model.Page)
             → IsCellsSet self.old.cells.level (model_lead lead.now) key.now own.now pages self.old
-            → OnOk result
-            (IsCellsSet self.old.cells.level (model_lead lead.now)
+            → OnOk result (IsCellsSet self.old.cells.level (model_lead lead.now)
             key.now own.now (pages ++ page.now ∷ []) self.new) }
         ensures step { IfOk result
             (λ step. IsStep self.old.cells.level (model_lead lead.now) page.now self.new step) }
@@ -154,8 +153,7 @@ impl NewCells {
             (self.new.kept + self.new.count ≡ self.old.kept + self.old.count + 1) }
         ensures set { (pages : List model.Page)
             → IsCellsSet self.old.cells.level (model_lead lead.now) key.now own.now pages self.old
-            → OnOk result
-            (IsCellsSet self.old.cells.level (model_lead lead.now)
+            → OnOk result (IsCellsSet self.old.cells.level (model_lead lead.now)
             key.now own.now (pages ++ page.now ∷ []) self.new) }
         ensures step { IfOk result
             (λ step. IsStep self.old.cells.level (model_lead lead.now) page.now self.new step) }

@@ -125,8 +125,8 @@ pub fn change_run<P: Pages>(
     requires room { IsObservable (P.state pages.old)
         → maps.len (P.state pages.old).pages + (count + length cells.now.cells) < most_pages }
     ensures call { IsRunChange (P.state pages.old) (P.state pages.new)
-        (model_lead lead.now) first count
-        cells.now (max count (length (runs (page_room cells.now.level) cells.now.cells))) result }
+        (model_lead lead.now) first count cells.now
+        (max count (length (runs (page_room cells.now.level) cells.now.cells))) result }
     ensures follows { P.follows pages.old pages.new }
 {
     let level = cells.level();

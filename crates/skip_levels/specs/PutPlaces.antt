@@ -29,7 +29,7 @@ abbrev pub is_leader : List ℕ → Lead → Bool
 is_leader key Start = false
 is_leader key (Leader leader) = is_eq (key_cmp leader key)
 
--- what is known behind a put of the key from a level down: a new key above level 0 leads a group of its own
+-- what is known after a put of the key from a level down: a new key above level 0 leads a group of its own
 abbrev pub leads_own : List ℕ → Option PathEnd → Option PathEnd
 leads_own key None = None
 leads_own key (Some place) = Some (record { lead = leads.Key key; next = place.next })

@@ -31,8 +31,8 @@ fn cell_on(level: u8, key: &Key, value: &Value) -> Result<Cell, NoMemory>
     }
 }
 
-/// Puts the value under the key on level 0 alone, in the group that `lead` leads. After a fault a part of the
-/// pages is changed.
+/// Puts the value under the key on level 0 alone, in the group that `lead` leads. After a fault a part of the pages
+/// may be changed.
 fn put_lowest<P: Pages>(
     alloc: Global,
     pages: &mut P,
@@ -40,8 +40,7 @@ fn put_lowest<P: Pages>(
     key: &Key,
     value: Value,
 ) -> Result<(), Fault>
-    requires { IsObservable (P.state pages.old)
-        → (d : draws.Draw) × (s : List Pair)
+    requires { IsObservable (P.state pages.old) → (d : draws.Draw) × (s : List Pair)
         × IsPutting d s (P.state pages.old).pages 0 (model_lead lead.now) key.now }
     ensures call { PutsPairFrom (P.state pages.old) (P.state pages.new) 0
         (model_lead lead.now) key.now value result }
@@ -53,10 +52,10 @@ fn put_lowest<P: Pages>(
     Ok(())
 }
 
-/// Puts the value under the key, from the level `top` down, on which `lead` leads the group of its search
-/// path: of a new key that is its own level, and on each lower one the group is cut in two before the key. A
-/// key that is there keeps its levels, and its value stands on level 0 alone. After a fault a part of the
-/// pages is changed.
+/// Puts the value under the key, from the level `top` down. On `top`, `lead` leads the group of the key's search
+/// path. For a new key `top` is its own level, and on each lower level the group is cut in two before the key. A key
+/// that is there keeps its levels, and `top` is 0: its value stands there alone. After a fault a part of the pages
+/// may be changed.
 pub fn put_from<P: Pages>(
     alloc: Global,
     pages: &mut P,
@@ -65,8 +64,7 @@ pub fn put_from<P: Pages>(
     key: &Key,
     value: &Value,
 ) -> Result<(), Fault>
-    requires { IsObservable (P.state pages.old)
-        → (d : draws.Draw) × (s : List Pair)
+    requires { IsObservable (P.state pages.old) → (d : draws.Draw) × (s : List Pair)
         × IsPutting d s (P.state pages.old).pages top (model_lead lead.now) key.now }
     ensures call { PutsPairFrom (P.state pages.old) (P.state pages.new) top
         (model_lead lead.now) key.now value.now result }
@@ -84,9 +82,9 @@ pub fn put_from<P: Pages>(
     Ok(())
 }
 
-/// Takes the pair of a key out, from its own level down, on which `lead` leads the group of its search path:
-/// on each lower one the group that it leads is joined to the group before it. After a fault a part of the
-/// pages is changed.
+/// Takes the pair of a key out, from its own level down. On that level `lead` leads the group of its search path. On
+/// each lower level the group that the key leads is joined to the group before it. After a fault a part of the pages
+/// may be changed.
 pub fn take_from<P: Pages>(
     alloc: Global,
     pages: &mut P,
@@ -94,8 +92,7 @@ pub fn take_from<P: Pages>(
     lead: &Lead,
     key: &Key,
 ) -> Result<(), Fault>
-    requires { IsObservable (P.state pages.old)
-        → (d : draws.Draw) × (s : List Pair)
+    requires { IsObservable (P.state pages.old) → (d : draws.Draw) × (s : List Pair)
         × IsTaking d s (P.state pages.old).pages top (model_lead lead.now) key.now }
     ensures call { TakesPairFrom (P.state pages.old) (P.state pages.new) top
         (model_lead lead.now) key.now result }

@@ -35,10 +35,10 @@ impl Walk {
         }
     }
 
-    /// Finds the place at which a value is put under the key, whose own level this is, in the pages of a
-    /// list. The groups of one search path are read at most, and that of level 0 is not: a key above level 0
-    /// is there exactly where it leads its group, and of one on level 0 it makes no difference. The place of
-    /// the key on level 0 is then known. After a fault the pages are as they were.
+    /// Finds the place at which a value is put under the key, whose own level is `own`, in the pages of a list. It
+    /// reads at most the groups of one search path, without that of level 0: a key of a higher level is there exactly
+    /// where it leads its group, and for a key of level 0 it makes no difference. The place of the key on level 0 is
+    /// then known. After a fault the pages are as they were.
     pub fn place_to_put<P: Pages, W: Draw>(
         &mut self,
         pages: &mut P,

@@ -18,12 +18,11 @@ use store_base::{Fault, Key, Value};
 /// A sorted list of pairs in pages. Each level of the list holds the keys that the draw puts on it or above,
 /// is cut into groups before each key of a higher level, and each group into pages.
 ///
-/// It is observable where its pages are and no `put` or `take` of it failed. One of which a change failed is
-/// spent: its pages are given back by `into_pages`, and a further `put` or `take` answers `NoMemory` and
-/// changes nothing.
+/// It is observable where its pages are and no `put` or `take` of it failed. After one that failed the list is spent:
+/// `into_pages` gives its pages back, and a further `put` or `take` answers `NoMemory` and changes nothing.
 ///
-/// It knows the group of level 0 to which its last call came, unless that one took out a key that led its
-/// group: a key that lies there needs no descent.
+/// It remembers the group of level 0 at which its last call ended, unless that call took out a key that led its
+/// group. A key that lies there needs no descent.
 #[derive(Drop)]
 pub struct SkipList<P: Pages, W: Draw> {
     /// Its pages, also after a fault. Where it is whole, whoever changes them shows that they are those of a
@@ -58,8 +57,7 @@ fn spent() -> Fault
 impl<P: Pages, W: Draw + Drop> SkipList<P, W> {
     ghost use Rattle.std.specs.Prelude.{List, true, false};
 
-    /// The list whose pages these are, under this draw: the pages of a list of at most 8,388,608 pairs, as no
-    /// page is that of the empty list.
+    /// Takes the pages of a list of at most 8,388,608 pairs, under this draw. The empty list has no page.
     pub fn new(alloc: Global, pages: P, draw: W) -> Self
         requires { pages_state.IsObservable (P.state pages)
             → (s : List model.Pair) × HoldsPairs (W.drawn draw) s (P.state pages).pages }
@@ -75,8 +73,8 @@ impl<P: Pages, W: Draw + Drop> SkipList<P, W> {
         }
     }
 
-    /// Forgets what it knows. Until it is taken up again its pages may be changed at will, and it is as after
-    /// a change that failed.
+    /// Forgets what it knows. Until `take_up` its pages may be changed at will, and it is as after a change that
+    /// failed.
     pub fn forget(&mut self)
         ensures pages { self.new.pages ≡ self.old.pages }
         ensures draw { self.new.draw ≡ self.old.draw }
@@ -98,7 +96,7 @@ impl<P: Pages, W: Draw + Drop> SkipList<P, W> {
         self.walk.known = None;
     }
 
-    /// Its pages, also after a fault.
+    /// Gives its pages back, also after a fault.
     pub fn into_pages(self) -> P
         ensures { result ≡ self.pages }
     {
@@ -165,7 +163,7 @@ impl<P: Pages, W: Draw + Drop> OrderedPairs for SkipList<P, W> {
         Ok(())
     }
 
-    /// The groups of the search path are read as in `put`, and those of the search path strictly below the key besides.
+    /// Reads the groups of the search path as `put` does, and those of the search path strictly below the key too.
     fn take(&mut self, key: &Key) -> Result<Option<Value>, Fault>
         ensures call { IsPairTake (⟦<SkipList<P, W> as OrderedPairs>⟧.state self.old)
             (⟦<SkipList<P, W> as OrderedPairs>⟧.state self.new) key.now result }

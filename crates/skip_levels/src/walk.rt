@@ -35,8 +35,8 @@ impl Wanted for PathEnd {
     }
 }
 
-/// Goes down on the search path of a key from the level `top`, of which `end` tells the place, to the level
-/// `bottom`, of which it tells the place then, by one group of each level above it. After a fault `end` tells
+/// Goes down on the search path of a key, from the level `top` to the level `bottom`. `end` has the place on `top`
+/// before, and that on `bottom` after. It reads one group of each level above `bottom`. After a fault `end` tells
 /// nothing.
 fn descend<P: Pages>(
     pages: &mut P,
@@ -46,8 +46,8 @@ fn descend<P: Pages>(
     end: &mut PathEnd,
 ) -> Result<(), Fault>
     requires { bottom ≤ top }
-    ensures call { IsWayDown (P.state pages.old)
-        (P.state pages.new) top end.old bottom key.now (ends_at result end.new) }
+    ensures call { IsWayDown (P.state pages.old) (P.state pages.new) top end.old bottom
+        key.now (ends_at result end.new) }
     ensures follows { P.follows pages.old pages.new }
 {
     let mut level = top;
@@ -95,7 +95,7 @@ pub struct Walk {
 }
 
 impl Walk {
-    /// The walk that knows no place.
+    /// Makes a walk that knows no place.
     pub fn new(alloc: Global) -> Self
         ensures { result.known ≡ None }
     {
@@ -126,8 +126,8 @@ impl Walk {
         }
     }
 
-    /// Finds the place of a key on level 0, in pages of this height, by one group of each level above; it is
-    /// known then. Where it is known before, no page is asked for. After a fault what was known still is.
+    /// Finds the place of a key on level 0, in pages of this height, and remembers it. It reads one group of each
+    /// level above. Where the place is known already, no page is asked for. After a fault what was known still is.
     pub fn go_to<P: Pages>(&mut self, pages: &mut P, height: u8, key: &Key) -> Result<(), Fault>
         requires { 1 ≤ height }
         ensures call { IsPlaceSearch (P.state pages.old)

@@ -1,5 +1,5 @@
 -- What the bytes of a slot are, and the character that stands for them.
-use Rattle.std.specs.Prelude.{◌≡◌, ℕ, ◌+◌, ◌<◌, ◌≤◌, List, length, slice_index, Option, Some, None}
+use Rattle.std.specs.Prelude.{◌≡◌, ℕ, ◌+◌, ◌<◌, List, length, slice_index, Some, None}
 use Rattle.store_model.specs.Parameters.{block_len, height_limit, table_at}
 use Rattle.store_model.specs.Pages.{Page, IsPage}
 use Rattle.store_model.specs.Images.{slot_bytes, bytes_at}

@@ -4,9 +4,7 @@ use Rattle.store_model.specs.Parameters.{Parameters}
 use Rattle.disk_model.specs.DiskState.{DiskState, IsObservable}
 use Rattle.gate_journal.specs.Places.{AreCalls, ReadsOnly}
 use Rattle.gate_journal.specs.Headers.{IsImageWith}
-use Rattle.store_base.specs.Counts.{faults_after}
-use Rattle.script_lines.specs.SinkState as sinks
-use Rattle.script_lines.specs.SinkState.{SinkState, PutsBytes, IsPut}
+use Rattle.script_lines.specs.SinkState.{SinkState, IsPut}
 use Rattle.slot_map.specs.declared.fault.MapFault.{MapFault}
 use Rattle.slot_map.specs.declared.fault.MapFault.TheVariants as faults
 use Rattle.slot_map.specs.Pictures.{IsMapOf}
@@ -22,12 +20,6 @@ disk_answer (Err faults.Sink) = Ok tt
 pub record ReadsDisk {T E : Type 0} (old new : DiskState) (result : Result T E) : Type 0 where
   pub calls : AreCalls old new result
   pub reads : IsObservable old → ReadsOnly old new
-
--- A text is put out in some puts, perhaps in none, of which the first that fails is the last.
-pub record Puts {T E : Type 0} (old new : SinkState) (text : List ℕ) (result : Result T E) : Type 0 where
-  pub observable : new.is_observable ≡ old.is_observable
-  pub faults : new.faults ≡ faults_after old.faults result
-  pub observed : sinks.IsObservable old → PutsBytes old new text result
 
 -- an observable disk is no image
 abbrev pub IsNoImage : DiskState → Type 0

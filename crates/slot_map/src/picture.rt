@@ -2,8 +2,7 @@
 
 ghost use Rattle.std.specs.Prelude.{◌≡◌, ◌+◌, ◌≤◌, ◌++◌, map, length};
 ghost use Rattle.store_model.specs.Parameters.{Parameters, slots_limit};
-ghost use Rattle.script_lines.specs.SinkState.{IsPut};
-ghost use Rattle.slot_map.specs.MapCalls.{Puts};
+ghost use Rattle.script_lines.specs.SinkState.{IsPut, Puts};
 ghost use Rattle.slot_map.specs.Pictures as model;
 ghost use Rattle.slot_map.specs.Pictures.{used_count, title_text, gate_text, mark_character, is_under_way, marks_title};
 ghost use Rattle.slot_map.specs.Pictures.{version_text, marks_text, journal_text, body_text, picture_text};

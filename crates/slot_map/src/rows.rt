@@ -2,8 +2,7 @@
 
 ghost use Rattle.std.specs.Prelude.{◌≡◌, ◌+◌, ◌≤◌, ◌++◌, length};
 ghost use Rattle.store_model.specs.Parameters.{slots_limit};
-ghost use Rattle.script_lines.specs.SinkState.{IsPut};
-ghost use Rattle.slot_map.specs.MapCalls.{Puts};
+ghost use Rattle.script_lines.specs.SinkState.{IsPut, Puts};
 ghost use Rattle.slot_map.specs.Pictures.{six_digits, row_text, rows_text};
 
 use itoa::Buffer;

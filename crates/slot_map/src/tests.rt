@@ -7,7 +7,7 @@ use std::alloc::Global;
 use std::process::Abort;
 
 /// An image that docs/FORMAT.md works out, `/Ua` and `/UU` on four slots of height 2: the bytes that are not zero, each
-/// run of them behind its place.
+/// run of them behind its place, by which it is named.
 static WORKED: [(usize, &[u8]); 10] = [
     (0, b"HSTORE01\x00\x00\x00\x04\x02\x00\x01"),
     (28_672, b"\x01\x00\x01Ua"),
@@ -39,36 +39,44 @@ const PICTURE: &[u8] = b"hstore image, version 1, 4 slots, 3 used, height 2, rul
     gate 00: no commit is under way\n\
     000000  01.0\n";
 
-/// Bytes that are written over in the worked image, and its picture then; none where it is no image any more.
-static CHANGED: [(&[(usize, u8)], &[u8]); 11] = [
-    (&[], PICTURE),
-    // a byte in the free slot, one behind the last cell of a page, and a page of a level that no list has
+/// The name of a row, which stands once in its table; bytes that are written over in the worked image, each behind its
+/// place; and its picture then, none where it is no image any more.
+type Row = (&'static str, &'static [(usize, u8)], &'static [u8]);
+
+/// The worked image with other bytes. Those that the picture does not show stand behind the flag, behind the last mark
+/// and in a shadow block.
+static CHANGED: [Row; 11] = [
+    ("nothing is written over", &[], PICTURE),
     (
+        "a byte in the free slot",
         &[(36_864, 1)],
         b"hstore image, version 1, 4 slots, 4 used, height 2, ruler\n\
         gate 00: no commit is under way\n\
         000000  01?0\n",
     ),
     (
+        "a byte behind the last cell of a page",
         &[(36_863, 1)],
         b"hstore image, version 1, 4 slots, 3 used, height 2, ruler\n\
         gate 00: no commit is under way\n\
         000000  0?.0\n",
     ),
     (
+        "a page of a level that no list has",
         &[(32_769, 8)],
         b"hstore image, version 1, 4 slots, 3 used, height 2, ruler\n\
         gate 00: no commit is under way\n\
         000000  0?.0\n",
     ),
     (
+        "a page of level 7",
         &[(32_769, 7)],
         b"hstore image, version 1, 4 slots, 3 used, height 2, ruler\n\
         gate 00: no commit is under way\n\
         000000  07.0\n",
     ),
-    // the flag without a mark, with all marks but one, and a mark without the flag
     (
+        "the flag without a mark",
         &[(4_096, 1)],
         b"hstore image, version 1, 4 slots, 3 used, height 2, ruler\n\
         gate 01: a commit is under way\n\
@@ -78,6 +86,7 @@ static CHANGED: [(&[(usize, u8)], &[u8]); 11] = [
         version .\n",
     ),
     (
+        "the flag with all marks but one",
         &[
             (4_096, 0xAB),
             (8_192, 1),
@@ -93,6 +102,7 @@ static CHANGED: [(&[(usize, u8)], &[u8]); 11] = [
         version +\n",
     ),
     (
+        "a mark without the flag",
         &[(8_193, 1)],
         b"hstore image, version 1, 4 slots, 3 used, height 2, ruler\n\
         gate 00: no commit is under way\n\
@@ -101,11 +111,13 @@ static CHANGED: [(&[(usize, u8)], &[u8]); 11] = [
         000000  .+..\n\
         version .\n",
     ),
-    // a byte behind the flag, one behind the last mark, and one of a shadow block
-    (&[(4_097, 1), (8_197, 1), (12_288, 1)], PICTURE),
-    // another first byte, and a height that is out of range
-    (&[(0, 0x49)], b""),
-    (&[(12, 9)], b""),
+    (
+        "bytes that the picture does not show",
+        &[(4_097, 1), (8_197, 1), (12_288, 1)],
+        PICTURE,
+    ),
+    ("another first byte", &[(0, 0x49)], b""),
+    ("a height that is out of range", &[(12, 9)], b""),
 ];
 
 /// The picture of the image of 65 slots.
@@ -121,6 +133,11 @@ static MARKED: &[u8] = b"hstore image, version 1, 4 slots, 3 used, height 2, rul
     marks: they count, since the gate is set\n\
     000000  ....\n\
     version .\n";
+
+/// The text that these bytes are.
+fn text_of(bytes: &[u8]) -> &str {
+    str::from_utf8(bytes).unwrap_or("bytes that are no text")
+}
 
 /// Writes bytes at a place.
 fn put(rt: &impl Abort, image: &mut [u8], at: usize, bytes: &[u8]) {
@@ -161,7 +178,7 @@ fn sink_of(rt: &impl Abort, alloc: Global, failing: u64) -> MemSink {
 
 #[test]
 fn images_are_shown_as_they_stand(rt: HostRuntime) {
-    for (changes, picture) in &CHANGED {
+    for (row, changes, picture) in &CHANGED {
         let mut disk = worked(&rt, rt.alloc(), changes);
         let mut sink = sink_of(&rt, rt.alloc(), u64::MAX);
         let want = if picture.is_empty() {
@@ -169,8 +186,13 @@ fn images_are_shown_as_they_stand(rt: HostRuntime) {
         } else {
             Ok(())
         };
-        assert!(rt; write_map(&mut disk, &mut sink) == want);
-        assert!(rt; sink.written() == *picture);
+        assert_eq!(rt; write_map(&mut disk, &mut sink), want, "{row}");
+        assert!(rt;
+            sink.written() == *picture,
+            "{row}: the picture\n  left: {:?}\n right: {:?}",
+            text_of(sink.written()),
+            text_of(*picture)
+        );
     }
 }
 

@@ -35,15 +35,14 @@ IsCounted state = length state.slots ≡ state.count
 abbrev pub AreWhole : List (List ℕ) → Type 0
 AreWhole slots = (i : ℕ) (slot : List ℕ) → slice_get slots i ≡ Some slot → length slot ≡ block_len
 
--- What comes with a fault: want of memory, that calls may take memory. That of the disk has its cause in the count of
--- faults.
+-- What a fault tells: want of memory, that calls may take memory. A fault of the disk shows in the count of faults.
 abbrev pub HasCause : SlotsState → Fault → Type 0
 HasCause old Disk = ⊤
 HasCause old NoMemory = ¬ TakesNone old
 
--- What a call on slots, or several of which the first fault is the last, ensures of all slots, whether or not they
--- tell their bytes. The count of faults is the same after Ok and after want of memory, and one more after a fault of
--- the disk.
+-- What a call on slots ensures of all slots, whether or not they tell their bytes. It holds of several calls too,
+-- where the first fault ends them. The count of faults is the same after Ok and after want of memory, and one more
+-- after a fault of the disk.
 pub record AreSlotCalls {T : Type 0} (old new : SlotsState) (result : Result T Fault) : Type 0 where
   pub count : new.count ≡ old.count
   pub observable : new.is_observable ≡ old.is_observable

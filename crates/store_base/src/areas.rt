@@ -1,8 +1,8 @@
 //! Where the areas of an image lie.
 //!
 //! An image has a header block, a gate block, the marks, the shadow and the table, one behind the other.
-//! The marks take as many whole blocks as a byte for each slot and one for the version need; shadow and
-//! table have a block for each slot. All places and lengths are in bytes.
+//! The marks have a byte for each slot and one for the version, and fill whole blocks. Shadow and table have a block
+//! for each slot. All places and lengths are in bytes.
 
 ghost use Rattle.std.specs.Prelude.{◌≡◌, ℕ, ◌+◌, ◌*◌, ◌/◌, ◌<◌, ◌≤◌};
 ghost use Rattle.store_model.specs.Parameters as model;
@@ -40,7 +40,7 @@ pub fn gate_at() -> u64
     BLOCK_LEN
 }
 
-/// Where mark `i` lies: each slot has the one of its number, and the one behind the last slot's is the version's.
+/// Where mark `i` lies. A slot has the mark of its number, and the version has the one behind the last slot's.
 pub fn mark_at(i: u32) -> u64
     requires { i ≤ slots_limit }
     ensures { result ≡ model.mark_at i }

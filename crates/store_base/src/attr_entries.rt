@@ -36,7 +36,7 @@ impl AttrEntries {
     /// The most bytes that an attribute's name has.
     pub const MAX_NAME: usize = 32;
 
-    /// No attributes.
+    /// Makes an empty list.
     pub fn new(alloc: Global) -> Self
         ensures { result ≡ [] }
     {

@@ -36,7 +36,7 @@ impl Entries {
     /// The most bytes that a name has.
     pub const MAX_NAME: usize = 120;
 
-    /// No children.
+    /// Makes an empty list.
     pub fn new(alloc: Global) -> Self
         ensures { result ≡ [] }
     {

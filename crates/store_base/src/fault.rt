@@ -9,7 +9,7 @@ use thiserror::Error;
 #[error("the disk failed")]
 pub struct DiskFault;
 
-/// Memory ran out. What stands after it is said at the call that answers it.
+/// Memory ran out. Each call that answers it says what stands then.
 #[derive(Clone, Copy, Debug, PartialEq, Eq, Error)]
 #[error("out of memory")]
 pub struct NoMemory;

@@ -84,7 +84,7 @@ pub fn write_header(params: &Params, block: &mut Slot)
     block[..48].copy_from_slice(&front);
 }
 
-/// The parameters that the block is the header of; `None` exactly where it is no parameters' header.
+/// Reads a header: the parameters that it names. `None` comes exactly where the block is the header of none in range.
 pub fn read_header(block: &Slot) -> Option<Params>
     ensures found { IfSome result (λ p. IsParameters p × (header p ≡ block.now)) }
     ensures only { (p : Parameters) → IsParameters p → header p ≡ block.now → result ≡ Some p }

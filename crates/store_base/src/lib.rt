@@ -1,8 +1,9 @@
-//! The types that all layers share. They know no disk, no table and no tree.
+//! The types that all layers share. Start at `Params`, what an image is made with, and `Label`, the name of a page.
+//! No type here knows a disk, a table or a tree.
 //!
-//! Faults, byte strings and the entries of a directory; keys and the labels that name pages; the parameters of an
-//! image, its header and where its areas lie; and the traits of the slots that a table is made of. Only `Entries` and
-//! `AttrEntries` take memory.
+//! There are faults, byte strings and the entries of a directory; keys and the labels that name pages; the parameters
+//! of an image, its header and where its areas lie; and the traits of the slots that a table is made of. Only
+//! `Entries` and `AttrEntries` take memory.
 #![tactic(auto)]
 
 mod areas;
@@ -32,7 +33,7 @@ pub use store_fault::Fault;
 pub use store_model::{BLOCK, DrawKind, Refusal, Slot, Version};
 pub use value::{Bytes, Value};
 
-/// What a call of the tree's layer answers where no fault came: a value, or why the command is refused.
+/// What a call on a tree answers where no fault came: a value, or why the command is refused.
 pub type Answer<T> = Result<T, Refusal>;
 
 /// The most slots that a table has.

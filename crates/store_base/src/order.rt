@@ -18,8 +18,8 @@ fn word_at(bytes: &[u8], at: usize) -> u64
     BigEndian::read_u64(&bytes[at..])
 }
 
-/// How two strings of bytes are ordered: by the first byte in which they differ, and where one is the other's
-/// beginning by their lengths.
+/// Compares two strings of bytes: by the first byte in which they differ, and, where one begins the other, by their
+/// lengths.
 pub fn byte_order(bytes: &[u8], other: &[u8]) -> Ordering
     ensures { result ≡ key_cmp bytes.now other.now }
 {

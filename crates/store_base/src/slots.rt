@@ -8,9 +8,9 @@ use store_model::Slot;
 
 /// Slots that can be read, numbered from 0.
 ///
-/// How many there are never changes, nor whether they tell their bytes, nor whether calls on them take no
-/// memory. A call that answers `Fault::Disk` raises the count of faults by one and no other call changes
-/// it, and none answers `Fault::NoMemory` where calls take no memory.
+/// Their number never changes, nor whether they tell their bytes, nor whether calls on them take memory. A call that
+/// answers `Fault::Disk` raises the count of faults by one, up to the last value of a `u64`. No other call changes
+/// it. Where calls take no memory, none answers `Fault::NoMemory`.
 pub trait ReadSlots {
     /// What the slots mean at this moment.
     ghost state: { Self → SlotsState };
@@ -25,7 +25,7 @@ pub trait ReadSlots {
         ensures call { IsGet (state self.old) (state self.new) at into.new result }
         ensures follows { follows self.old self.new };
 
-    /// There are as many slots as their number says.
+    /// Slots that tell their bytes are as many as `count` says.
     ghost counted: { (slots : Self) → IsObservable (state slots) → IsCounted (state slots) };
 
     /// Each slot has the bytes of a block.

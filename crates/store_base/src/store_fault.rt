@@ -7,11 +7,10 @@ use crate::fault::{DiskFault, NoMemory};
 use std::alloc::{AllocError, AllocFailed};
 use thiserror::Error;
 
-/// What a call on slots, pages or pairs answers where it could not be carried out. What stands after it
-/// is said at each call.
+/// Why a call on slots, pages or pairs could not be carried out. Each call says what stands then.
 #[derive(Clone, Copy, Debug, PartialEq, Eq, Error)]
 pub enum Fault {
-    /// The disk failed. Whatever the call was made on has counted the failed call.
+    /// The disk failed. The slots, pages or pairs that were called have counted it.
     #[error("the disk failed")]
     Disk,
     /// Memory ran out.

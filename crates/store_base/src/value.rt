@@ -120,7 +120,7 @@ impl Bytes {
         string
     }
 
-    /// Puts these bytes in the place of those that it has.
+    /// Replaces its bytes by these.
     pub fn set(&mut self, bytes: &[u8])
         requires { length bytes.now ≤ Self.MAX_LEN }
         ensures { self.new ≡ bytes.now }

@@ -16,7 +16,7 @@ use Rattle.image_check.specs.declared.fault.AttachFault.TheVariants as attach
 use Rattle.image_check.specs.Faults.{attach_faults_by}
 use Rattle.image_check.specs.Standing.{IsFitting, Stands}
 
--- the disk's count of failed calls behind a call with such a fault, or none
+-- the disk's count of failed calls after a call with such a fault, or none
 abbrev pub attach_faults_after : {T : Type 0} → ℕ → Result T AttachFault → ℕ
 attach_faults_after count (Ok value) = count
 attach_faults_after count (Err fault) = attach_faults_by fault count

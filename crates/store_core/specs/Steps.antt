@@ -67,7 +67,7 @@ pub record EndsStep {D A : Type 0} (state : D → DiskState) (t next : Tree) (Is
 abbrev pub IsReplyTo : Step → Reply → Type 0
 IsReplyTo to reply = reply_of reply ≡ to.reply
 
--- a command takes its step, and nothing is staged behind it
+-- a command takes its step, and nothing is staged after it
 abbrev pub EndsCommand : {D : Type 0} → (D → DiskState) → Tree → Step → Parameters → StagedState D AnyDraw
     → StagedState D AnyDraw → Result Reply ApplyFault → Type 0
 EndsCommand state t to p old new result = EndsStep state t to.tree (IsReplyTo to) p old new result
@@ -82,7 +82,7 @@ pub record UpgradesPages {D : Type 0} (state : D → DiskState) (t : Tree) (p : 
   pub goes : OnOk result (new.table ≡ map_of_pages (pages t (with_version p Two)))
   pub stays : new.is_spent ≡ false → OnErr result (new.table ≡ old.table)
 
--- Staged pages of a tree become those that it has under version 2, and are spent only by a fault of the disk. Behind it
+-- Staged pages of a tree become those that it has under version 2, and are spent only by a fault of the disk. After it
 -- nothing is staged.
 pub record EndsUpgrade {D : Type 0} (state : D → DiskState) (t : Tree) (p : Parameters)
     (old new : StagedState D AnyDraw) (result : Result (Unit {0}) ApplyFault) : Type 0 where

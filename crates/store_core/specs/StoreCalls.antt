@@ -41,7 +41,7 @@ pub record IsOpened (t : Tree) (p : Parameters) (old new : DiskState) : Type 0 w
   pub counts : Made (opening_writes p.slots old.bytes) (opening_syncs p.slots old.bytes) old new
   pub unwritten : HasEmptyJournal p.slots old.bytes → IsUnwritten old new
 
--- A store was had.
+-- The disk was taken as a store.
 pub record IsAttached {D : Type 0} (state : D → DiskState) (old : DiskState) (store : StoreState D) : Type 0 where
   pub kept : KeepsDisk old (state store.disk)
   pub faults : (state store.disk).faults ≡ old.faults
@@ -51,8 +51,9 @@ pub record IsAttached {D : Type 0} (state : D → DiskState) (old : DiskState) (
   pub fitting : IsFitting store.tree store.params
   pub observed : IsObservable old → IsOpened store.tree store.params old (state store.disk)
 
--- No store was had of an image that represents a tree: it does so still, and so does each image that a crash leaves
--- which one before the call might not have left. No more writes and syncs were made than opening it takes.
+-- The disk of an image that represents a tree was not taken as a store. It represents the tree still, and so does
+-- each image that a crash leaves, unless one before the call might have left it. No more writes and syncs were made
+-- than opening it takes.
 pub record KeepsImage (t : Tree) (p : Parameters) (old : DiskState) (fault : AttachFault)
     (new : DiskState) : Type 0 where
   pub not_image : fault ≡ attach.NotImage → ⊥
@@ -66,7 +67,7 @@ pub record LeavesImage (old new : DiskState) : Type 0 where
   pub synced : IsOnlySynced old new
   pub crash : LeavesOnly old new old.crash_images
 
--- No store was had, for this fault.
+-- The disk was not taken as a store, for this fault.
 pub record IsRefused (old : DiskState) (fault : AttachFault) (new : DiskState) : Type 0 where
   pub kept : KeepsDisk old new
   pub faults : new.faults ≡ attach_faults_by fault old.faults
@@ -74,7 +75,7 @@ pub record IsRefused (old : DiskState) (fault : AttachFault) (new : DiskState) :
   pub damaged : fault ≡ attach.Damaged → IsDamaged old
   -- nothing was written, unless the disk failed
   pub unwritten : IsObservable old → (fault ≡ attach.Disk → ⊥) → LeavesImage old new
-  -- and the image was looked at behind just one sync, where that told the reason
+  -- and the image was looked at after just one sync, where that told the reason
   pub looked : IsObservable old → (fault ≡ attach.NotImage) ⊎ (fault ≡ attach.Damaged) → Made 0 1 old new
   -- an image that represents a tree keeps it, and one that represents none is left as it was, whatever the fault
   pub represented : IsObservable old → (t : Tree) (p : Parameters) → Represents old.bytes t p
@@ -102,7 +103,7 @@ pub record ChangesImage {T : Type 0} (t next : Tree) (p : Parameters) (old new :
   pub no_memory : IsErrOf result apply.NoMemory → ReadsOnly old new
   -- the slots that differ are committed, and no others
   pub counts : CountsCommit (slots_between p t next) old new result
-  -- the store is stopped only by a fault at a write or a sync, or behind one, and any other fault leaves the disk as it
+  -- the store is stopped only by a fault at a write or a sync, or after one, and any other fault leaves the disk as it
   -- was
   pub stops : is_stopped ≡ true → IsErrOf result apply.Disk × (Rose old.writes new.writes ⊎ Rose old.syncs new.syncs)
   pub goes_on : is_stopped ≡ false → IsErrOf result apply.Disk → ReadsOnly old new
@@ -155,7 +156,7 @@ pub record UpgradesImage {T : Type 0} (t : Tree) (p : Parameters) (old new : Dis
   pub no_memory : IsErrOf result apply.NoMemory → ReadsOnly old new
   -- the slots that differ are committed, and no others
   pub counts : CountsUpgrade (slots_upgraded p t) old new result
-  -- the store is stopped only by a fault at a write or a sync, or behind one, and any other fault leaves the disk as it
+  -- the store is stopped only by a fault at a write or a sync, or after one, and any other fault leaves the disk as it
   -- was
   pub stops : is_stopped ≡ true → IsErrOf result apply.Disk × (Rose old.writes new.writes ⊎ Rose old.syncs new.syncs)
   pub goes_on : is_stopped ≡ false → IsErrOf result apply.Disk → ReadsOnly old new

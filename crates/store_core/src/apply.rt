@@ -18,8 +18,8 @@ impl<D: Disk> Store<D> {
     /// syncs. Each image that a crash at any moment of the call may leave represents the tree before it or the one
     /// after it.
     ///
-    /// After a fault the tree is as it was. `Disk`: the disk failed; where that came at a write or a sync, or behind
-    /// one, the store is stopped, and the disk represents the one tree or the other. `NoMemory`: nothing was written.
+    /// After a fault the tree is as it was. `Disk`: the disk failed. If that came at a write or a sync, or after one,
+    /// the store is stopped, and the disk represents the one tree or the other. `NoMemory`: nothing was written.
     /// `Stopped`, exactly where the store was stopped before: nothing was called.
     pub fn apply(&mut self, command: &Command) -> Result<Reply, ApplyFault>
         ensures call { Applies D.state (command_of command.now) self.old self.new result }
@@ -29,8 +29,8 @@ impl<D: Disk> Store<D> {
         Ok(reply)
     }
 
-    /// Carries out a command, as `apply`, and puts its reply in the place of another: a reply is large, and whoever
-    /// carries out one command after another has one place for them all. After a fault some reply stands there.
+    /// Carries out a command, as `apply` does, and puts its reply into `reply`. A reply is large, so a caller of many
+    /// keeps one place for them all. After a fault any reply may stand there.
     pub fn apply_into(&mut self, command: &Command, reply: &mut Reply) -> Result<(), ApplyFault>
         ensures call { Applies D.state (command_of command.now)
             self.old self.new (in_place reply.new result) }

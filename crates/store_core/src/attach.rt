@@ -15,7 +15,7 @@ use seeded_draw::AnyDraw;
 use skip_levels::SkipList;
 use std::alloc::Global;
 
-/// What a disk holds as recovery would leave it. After one sync the disk is only read, and it is handed back.
+/// Syncs the disk once, finds what it holds as recovery would leave it, and hands it back. Nothing is written.
 fn check_image<D: Disk>(mut disk: D) -> (D, Result<Contents, AttachFault>)
     ensures { ChecksSynced (D.state disk) (D.state result.0) result.1 }
 {
@@ -26,12 +26,12 @@ fn check_image<D: Disk>(mut disk: D) -> (D, Result<Contents, AttachFault>)
 }
 
 impl<D: Disk> Store<D> {
-    /// The store that the disk holds, once its image is checked and recovered.
+    /// Makes a store of a disk: checks its image whole, as recovery would leave it, and then recovers it.
     ///
     /// With a fault the disk is given back. `NotImage`: its header, as recovery would leave it, is that of no image of
-    /// its length. `Damaged`: it is an image, but even recovered it would hold no tree. Just one sync was made then.
-    /// `NoMemory`: at most one was. After none of these three was anything written, and a crash leaves what it might
-    /// have left before. After `Disk` it represents the tree that it did, if it did so.
+    /// its length. `Damaged`: it is an image, but even recovered it would hold no tree. After these two just one sync
+    /// was made. `NoMemory`: at most one was. After these three nothing was written, and a crash leaves what it might
+    /// have left before. `Disk`: the disk failed. It represents the tree that it did before, if it did.
     ///
     /// An image with an empty journal takes two syncs and no write; otherwise the marked slots, the flag and each block
     /// of the journal that is not zero are written once.

@@ -38,11 +38,10 @@ pub type TreePages<D> = Staged<D, AnyDraw>;
 /// The list of the pairs of a tree, over its pages.
 pub type TreeList<D> = SkipList<TreePages<D>, AnyDraw>;
 
-/// Carries out a command on the list of a tree, and puts the reply in the place of another. Behind it nothing is
-/// staged.
+/// Carries out a command on the list of a tree, and puts the reply into `reply`. After it nothing is staged.
 ///
 /// A fault leaves the tree as it was. `NoMemory`: nothing was written. `Disk`: the disk failed, and where that came at
-/// a write or a sync, or behind one, the pages are spent.
+/// a write or a sync, or after one, the pages are spent.
 pub fn carry_out<D: Disk>(
     alloc: Global,
     pairs: &mut TreeList<D>,
@@ -110,7 +109,7 @@ fn tell_digest<D: Disk>(staged: &mut TreePages<D>, reply: &mut Reply) -> Result<
     Ok(())
 }
 
-/// Carries out a command that only looks at the pairs of the tree, and that its image's version has. Behind it nothing
+/// Carries out a command that only looks at the pairs of the tree, and that its image's version has. After it nothing
 /// is staged.
 fn carry_out_look<D: Disk>(
     alloc: Global,
@@ -123,7 +122,8 @@ fn carry_out_look<D: Disk>(
     requires runs { pairs.old.pages.is_spent ≡ false }
     requires list { (t : Tree) × ((p : Parameters) × IsListAt D.state t p pairs.old) }
     ensures call { (t : Tree) (p : Parameters)
-        → steps.lacks_version (command_of command.now) p ≡ false → IsListAt D.state t p pairs.old
+        → steps.lacks_version (command_of command.now) p ≡ false
+        → IsListAt D.state t p pairs.old
         → EndsCommand D.state t (step t (command_of command.now) p) p
         pairs.old.pages pairs.new.pages (in_place reply.new result) }
     ensures list { GoesOn D.state pairs.old pairs.new }
@@ -178,7 +178,8 @@ fn end_change<D: Disk>(pairs: &mut TreeList<D>) -> Result<Answer<()>, ApplyFault
     requires staged { (t : Tree)
         × ((next : Tree)
         × ((p : Parameters)
-        × (IsStagedFor D.state t next p pairs.old.pages × (any_draw pairs.old.draw ≡ draw_of p)))) }
+        × (IsStagedFor D.state t next p pairs.old.pages
+        × (any_draw pairs.old.draw ≡ draw_of p)))) }
     ensures call { (t next : Tree) (p : Parameters) → IsStagedFor D.state t next p pairs.old.pages
         → EndsCommand D.state t (counted_step t next p) p
         pairs.old.pages pairs.new.pages (change_reply result) }
@@ -196,7 +197,7 @@ fn end_change<D: Disk>(pairs: &mut TreeList<D>) -> Result<Answer<()>, ApplyFault
     }
 }
 
-/// Takes back what is staged, of a list that may not be whole any more. It then knows no place.
+/// Takes back what is staged, even if the list is not whole any more. The list then knows no place.
 pub fn give_up<D: Disk>(pairs: &mut TreeList<D>)
     requires { HoldsTable D.state pairs.old }
     ensures pages { pairs.new.pages ≡ without_changes pairs.old.pages }
@@ -207,7 +208,7 @@ pub fn give_up<D: Disk>(pairs: &mut TreeList<D>)
     pairs.take_up();
 }
 
-/// How a change ends whose settle failed so.
+/// The end of a change whose settle failed with this fault.
 fn answer_to(fault: SettleFault) -> Result<Answer<()>, ApplyFault>
     ensures { change_reply result ≡ settled_reply (Err fault) }
 {
@@ -218,7 +219,7 @@ fn answer_to(fault: SettleFault) -> Result<Answer<()>, ApplyFault>
     }
 }
 
-/// Why changes to a tree that fits failed whose settle failed so.
+/// Why changes to a tree that fits failed, by the fault of their settle.
 pub fn cause_of(fault: SettleFault) -> ApplyFault
     ensures { result ≡ settle_cause fault }
 {
@@ -229,7 +230,7 @@ pub fn cause_of(fault: SettleFault) -> ApplyFault
     }
 }
 
-/// Puts what a change answers that ended so in the place of a reply.
+/// Puts the answer of a change that ended so into `reply`.
 fn put_answer(changed: Result<Answer<()>, ApplyFault>, reply: &mut Reply) -> Result<(), ApplyFault>
     ensures { in_place reply.new result ≡ change_reply changed }
 {

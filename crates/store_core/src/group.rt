@@ -38,15 +38,15 @@ pub enum GroupAnswer {
 }
 
 impl<D: Disk> Store<D> {
-    /// Carries out changes one after another, and answers once what they changed is durable: all of them together, or
-    /// none where one of them is refused.
+    /// Carries out a group of changes, one after another: all of them together, or none where one is refused. It
+    /// answers once what they changed is durable.
     ///
     /// `full` is tested after each change. Changes that are all carried out and change d slots together make 5d + 2
     /// writes and 5 syncs; a group that is refused, or changes no slot, makes none. Each image that a crash at any
     /// moment of the call may leave represents the tree before the whole group or the one after it.
     ///
-    /// After a fault the tree is as it was. `Disk`: the disk failed; where that came at a write or a sync, or behind
-    /// one, the store is stopped, and the disk represents the one tree or the other. `NoMemory`: nothing was written.
+    /// After a fault the tree is as it was. `Disk`: the disk failed. If that came at a write or a sync, or after one,
+    /// the store is stopped, and the disk represents the one tree or the other. `NoMemory`: nothing was written.
     /// `Stopped`, exactly where the store was stopped before: nothing was called.
     pub fn apply_all(&mut self, changes: &[Change]) -> Result<GroupAnswer, ApplyFault>
         requires few { length changes.now < 2 ^ 32 }
@@ -64,11 +64,11 @@ impl<D: Disk> Store<D> {
     }
 }
 
-/// Carries out changes together on the list of a tree, or none of them where one is refused. Behind it nothing is
+/// Carries out changes together on the list of a tree, or none of them where one is refused. After it nothing is
 /// staged.
 ///
 /// A fault leaves the tree as it was. `NoMemory`: nothing was written. `Disk`: the disk failed, and where that came at
-/// a write or a sync, or behind one, the pages are spent.
+/// a write or a sync, or after one, the pages are spent.
 fn carry_out_all<D: Disk>(
     pairs: &mut TreeList<D>,
     params: &Params,

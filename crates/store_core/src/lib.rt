@@ -1,14 +1,13 @@
 //! The store: a tree of directories and files in a disk image, as one value.
 //!
-//! It is had of a disk by `attach`, which checks the image whole and recovers it, and carries out one command after
-//! another by `apply`. By `apply_all` it carries out a group of changes together, or none of them: they are staged one
-//! after another, and settled once. What these calls promise is the definitions' step. By `upgrade` its image becomes
-//! one of version 2. By `next_pair` it tells its pairs one after another, and one that is empty is loaded with those of
-//! a whole tree by `load`.
+//! Start at `Store`. `attach` makes a store of a disk: it checks the image whole and recovers it. `apply` carries out
+//! a command, as the definitions' step says. `apply_all` carries out a group of changes together, or none of them: it
+//! stages them one after another, and settles once. `upgrade` makes the image one of version 2. `next_pair` gives the
+//! pairs one after another, and `load` fills an empty store with the pairs of a whole tree.
 //!
 //! No part of the tree is in memory between two commands. A command works on the skip list in the staged pages of the
-//! table, and reads the pages that it asks for; what it changed is settled at once, so that only the slots that differ
-//! are written, and behind every command nothing is staged.
+//! table, and reads the pages that it asks for. What it changed is settled at once, and only the slots that differ
+//! are written. After every command nothing is staged.
 #![tactic(auto)]
 
 mod apply;

@@ -37,13 +37,13 @@ pub enum LoadAnswer {
 }
 
 impl<D: Disk> Store<D> {
-    /// Loads an empty store with a tree, whose pairs these are, at most 268,435,456 of them by rising key.
+    /// Loads an empty store with the tree that has these pairs, at most 268,435,456 of them, by rising key.
     ///
     /// Its layout is computed from nothing, and the d slots that hold its pages are committed together, by 5d + 2
     /// writes and 5 syncs; the empty tree takes none. Each image that a crash at any moment of the call may leave
     /// represents the empty tree or this one. `Full` comes exactly where its pages are more than the slots.
     ///
-    /// After a fault the store is empty. `Disk`: the disk failed; where that came at a write or a sync, or behind one,
+    /// After a fault the store is empty. `Disk`: the disk failed. If that came at a write or a sync, or after one,
     /// the store is stopped, and the disk represents the one tree or the other. `NoMemory`: nothing was written.
     /// `Stopped`, exactly where the store was stopped before: nothing was called.
     pub fn load(&mut self, pairs: &PairList) -> Result<LoadAnswer, ApplyFault>
@@ -52,7 +52,8 @@ impl<D: Disk> Store<D> {
         requires pairs { (t : Tree)
             × (IsTreeUnder t self.old.params × (pairs.now ≡ model.pairs t self.old.params)) }
         ensures call { (t : Tree) → IsTreeUnder t self.old.params
-            → pairs.now ≡ model.pairs t self.old.params → Loads D.state t self.old self.new result }
+            → pairs.now ≡ model.pairs t self.old.params
+            → Loads D.state t self.old self.new result }
     {
         if self.is_stopped() {
             return Err(ApplyFault::Stopped);
@@ -66,9 +67,9 @@ impl<D: Disk> Store<D> {
     }
 }
 
-/// Loads the list of the empty tree with that of a tree whose pairs these are. Behind it nothing is staged.
+/// Loads the list of the empty tree with that of a tree whose pairs these are. After it nothing is staged.
 ///
-/// A fault leaves the list as it was. `NoMemory`: nothing was written. `Disk`: the disk failed at a write or behind
+/// A fault leaves the list as it was. `NoMemory`: nothing was written. `Disk`: the disk failed at a write or after
 /// one, and the pages are spent.
 fn load_list<D: Disk>(
     alloc: Global,

@@ -17,8 +17,8 @@ use ordered_pairs::OrderedPairs;
 use store_base::{Key, Value};
 
 impl<D: Disk> Store<D> {
-    /// The first pair whose key is not below the given one; `None` where every key is below it. The store stays as it
-    /// is, and the disk is only read. It takes no memory but for its caches.
+    /// Finds the first pair whose key is not below the given one; `None` where every key is below it. The store stays
+    /// as it is, and the disk is only read. It takes no memory but for its caches.
     ///
     /// `Disk`: the disk failed. `NoMemory`: memory ran out. `Stopped`, exactly where the store was stopped before:
     /// nothing was called.
@@ -37,7 +37,7 @@ impl<D: Disk> Store<D> {
     }
 }
 
-/// Finds the first pair of a tree's list whose key is not below the given one. Behind it nothing is staged.
+/// Finds the first pair of a tree's list whose key is not below the given one. After it nothing is staged.
 fn find_next<D: Disk>(
     pairs: &mut TreeList<D>,
     key: &Key,

@@ -41,8 +41,8 @@ impl<D: Disk> Model for Store<D> {
 }
 
 impl<D: Disk> Store<D> {
-    /// Whether it is stopped: a fault came at a write or a sync of a command, or behind one. It then carries out no
-    /// other, and is to be attached anew.
+    /// Whether it is stopped: a fault came at a write or a sync of a command, or after one. A stopped store carries
+    /// out nothing: attach its disk anew.
     pub fn is_stopped(&self) -> bool
         ensures value { result ≡ self.now.is_stopped }
         ensures stands { IsObservable (D.state self.now.disk) → self.now.is_stopped ≡ false
@@ -51,7 +51,7 @@ impl<D: Disk> Store<D> {
         self.pairs.pages.is_spent()
     }
 
-    /// What the image was made with.
+    /// The parameters of the image.
     pub fn params(&self) -> &Params
         ensures value { result.now ≡ self.now.params }
         ensures fitting { IsFitting self.now.tree self.now.params }

@@ -19,15 +19,15 @@ use store_model::Version;
 use tree_upgrade::inline_short_files;
 
 impl<D: Disk> Store<D> {
-    /// Makes the image one of version 2 that holds the same tree, once that is durable. An image of version 2 stays as
-    /// it is, and nothing is called.
+    /// Makes the image one of version 2 that holds the same tree, and answers once that is durable. An image of
+    /// version 2 stays as it is, and nothing is called.
     ///
     /// Where d slots differ between the two versions of the tree's layout it makes 5d + 5 writes and 5 syncs, also
     /// where none does. Each image that a crash at any moment of the call may leave represents the tree under version 1
     /// or under version 2. No tree takes more pages than it took: an upgrade is never full.
     ///
-    /// After a fault tree and parameters are as they were. `Disk`: the disk failed; where that came at a write or a
-    /// sync, or behind one, the store is stopped, and the disk represents the tree under the one version or the other.
+    /// After a fault tree and parameters are as they were. `Disk`: the disk failed. If that came at a write or a
+    /// sync, or after one, the store is stopped, and the disk represents the tree under the one version or the other.
     /// `NoMemory`: nothing was written. `Stopped`, exactly where the store was stopped before: nothing was called.
     pub fn upgrade(&mut self) -> Result<(), ApplyFault>
         ensures call { Upgrades D.state self.old self.new result }
@@ -41,7 +41,7 @@ impl<D: Disk> Store<D> {
         }
     }
 
-    /// Does so for a store that is not stopped, and whose image is of version 1.
+    /// Upgrades a store that is not stopped, and whose image is of version 1.
     fn upgrade_running(&mut self) -> Result<(), ApplyFault>
         requires runs { self.old.is_stopped ≡ false }
         requires version { self.old.params.version ≡ One }
@@ -56,10 +56,10 @@ impl<D: Disk> Store<D> {
     }
 }
 
-/// Makes the list of a tree under version 1 that of the same tree under version 2. Behind it nothing is staged.
+/// Makes the list of a tree under version 1 that of the same tree under version 2. After it nothing is staged.
 ///
 /// A fault leaves the list as it was. `NoMemory`: nothing was written. `Disk`: the disk failed, and where that came at
-/// a write or a sync, or behind one, the pages are spent.
+/// a write or a sync, or after one, the pages are spent.
 fn upgrade_list<D: Disk>(pairs: &mut TreeList<D>) -> Result<(), ApplyFault>
     requires runs { pairs.old.pages.is_spent ≡ false }
     requires list { (t : Tree)
@@ -83,8 +83,7 @@ fn end_upgrade<D: Disk>(pairs: &mut TreeList<D>) -> Result<(), ApplyFault>
     requires runs { pairs.old.pages.is_spent ≡ false }
     requires whole { IsObservable (D.state pairs.old.pages.disk) → pairs.old.is_whole ≡ true }
     requires staged { (t : Tree)
-        × ((p : Parameters)
-        × (IsUpgradeStaged D.state t p pairs.old.pages
+        × ((p : Parameters) × (IsUpgradeStaged D.state t p pairs.old.pages
         × ((any_draw pairs.old.draw ≡ draw_of p) × (p.version ≡ One)))) }
     ensures call { (t : Tree) (p : Parameters) → IsUpgradeStaged D.state t p pairs.old.pages
         → EndsUpgrade D.state t p pairs.old.pages pairs.new.pages result }

@@ -25,7 +25,7 @@ pub struct UsedSlots<'a> {
 }
 
 impl<'a> UsedSlots<'a> {
-    /// The slots of a layout that hold a page; it has so many slots.
+    /// Finds the slots that hold a page, in a layout of so many slots.
     pub fn of(alloc: Global, layout: &'a Layout, slots: u32) -> Result<Self, NoMemory>
         requires length { length layout.now ≡ slots }
         requires pages { AllByRecursion IsPage (pages_in layout.now) }

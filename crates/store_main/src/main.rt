@@ -4,7 +4,7 @@
 //! The words `mirror OTHER` need two files: the image's, which is only read, and that at the path OTHER, which becomes
 //! equal to it.
 //!
-//! That a file, its lock, standard input and standard output do what is asked of them is assumed here. All else is
+//! This crate assumes that a file, its lock, standard input and standard output do what is asked of them. All else is
 //! the library's.
 #![tactic(auto)]
 

@@ -28,11 +28,12 @@ key_field k = take field_limit k
 abbrev pub key_block : List ℕ → ℕ
 key_block k = from_be_bytes w32 (drop field_limit k)
 
--- `ruler`: the sum of the label's bytes, round the table
+-- `ruler`: the sum of the label's bytes, modulo the number of slots
 unfoldable pub ruler_start : ℕ → Label → ℕ
 ruler_start slots l = sum (label_bytes l) % slots
 
--- `ruler`: at block number 0 the number of bytes 55 in the field, and else 0
+-- `ruler`: at block number 0 the number of bytes 55 (hexadecimal) in the field, at most the height less 1; at every
+-- other block number 0
 unfoldable pub ruler_level : ℕ → List ℕ → ℕ
 ruler_level height k = if key_block k == 0 then min (count_by (λ b. b == 0x55) (key_field k)) (height - 1) else 0
 
@@ -40,19 +41,19 @@ ruler_level height k = if key_block k == 0 then min (count_by (λ b. b == 0x55) 
 abbrev pub hex_digits : List ℕ → List ℕ
 hex_digits bytes = flat_map (λ b. b / 16 ∷ b % 16 ∷ []) bytes
 
--- the number in the digest's first eight bytes, round the table
+-- the number in the digest's first eight bytes, modulo the number of slots
 unfoldable pub start_of_digest : List ℕ → ℕ → ℕ
 start_of_digest digest slots = from_be_bytes w64 (take 8 digest) % slots
 
--- the number of zero digits that the digest begins with, below the height
+-- the number of zero hexadecimal digits that the digest begins with, at most the height less 1
 unfoldable pub level_of_digest : List ℕ → ℕ → ℕ
 level_of_digest digest height = min (length (take_while (λ d. d == 0) (hex_digits digest))) (height - 1)
 
--- `sha256`: from the digest of the seed, the byte 53 and the label
+-- `sha256`: from the digest (FIPS 180-4) of the seed, the byte 53 (hexadecimal) and the label
 unfoldable pub sha256_start : List ℕ → ℕ → Label → ℕ
 sha256_start seed slots l = start_of_digest (sha256 (seed ++ 0x53 ∷ label_bytes l)) slots
 
--- `sha256`: from the digest of the seed, the byte 4C and the key
+-- `sha256`: from the digest of the seed, the byte 4C (hexadecimal) and the key
 unfoldable pub sha256_level : List ℕ → ℕ → List ℕ → ℕ
 sha256_level seed height k = level_of_digest (sha256 (seed ++ 0x4c ∷ k)) height
 

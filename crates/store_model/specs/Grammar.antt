@@ -63,7 +63,7 @@ abbrev pub ◌>>=◌ : {A B : Type 0} → Option A → (A → Option B) → Opti
 None >>= f = None
 (Some x) >>= f = f x
 
--- what a word asks for, where it is the one wanted, and else the other
+-- `here` where the word is the wanted one, and else `other`
 abbrev pub on_word : {A : Type 0} → List ℕ → List ℕ → Option A → Option A → Option A
 on_word word wanted here other = if same_bytes word wanted then here else other
 

@@ -29,7 +29,7 @@ abbrev pub version_byte : Version → ℕ
 version_byte One = 1
 version_byte Two = 2
 
--- where a header has it
+-- where a header has the byte of its version
 abbrev pub version_at : ℕ
 version_at = 14
 
@@ -88,9 +88,9 @@ is_marked image i = not (slice_index image (mark_at i) == 0)
 abbrev pub header_as_two : List ℕ → List ℕ
 header_as_two image = slice_set (take block_len image) version_at (version_byte Two)
 
--- the header of an image of so many slots, as it is read. The mark behind the last slot's says, where it is not 0 and
--- the commit flag is set, that the journal makes the image one of version 2: then the header has that version,
--- whichever it names
+-- the header of an image of so many slots, as it is read. Where the commit flag is set and the mark behind the last
+-- slot's is not 0, the journal makes the image one of version 2. Then the header is read with that version, whichever
+-- it names
 unfoldable pub viewed_header : ℕ → List ℕ → List ℕ
 viewed_header slots image = if is_flag_set image
     && is_marked image slots then header_as_two image else take block_len image
@@ -123,8 +123,8 @@ unfoldable pub scrubbed : ℕ → List ℕ → List ℕ
 scrubbed slots image = viewed_header slots image ++ zeros (journal_len slots)
     ++ flat_map (scrubbed_slot slots image) (numbers_below slots)
 
--- the image represents the tree, which is one: its header names the parameters, it has their length, the tree
--- fits, and recovery leaves the tree's layout
+-- the image represents the tree: its header names the parameters, it has their length, the tree is one and fits, and
+-- recovery leaves the tree's layout
 pub record Represents (image : List ℕ) (t : Tree) (p : Parameters) : Type 0 where
   pub names : NamesParameters image p
   pub length_is : length image ≡ image_len p.slots

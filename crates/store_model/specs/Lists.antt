@@ -21,11 +21,11 @@ zeros n = replicate n 0
 unfoldable pub zero_filled : ℕ → List ℕ → List ℕ
 zero_filled n xs = xs ++ zeros (n - length xs)
 
--- the bytes with these in the place of those from a place on, over what is there and past the end
+-- the bytes with these written from a place on, over what is there and past the end
 abbrev pub overwrite : List ℕ → ℕ → List ℕ → List ℕ
 overwrite old at bytes = take at old ++ bytes ++ drop (at + length bytes) old
 
--- the count numbers from first on
+-- `count` numbers, from `first` on
 unfoldable pub numbers_from : ℕ → ℕ → List ℕ
 numbers_from first zero = []
 numbers_from first (suc count) = first ∷ numbers_from (suc first) count

@@ -15,7 +15,7 @@ use Rattle.store_model.specs.Trees.Node.{Directory, File}
 abbrev pub Pair : Type 0
 Pair = List ℕ × List ℕ
 
--- the longest value
+-- the most bytes of a value
 abbrev pub value_limit : ℕ
 value_limit = 256
 
@@ -31,14 +31,14 @@ directory_value = 1 ∷ []
 abbrev pub file_value : ℕ → List ℕ
 file_value n = 2 ∷ to_be_bytes w32 n
 
--- the longest file whose bytes version 2 has in its first pair, and that pair's value
+-- the most bytes of a file that version 2 keeps in the file's first pair, and the value of that pair
 abbrev pub inline_limit : ℕ
 inline_limit = 200
 
 abbrev pub inline_value : List ℕ → List ℕ
 inline_value bytes = 3 ∷ bytes
 
--- whether a version has a file of n bytes in its first pair
+-- whether a version keeps the bytes of a file of n bytes in the file's first pair
 abbrev pub is_inline : Version → ℕ → Bool
 is_inline One n = false
 is_inline Two n = nat_le n inline_limit

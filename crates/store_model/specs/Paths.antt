@@ -86,7 +86,7 @@ is_inside p q = nat_lt (length q) (length p) && same_path (take (length q) p) q
 abbrev pub is_at_or_inside : Path → Path → Bool
 is_at_or_inside p q = same_path p q || is_inside p q
 
--- the path that p, which is old or lies below it, has once old has become new
+-- the path of p after a move of `old` to `new`, where p is `old` or lies below it
 unfoldable pub replanted : Path → Path → Path → Path
 replanted old new p = new ++ drop (length old) p
 

@@ -30,7 +30,7 @@ holds_nothing (Some (Some page)) = false
 abbrev pub is_free : Table → ℕ → Bool
 is_free table i = holds_nothing (slice_get table i)
 
--- the table with the page in that slot; no table with a free slot lacks one
+-- the table with the page in that slot, and as it is where no slot is given, which comes of a full table alone
 abbrev pub put_at : Table → Page → Option ℕ → Table
 put_at table page None = table
 put_at table page (Some i) = slice_set table i (Some page)

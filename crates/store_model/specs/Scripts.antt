@@ -37,8 +37,8 @@ answer t text p = if nat_lt line_limit (length text) then (record {
   tree = t;
 }) else answer_by t (parse text) p
 
--- the answers to questions, one after another from a state, where each is answered from the state that those before
--- it left. What answers a question gives the answer and the state after it
+-- the answers to questions that are asked one after another, the first in the state s: each is answered in the state
+-- that the one before it left. `answered` gives an answer and the state after it
 unfoldable pub answers_by : {S Q A : Type 0} → (S → Q → A × S) → S → List Q → List A
 answers_by answered s [] = []
 answers_by answered s (question ∷ questions) =
@@ -53,7 +53,7 @@ state_by answered s (question ∷ questions) = state_by answered (answered s que
 abbrev pub by_step : {Q : Type 0} → (Tree → Q → Step) → Tree → Q → Reply × Tree
 by_step answered t question = ((answered t question).reply, (answered t question).tree)
 
--- the replies to questions that steps from a tree answer
+-- the replies to questions that are asked one after another, the first on the tree t
 unfoldable pub replies_by : {Q : Type 0} → (Tree → Q → Step) → Tree → List Q → List Reply
 unfolding answers_by
 replies_by answered t questions = answers_by (by_step answered) t questions

@@ -22,7 +22,7 @@ use Rattle.store_model.specs.Commands.Command.{Digest, SetAttribute, UnsetAttrib
 use Rattle.store_model.specs.Commands.Reply.{Acknowledged, Content, Listing, AttributeListing, PagesUsed, ImageDigest}
 use Rattle.store_model.specs.Commands.Reply.{Refused}
 
--- the longest answer of one read
+-- the most bytes that one read may ask for
 abbrev pub read_limit : ℕ
 read_limit = 4096
 
@@ -56,7 +56,7 @@ no_attribute_refused t p a = (not (is_some (attribute_at t p a)), refusals.NoAtt
 abbrev pub is_too_long : Path → Attributes → Bool
 is_too_long p attributes = not (fits_field p) || list_any (λ a. not (fits_attribute p a.0)) attributes
 
--- whether a path at p or below it, or an attribute of one, would have a longer field than keys have, were p to become q
+-- whether a move of p to q would give a path at p or below it, or an attribute of one, a longer field than keys have
 unfoldable pub outgrows : Tree → Path → Path → Bool
 outgrows t p q = list_any (λ e. is_at_or_inside e.0 p && is_too_long (replanted p q e.0) e.1.attributes) t
 

@@ -28,7 +28,7 @@ Tree = List (Path × Entry)
 abbrev pub empty_tree : Tree
 empty_tree = []
 
--- the longest file
+-- the most bytes of a file
 abbrev pub file_limit : ℕ
 file_limit = 16777216
 
@@ -86,7 +86,7 @@ is_file t p = is_file_node (node_at t p)
 abbrev pub contents : Tree → Path → List ℕ
 contents t p = contents_of (node_at t p)
 
--- what a file may hold
+-- what may stand at a path: a directory, or a file of at most 16,777,216 bytes
 abbrev pub IsNode : Node → Type 0
 IsNode Directory = Unit {0}
 IsNode (File bytes) = (length bytes ≤ file_limit) × IsBytes bytes
@@ -154,7 +154,7 @@ without t p = filter (λ e. not (same_path e.0 p)) t
 unfoldable pub without_subtree : Tree → Path → Tree
 without_subtree t p = filter (λ e. not (is_at_or_inside e.0 p)) t
 
--- the path that the entry at p has once from has become to
+-- the path of the entry at p after a move of `from` to `to`
 abbrev pub moved_path : Path → Path → Path → Path
 moved_path from to p = if is_at_or_inside p from then replanted from to p else p
 

@@ -1,7 +1,9 @@
 //! The definitions that the whole store stands on: what a tree is, which pages spell it, where they
-//! lie in the table, and which bytes an image has; what a script says and what it answers. They stand
-//! in `specs/` and are plain mathematics. This crate has no program code beside three plain types and
-//! the length of a block; its worked examples and laws are those of `model_laws`.
+//! lie in the table, and which bytes an image has; what a script says and what it answers.
+//!
+//! Start at `specs/Trees.antt` (a tree), `specs/Steps.antt` (what a command does to it) and `specs/Images.antt` (its
+//! bytes). The definitions are plain mathematics. This crate has no program code beside three plain types and the
+//! length of a block. Worked examples and laws of the definitions stand in `model_laws`.
 #![tactic(auto)]
 
 mod draw_kind;

@@ -7,8 +7,8 @@ pub enum Refusal {
     Long,
     /// The line is not in the grammar.
     Syntax,
-    /// The field of a path passes 120 bytes; in a rename also that of a path or an attribute of the moved subtree, and
-    /// where an attribute is set also that of the attribute.
+    /// The field of a path would pass 120 bytes. In a rename this goes for each path and attribute of the moved
+    /// subtree too, and where an attribute is set for the attribute too.
     Path,
     /// The root may not stand here.
     Root,

@@ -86,7 +86,7 @@ module _ {M : Type 0} (Told : M → Type 0) (trees : M → Start → ℕ → Tre
     IsTurn Kept start first new done (Err status) = Stops start first new done status
 
     module _ (Due : Start → M → M → ℕ → Result Command Refusal → Type 0) where
-      -- Something is asked for: the tree behind it is its step, its reply is due, and a fault of the store may end
+      -- Something is asked for: the tree after it is its step, its reply is due, and a fault of the store may end
       -- the turns here.
       pub record Asks (start : Start) (first new : M) (done : ℕ) (asked : Result Command Refusal) : Type 0 where
         pub after : Told first → IsTrue start.tells

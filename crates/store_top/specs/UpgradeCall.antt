@@ -24,7 +24,7 @@ use Rattle.image_subcommands.specs.Outside.{Outside}
 use Rattle.image_subcommands.specs.Statuses.{Subcommand as words, IsStatusOf, IsPastHeader, MayComeFirst, ComesExactly}
 use Rattle.image_subcommands.specs.Statuses.{done_of_work}
 
--- the writes behind the opening of an image that was of this version, where so many slots differ between the two
+-- the writes after the opening of an image that was of this version, where so many slots differ between the two
 -- versions
 abbrev pub writes_behind : Version → ℕ → ℕ
 writes_behind One slots = upgrade_writes slots

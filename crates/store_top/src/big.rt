@@ -11,10 +11,9 @@ ghost use Rattle.image_subcommands.specs.Outside.{KeepsOutside, outside_of};
 ghost use Rattle.store_top.specs.Runs.{IsReady};
 
 use crate::generated::Generated;
-use crate::run::ended_status;
 use crate::work::answer_all;
 use disk_model::Disk;
-use image_subcommands::{Outcome, Status};
+use image_subcommands::{Outcome, Status, ended_status};
 use script_lines::{Command, Generator, Reply, Sink, SinkFault, Source, Text, write_reply};
 use std::alloc::Global;
 use store_core::Store;
@@ -90,8 +89,9 @@ pub fn big<D: Disk, R: Source, W: Sink>(
     sink: W,
 ) -> Outcome<D, R, W>
     ensures big { IsBig D.state W.state number count (outside_of disk source sink) result }
-    ensures outside { KeepsOutside result.status (D.state disk) (D.state result.disk)
-        (R.state source) (R.state result.source) (W.state sink) (W.state result.sink) }
+    ensures outside { KeepsOutside result.status (D.state disk)
+        (D.state result.disk) (R.state source)
+        (R.state result.source) (W.state sink) (W.state result.sink) }
 {
     let mut store = match Store::attach(alloc, disk) {
         Ok(store) => store,

@@ -30,17 +30,17 @@ use script_lines::{Sink, Source};
 use std::alloc::Global;
 use store_base::NoMemory;
 
-/// Carries out the words of a command line on a disk: `format` and `format2` make the image of the empty tree, of
-/// version 1 and 2, `run` answers the script that the source has and writes the replies to the sink, `session` does
-/// so with a script of calls on sessions, `check` prints a line that tells what the disk holds, `scrub` recovers the
-/// image, makes its free slots zero and prints such a line, `wipe` makes every byte zero, `upgrade` makes the image
-/// one of version 2, `dump` prints the commands that make the tree of the image, `load` makes the tree of such a
-/// listing in an empty image, `big` carries out the commands that a number gives and prints four lines that sum them
+/// Carries out the words of a command line on a disk. `format` and `format2` make the image of the empty tree, of
+/// version 1 and 2. `run` answers the script that the source has, and writes the replies to the sink. `session` does
+/// so with a script of calls on sessions. `check` prints a line that tells what the disk holds. `scrub` recovers the
+/// image, makes its free slots zero and prints such a line. `wipe` makes every byte zero. `upgrade` makes the image
+/// one of version 2. `dump` prints the commands that make the tree of the image. `load` makes the tree of such a
+/// listing in an empty image. `big` carries out the commands that a number gives, and prints four lines that sum them
 /// up.
 ///
-/// Words that are not well formed end with `Usage`, and then nothing is called; nor is anything called where memory
-/// runs out while the words are read. What each subcommand promises is one record: how it ends, which status comes
-/// exactly where, and what stands then of the disk, the source and the sink.
+/// Words that are not well formed end with `Usage`, and nothing is called. Nor is anything called where memory runs
+/// out while the words are read. What each subcommand promises is one record: how it ends, which status comes exactly
+/// where, and what stands then of the disk, the source and the sink.
 pub fn top<D: Disk, R: Source, W: Sink>(
     alloc: Global,
     words: &Words,
@@ -56,8 +56,9 @@ pub fn top<D: Disk, R: Source, W: Sink>(
         → CallsNothing (outside_of disk source sink) result }
 
     // The disk, the source and the sink: a second call can follow on this one, and each failed call is the status.
-    ensures outside { KeepsOutside result.status (D.state disk) (D.state result.disk)
-        (R.state source) (R.state result.source) (W.state sink) (W.state result.sink) }
+    ensures outside { KeepsOutside result.status (D.state disk)
+        (D.state result.disk) (R.state source)
+        (R.state result.source) (W.state sink) (W.state result.sink) }
 
     // What each subcommand does.
     ensures format { (p : Parameters) → request_of words.now ≡ Some (Format p)
@@ -97,8 +98,9 @@ fn serve_request<D: Disk, R: Source, W: Sink>(
     sink: W,
 ) -> Outcome<D, R, W>
     ensures served { result.status ≢ Status.Usage }
-    ensures outside { KeepsOutside result.status (D.state disk) (D.state result.disk)
-        (R.state source) (R.state result.source) (W.state sink) (W.state result.sink) }
+    ensures outside { KeepsOutside result.status (D.state disk)
+        (D.state result.disk) (R.state source)
+        (R.state result.source) (W.state sink) (W.state result.sink) }
     ensures format { (p : Parameters) → request_seen request ≡ Format p
         → IsFormat D.state p (outside_of disk source sink) result }
     ensures run { request_seen request ≡ Run

@@ -1,4 +1,4 @@
-//! What a line of a session asks for, answered in the place of a reply.
+//! Answers what a line of a session asks for, in a reply that is lent.
 //!
 //! A reply is large, and whatever makes one anew has a function of its own: joined to its caller, its room for a reply
 //! would be cleared at each line.
@@ -18,8 +18,8 @@ use session_core::{Committed, SessionFault, Sessions};
 use store_core::ApplyFault;
 use store_model::Refusal;
 
-/// Answers what is asked for, in the place of a reply: a call is made on the sessions, and a refusal is the reply.
-/// `false`: nothing was asked for, and nothing is done.
+/// Answers what is asked for, in `reply`: makes a call on the sessions, or gives the refusal as the reply. `false`:
+/// nothing was asked for, and nothing is done.
 pub(crate) fn answer_asked<D: Disk>(
     sessions: &mut Sessions<D>,
     asked: Asked,
@@ -42,8 +42,8 @@ pub(crate) fn answer_asked<D: Disk>(
     }
 }
 
-/// Makes the call that a line asks for, and puts its answer in the place of a reply, also where it is turned away. A
-/// fault of the store is the error.
+/// Makes the call that a line asks for, and puts its answer into `reply`, also where it is turned away. `Err` has a
+/// fault of the store.
 fn answer_line<D: Disk>(
     sessions: &mut Sessions<D>,
     line: &SessionLine,
@@ -58,8 +58,7 @@ fn answer_line<D: Disk>(
     }
 }
 
-/// Makes the call that a line asks for, and puts its answer in the place of a reply. After a fault some reply stands
-/// there.
+/// Makes the call that a line asks for, and puts its answer into `reply`. After a fault any reply may stand there.
 fn call<D: Disk>(
     sessions: &mut Sessions<D>,
     line: &SessionLine,
@@ -87,7 +86,7 @@ fn begin<D: Disk>(sessions: &mut Sessions<D>, reply: &mut SessionReply) -> Resul
     Ok(())
 }
 
-/// Asks a question. The reply to it is put where that to another stands, and else a place is made for it.
+/// Asks a question. Its reply takes the place of another question's reply; where none stands there, a place is made.
 fn ask<D: Disk>(
     sessions: &mut Sessions<D>,
     id: u32,
@@ -198,8 +197,8 @@ fn put_refusal(refusal: Refusal, reply: &mut SessionReply)
     *reply = SessionReply::NotRead(refusal);
 }
 
-/// Tells the fault of a call: the answer of one that was turned away is put in the place of a reply, and a fault of the
-/// store is the error.
+/// Tells the fault of a call. The answer of a call that was turned away goes into `reply`, and `Err` has a fault of
+/// the store.
 #[inline(never)]
 fn tell_fault(fault: SessionFault, reply: &mut SessionReply) -> Result<(), ApplyFault>
     ensures { told_in (in_place reply.new result) ≡ told_of_fault fault }

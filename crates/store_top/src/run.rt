@@ -1,27 +1,15 @@
 //! The subcommand `run`: opens an image and answers a script.
 
-ghost use Rattle.std.specs.Prelude.{◌≡◌};
-ghost use Rattle.image_subcommands.specs.Endings.{ended_status};
 ghost use Rattle.image_subcommands.specs.Outside.{KeepsOutside, outside_of};
 ghost use Rattle.store_top.specs.RunCall.{IsRun};
 
 use crate::lines::Script;
 use crate::work::answer_all;
 use disk_model::Disk;
-use image_subcommands::{Outcome, Status};
+use image_subcommands::{Outcome, Status, ended_status};
 use script_lines::{LineReader, Sink, Source};
 use std::alloc::Global;
 use store_core::Store;
-
-/// How a call ends whose lines ended so.
-pub(crate) fn ended_status(ended: Result<(), Status>) -> Status
-    ensures { result ≡ ended_status ended }
-{
-    match ended {
-        Ok(()) => Status::Done,
-        Err(status) => status,
-    }
-}
 
 /// Answers the script that the source has: takes the room of the reader of lines, attaches the image, and
 /// answers each line.
@@ -32,8 +20,9 @@ pub fn run<D: Disk, R: Source, W: Sink>(
     sink: W,
 ) -> Outcome<D, R, W>
     ensures run { IsRun D.state R.state W.state (outside_of disk source sink) result }
-    ensures outside { KeepsOutside result.status (D.state disk) (D.state result.disk)
-        (R.state source) (R.state result.source) (W.state sink) (W.state result.sink) }
+    ensures outside { KeepsOutside result.status (D.state disk)
+        (D.state result.disk) (R.state source)
+        (R.state result.source) (W.state sink) (W.state result.sink) }
 {
     let reader = match LineReader::new(alloc, source) {
         Ok(reader) => reader,

@@ -14,10 +14,9 @@ ghost use Rattle.store_top.specs.Turns.{asked_in};
 
 use crate::calls::answer_asked;
 use crate::lines::Script;
-use crate::run::ended_status;
 use crate::work::Asked;
 use disk_model::Disk;
-use image_subcommands::{Outcome, Status};
+use image_subcommands::{Outcome, Status, ended_status};
 use script_lines::{
     Command, Line, LineFault, LineReader, SessionLine, SessionReply, Sink, Source,
     read_session_line, write_session_reply,
@@ -28,7 +27,7 @@ use store_core::Store;
 use store_model::Refusal;
 
 /// Reads the next line, and says what it asks for. A call is put in the place of a line, and a command in it is read
-/// in a place of its own. `Source` and `TooLong`, as of `LineReader::next_line`: nothing is asked for behind them.
+/// in a place of its own. `Source` and `TooLong`, as from `LineReader::next_line`: nothing is asked for after them.
 fn next_asked<R: Source>(
     reader: &mut LineReader<R>,
     command: &mut Command,
@@ -105,8 +104,9 @@ pub fn session<D: Disk, R: Source, W: Sink>(
     sink: W,
 ) -> Outcome<D, R, W>
     ensures session { IsSession D.state R.state W.state (outside_of disk source sink) result }
-    ensures outside { KeepsOutside result.status (D.state disk) (D.state result.disk)
-        (R.state source) (R.state result.source) (W.state sink) (W.state result.sink) }
+    ensures outside { KeepsOutside result.status (D.state disk)
+        (D.state result.disk) (R.state source)
+        (R.state result.source) (W.state sink) (W.state result.sink) }
 {
     let reader = match LineReader::new(alloc, source) {
         Ok(reader) => reader,

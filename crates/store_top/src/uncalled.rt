@@ -22,8 +22,9 @@ use script_lines::{Sink, Source};
 pub(crate) fn usage<D: Disk, R: Source, W: Sink>(disk: D, source: R, sink: W) -> Outcome<D, R, W>
     ensures ends { result.status ≡ Status.Usage }
     ensures nothing { CallsNothing (outside_of disk source sink) result }
-    ensures outside { KeepsOutside result.status (D.state disk) (D.state result.disk)
-        (R.state source) (R.state result.source) (W.state sink) (W.state result.sink) }
+    ensures outside { KeepsOutside result.status (D.state disk)
+        (D.state result.disk) (R.state source)
+        (R.state result.source) (W.state sink) (W.state result.sink) }
 {
     Outcome::idle(Status::Usage, disk, source, sink)
 }
@@ -36,8 +37,9 @@ pub(crate) fn no_memory<D: Disk, R: Source, W: Sink>(
 ) -> Outcome<D, R, W>
     ensures ends { result.status ≡ Status.NoMemory }
     ensures nothing { CallsNothing (outside_of disk source sink) result }
-    ensures outside { KeepsOutside result.status (D.state disk) (D.state result.disk)
-        (R.state source) (R.state result.source) (W.state sink) (W.state result.sink) }
+    ensures outside { KeepsOutside result.status (D.state disk)
+        (D.state result.disk) (R.state source)
+        (R.state result.source) (W.state sink) (W.state result.sink) }
     ensures format { (p : Parameters) → IsFormat D.state p (outside_of disk source sink) result }
     ensures run { IsRun D.state R.state W.state (outside_of disk source sink) result }
     ensures session { IsSession D.state R.state W.state (outside_of disk source sink) result }

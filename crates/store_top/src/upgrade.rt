@@ -12,7 +12,7 @@ use script_lines::{Sink, Source};
 use std::alloc::Global;
 use store_core::{ApplyFault, Store};
 
-/// How a call ends whose upgrade ended so.
+/// The status of a call whose upgrade ended so.
 fn upgrade_status(upgraded: Result<(), ApplyFault>) -> Status
     ensures { result ≡ endings.status_of apply_status upgraded }
 {
@@ -30,8 +30,9 @@ pub fn upgrade<D: Disk, R: Source, W: Sink>(
     sink: W,
 ) -> Outcome<D, R, W>
     ensures upgrade { IsUpgrade D.state (outside_of disk source sink) result }
-    ensures outside { KeepsOutside result.status (D.state disk) (D.state result.disk)
-        (R.state source) (R.state result.source) (W.state sink) (W.state result.sink) }
+    ensures outside { KeepsOutside result.status (D.state disk)
+        (D.state result.disk) (R.state source)
+        (R.state result.source) (W.state sink) (W.state result.sink) }
 {
     let mut store = match Store::attach(alloc, disk) {
         Ok(store) => store,

@@ -67,9 +67,8 @@ pub trait Work {
     /// What holds where the turns ended with this status.
     ghost ends: { Start → Self → Self → ℕ → Status → Type 0 };
 
-    /// Says what is asked for next; a command is put in the place that is lent. `Err` has the status of a call that a
-    /// fault of the work ended; nothing is asked for behind it. Where no command is asked for, any may stand in the
-    /// place.
+    /// Says what is asked for next. A command is put into `command`; where none is asked for, any may stand there.
+    /// `Err`: a fault of the work ended the call, with this status, and nothing more is asked for.
     fn next(&mut self, command: &mut Command) -> Result<Asked, Status>
         requires { live self.old }
         ensures live { OnOk result (live self.new) }
@@ -78,7 +77,7 @@ pub trait Work {
         ensures turn { (start : Start) (first : Self) (done : ℕ) → kept start first self.old done
             → IsNext told trees ends due start first self.new done (asked_in command.new result) };
 
-    /// Takes the reply to what was asked for. `Err` has the status of a call that a fault of the work ended.
+    /// Takes the reply to what was asked for. `Err`: a fault of the work ended the call, with this status.
     fn answered(&mut self, reply: &Reply) -> Result<(), Status>
         requires { live self.old }
         ensures live { live self.new }
@@ -89,7 +88,7 @@ pub trait Work {
             → IsTurn told trees ends kept start first self.new (done + 1) result };
 }
 
-/// Answers what is asked for, in the place of a reply: the command is carried out, and a refusal is the reply. `false`:
+/// Answers what is asked for, in `reply`: carries out the command, or gives the refusal as the reply. `false`:
 /// nothing was asked for, and nothing is done.
 fn answer_asked<D: Disk>(
     store: &mut Store<D>,

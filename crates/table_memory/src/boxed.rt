@@ -49,7 +49,7 @@ impl<T> Boxed<T> {
 }
 
 impl<T: Copy> Boxed<T> {
-    /// Puts a copy of the value in the place of the one that is there. It takes no memory.
+    /// Replaces the value that is there by a copy of this one. It takes no memory.
     pub fn set(&mut self, value: &T)
         ensures { self.new ≡ value.now }
     {

@@ -15,9 +15,9 @@ use std::collections::BTreeMap;
 use store_base::Fault;
 use store_model::Slot;
 
-/// The slots that were written and have other bytes in the table of the disk, which has so many slots. The disk is only
-/// read, and what the cache keeps of it is not read again. What was written is taken one by one, since so its map keeps
-/// its memory.
+/// Finds the written slots that have other bytes in the table of the disk, which has so many slots. The disk is only
+/// read, and what the cache keeps of it is not read again. The written slots are taken one by one, so that their map
+/// keeps its memory.
 pub fn find_changes<D: Disk>(
     alloc: Global,
     disk: &mut D,

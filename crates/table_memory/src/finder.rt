@@ -19,11 +19,12 @@ const NO_SLOT: u32 = u32::MAX;
 /// How many starts are kept: those of the pages that one command looks for, or adds.
 const STARTS: usize = 8;
 
-/// A draw, and what helps to find a page in the slots that it lays out: the starts that were drawn last, each with its
-/// label, since a page that is new is looked for when it is staged, and once more when it is laid; what was digested
-/// last of a label's front, since the labels of a group begin alike; and the slots where pages were found last, each at
-/// the place of its label. By now such a slot may hold another page or none, so whoever asks looks there, and contracts
-/// tell nothing of it.
+/// A draw, and what helps to find a page in the slots that it lays out.
+///
+/// It keeps the starts that were drawn last, each with its label: a new page is looked for when it is staged, and
+/// once more when it is laid. It keeps what was digested last of a label's front, since the labels of a group begin
+/// alike. It keeps the slots where pages were found last, each at the place of its label. By now such a slot may hold
+/// another page or none, so a caller has to look there, and contracts tell nothing of it.
 #[derive(Drop)]
 pub struct Finder<W: Draw> {
     /// The draw.
@@ -43,7 +44,7 @@ fn place_of_hint(label: &Label) -> usize {
 }
 
 impl<W: Draw> Finder<W> {
-    /// The draw alone: nothing is kept. It takes no memory.
+    /// Takes the draw, and keeps nothing yet. It takes no memory.
     pub fn new(alloc: Global, draw: W) -> Finder<W>
         ensures draw { result.draw ≡ draw }
         ensures starts { result.starts.items ≡ [] }

@@ -1,9 +1,9 @@
 //! What is kept in memory of the table of an image: slots that were read, and what was found in it.
 //!
-//! The slots that were read last are kept (`SlotCache`), each as the table of the disk has it, and are not read again.
-//! What was found under a label is remembered too (`PageMemo`), and is not looked up again. The slot where a page was
-//! found last is looked at first, and starts that were drawn last are kept (`Finder`). Nothing is searched for here,
-//! and nothing is written to a disk.
+//! Start at `SlotCache` and `PageMemo`. `SlotCache` keeps the slots that were read last, each as the table of the
+//! disk has it, so that they are not read again. `PageMemo` remembers what was found under a label, so that it is not
+//! looked up again. `Finder` remembers the slot where a page was found last, which is looked at first, and the starts
+//! that were drawn last. Nothing is searched for here, and nothing is written to a disk.
 #![tactic(auto)]
 
 mod boxed;

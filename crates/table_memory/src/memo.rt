@@ -95,7 +95,7 @@ fn page_of(entry: Option<(Label, Option<Boxed<Page>>)>) -> Option<Boxed<Page>> {
 }
 
 impl PageMemo {
-    /// The memo in which nothing is. It takes no memory.
+    /// Makes an empty memo. It takes no memory.
     pub fn new(alloc: Global) -> PageMemo
         ensures { result ≡ [] }
     {
@@ -105,8 +105,8 @@ impl PageMemo {
         }
     }
 
-    /// What is remembered of the label, whose place this is, if anything is: a page, or that there is none. It takes no
-    /// memory.
+    /// Recalls what is remembered of the label, which has this place: a page, or that there is none; `None` where
+    /// nothing is remembered. It takes no memory.
     pub fn recall(&self, place: usize, label: &Label) -> Option<&Option<Boxed<Page>>>
         requires { place ≡ memo_place (label_bytes label.now) }
         ensures found { IfSome result (λ found. IsRemembered self.now label.now found.now) }
@@ -151,8 +151,8 @@ impl PageMemo {
         let _ = self.keep(*label, None);
     }
 
-    /// Takes over what is staged: under each label of a change what is there behind it, where there is memory for it.
-    /// Under each other label nothing more is remembered than was. Pages that gave place are spared.
+    /// Takes over what is staged: remembers what each change has under its label, where there is memory for it. Under
+    /// each other label nothing more is remembered than was. Boxes of pages that gave way go to the spares.
     // The changes are taken one by one, since so their map keeps its memory.
     pub fn renew(
         &mut self,

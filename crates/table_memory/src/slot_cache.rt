@@ -21,7 +21,7 @@ use store_model::{BLOCK, Slot};
 /// How many slots are kept.
 const KEPT_SLOTS: usize = 64;
 
-/// Slots of a table, those that were asked for last, no more than `KEPT_SLOTS`. Contracts see each with its number.
+/// The slots of a table that were asked for last, at most `KEPT_SLOTS`. Contracts see each with its number.
 #[derive(Drop)]
 pub struct SlotCache {
     alloc: Global,
@@ -43,7 +43,7 @@ impl Model for SlotCache {
 }
 
 impl SlotCache {
-    /// The cache that keeps no slot.
+    /// Makes a cache that keeps no slot yet.
     pub fn new(alloc: Global) -> Result<SlotCache, NoMemory>
         ensures { IfOk result (λ cache. cache ≡ []) }
     {
@@ -84,8 +84,7 @@ impl SlotCache {
         Some(T::tell(slot.get(), wanted))
     }
 
-    /// Keeps a slot, where there is memory for it; where there are more then than may be, the one asked for longest ago
-    /// goes.
+    /// Keeps a slot, where there is memory for it. If there are too many then, the one asked for longest ago goes.
     fn keep(&mut self, at: u32, slot: &Slot)
         ensures { KeepsOne self.old self.new at slot.now }
     {
@@ -167,8 +166,9 @@ pub fn read_slot<D: Disk>(
     Ok(())
 }
 
-/// What is told by these bytes of this slot of the table of a disk that has so many. A slot that is kept is not copied
-/// for it, and is not read again. After `DiskFault` what is kept is still the table's, and may be one slot less.
+/// Asks a slot of the table of a disk, which has so many, what it tells by these bytes (`Told`). A slot that is kept
+/// is not copied for it, and is not read again. After `DiskFault` what is kept is still the table's, and may be one
+/// slot less.
 pub fn tell_slot<D: Disk, T: Told>(
     disk: &mut D,
     cache: &mut SlotCache,

@@ -12,8 +12,8 @@ use store_base::{Label, NoMemory};
 /// How many boxes are kept.
 const MOST: usize = 8;
 
-/// A few boxes, so that the value of one that was given up makes room for the next one, and no memory is taken. What is
-/// in them is told to nobody.
+/// Keeps a few boxes that were given up, so that the next values take no memory. Contracts tell nothing of what is in
+/// them.
 #[derive(Drop)]
 pub struct Spares<T> {
     alloc: Global,
@@ -21,7 +21,7 @@ pub struct Spares<T> {
 }
 
 impl<T: Copy> Spares<T> {
-    /// No box. It takes no memory.
+    /// Keeps no box yet. It takes no memory.
     pub fn new(alloc: Global) -> Spares<T> {
         Spares {
             alloc,
@@ -29,7 +29,7 @@ impl<T: Copy> Spares<T> {
         }
     }
 
-    /// A copy of the value in a box.
+    /// Puts a copy of the value into a box.
     pub fn copy(&mut self, value: &T) -> Result<Boxed<T>, NoMemory>
         ensures { IfOk result (λ boxed. boxed ≡ value.now) }
     {

@@ -1,10 +1,10 @@
-//! What is told of a slot where it lies.
+//! What a slot tells in place, without a copy of it.
 
 ghost use Rattle.std.specs.Prelude.{◌≡◌, ◌↔◌, ℕ, List, IsTrue};
 
 use store_model::Slot;
 
-/// What a slot is asked for by other bytes, so that it need not be copied: how the label in it stands to theirs, or
+/// What a slot tells by other bytes, so that it need not be copied: how the label in it compares to theirs, or
 /// whether they are its own.
 pub trait Told {
     /// What is told of a slot by other bytes.

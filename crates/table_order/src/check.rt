@@ -83,8 +83,8 @@ fn sort_noted(entries: &mut [Entry], found: &Result<Option<u32>, Fault>)
     }
 }
 
-/// How many pages the slots hold, where each is all zero or a page, each page's level is below the height, and the
-/// pages are in order; `None` exactly where that is not so.
+/// Counts the pages that the slots hold, where each slot is all zero or a page, each page's level is below the
+/// height, and the pages are in order; `None` exactly where that is not so.
 ///
 /// Where it counts pages it leaves an index of them in the first entries, one for each page, by the draw's digests of
 /// their labels. So each label is digested once, for its start and for the index.
@@ -92,8 +92,8 @@ fn sort_noted(entries: &mut [Entry], found: &Result<Option<u32>, Fault>)
 /// Each slot that is read and each start that is drawn counts as a step: they are at most four for each slot.
 ///
 /// There have to be as many slots as the draw's, at most `MAX_SLOTS`, and an entry for each at least. A fault of the
-/// slots ends the call, and the slots are as they were. The call takes no memory, so want of memory comes from slots
-/// alone that may take some.
+/// slots ends the call, and the slots are as they were. The call takes no memory, so want of memory comes only from
+/// slots that may take some.
 pub fn check_order<S: ReadSlots, W: Draw, L: Ledger>(
     slots: &mut S,
     draw: &W,

@@ -59,8 +59,7 @@ impl Pages for CountedPages {
       is_observable = ⊥;
       pages = maps.empty;
       faults = 0;
-      lookups =
-          p.lookups;
+      lookups = p.lookups;
       at_hand = λ _. Unit {0};
     } };
 

@@ -26,8 +26,9 @@ pub fn change<P: OrderedPairs>(
 ) -> Result<Answer<()>, Fault>
     requires change { is_change (command_of command.now) ≡ true }
     requires room { HasRoom (P.state pairs.old) }
-    ensures call { CarriesOutUnder version (λ _. Acknowledged) (command_of command.now)
-        (P.state pairs.old) (P.state pairs.new) result }
+    ensures call { CarriesOutUnder version (λ _. Acknowledged)
+        (command_of command.now) (P.state pairs.old)
+        (P.state pairs.new) result }
     ensures follows { P.follows pairs.old pairs.new }
 {
     match command {
@@ -58,8 +59,9 @@ fn write<P: OrderedPairs>(
     version: Version,
 ) -> Result<Answer<()>, Fault>
     requires room { HasRoom (P.state pairs.old) }
-    ensures call { CarriesOutUnder version (λ _. Acknowledged) (Write path.now at bytes.now)
-        (P.state pairs.old) (P.state pairs.new) result }
+    ensures call { CarriesOutUnder version (λ _. Acknowledged)
+        (Write path.now at bytes.now) (P.state pairs.old)
+        (P.state pairs.new) result }
     ensures follows { P.follows pairs.old pairs.new }
 {
     if kind_of(pairs, &path.parent().unwrap_or(*path))? != Some(Kind::Directory) {

@@ -1,6 +1,6 @@
-//! The commands on a tree, over any list of pairs that holds it: those that look at it are answered, and those that
-//! change it are carried out. How many pages the tree takes is not counted here, so none is refused as full, nor for
-//! the image's version.
+//! The commands on a tree, over any list of pairs that holds it. Start at `answer`, which answers those that look at
+//! the tree, and at `change`, which carries out those that change it. Pages are not counted here, so no command is
+//! refused as full. Nor is one refused for the image's version.
 #![tactic(auto)]
 
 mod changes;

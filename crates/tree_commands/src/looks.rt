@@ -14,8 +14,8 @@ use script_lines::{Command, Reply};
 use std::alloc::Global;
 use store_base::Fault;
 
-/// Answers a command by the pairs, and puts the reply in the place of another. A fault of the pairs is handed on;
-/// nothing is promised of the pairs after it.
+/// Answers a command from the pairs, and puts the reply into `reply`. A fault of the pairs is handed on; nothing is
+/// promised of the pairs after it.
 pub fn answer<P: OrderedPairs>(
     alloc: Global,
     pairs: &mut P,
@@ -86,8 +86,9 @@ fn answer_get<P: OrderedPairs>(
     name: &AttrName,
     reply: &mut Reply,
 ) -> Result<(), Fault>
-    ensures call { AnswersBy (GetAttribute path.now name.now) (P.state pairs.old)
-        (P.state pairs.new) (in_place reply.new result) }
+    ensures call { AnswersBy (GetAttribute path.now name.now)
+        (P.state pairs.old) (P.state pairs.new)
+        (in_place reply.new result) }
     ensures follows { P.follows pairs.old pairs.new }
 {
     *reply = match attr(pairs, path, name)? {

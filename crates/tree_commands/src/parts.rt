@@ -6,7 +6,7 @@ ghost use Rattle.script_lines.specs.Parsing.{command_of};
 
 use script_lines::Command;
 
-/// Whether a command is on attributes, which version 1 of the format has none of.
+/// Whether a command is on attributes. Version 1 of the format has none.
 #[tactic(auto, unfolding(store_model::specs::Steps::is_on_attributes))]
 pub fn is_on_attributes(command: &Command) -> bool
     ensures { result ≡ model.is_on_attributes (command_of command.now) }

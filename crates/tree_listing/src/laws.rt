@@ -22,8 +22,9 @@ pub fn every_front_of_a_dump_is_a_dump()
 /// Where a tree fits an image, each command of its dump is carried out by `run` on the empty image: each tree on the
 /// way fits, and the last one is the tree. So it is with every listing of the tree.
 pub fn every_listing_runs()
-    ensures law { (t : Tree) (p : Parameters) (script : List ℕ) → IsTreeUnder t p → Fits t p
-        → IsListing t script → RunsListing t p script }
+    ensures law { (t : Tree) (p : Parameters) (script : List ℕ) → IsTreeUnder t p
+        → Fits t p → IsListing t script
+        → RunsListing t p script }
 {}
 
 /// The dump of a tree that fits an image, however large the image is, keeps the limit of a script; each of its lines

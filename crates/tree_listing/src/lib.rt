@@ -1,8 +1,9 @@
 //! Listings: whether commands that come one after another are those of the dump of a tree, and the pairs of that tree.
 //!
-//! A dump is the commands that make a tree, path after path in their order, each with its attributes behind it. So the
-//! last command tells which may be the next, and the first commands of a dump are a dump: no list of the paths is kept.
-//! What is kept are the pairs of the tree, while its pages fit, and of each level of the list how many pages it has.
+//! Start at `Listing`. A dump is the commands that make a tree, path after path in their order, each with its
+//! attributes behind it. So the last command tells which may be the next, and the first commands of a dump are a
+//! dump: no list of the paths is kept. What is kept are the pairs of the tree, while its pages fit, and of each level
+//! of the list how many pages it has.
 #![tactic(auto)]
 
 mod laws;

@@ -35,9 +35,9 @@ impl Listing {
         }
     }
 
-    /// Takes the next command: whether some tree's dump begins with those that were taken and this one. Where the
-    /// answer is no, nothing changed.
-    /// `NoMemory`: memory ran out, or the tree would have more than 268,435,456 pairs; no more is to be asked of the
+    /// Takes the next command, and says whether some tree's dump begins with those that were taken and this one. If
+    /// not, nothing changed.
+    /// `NoMemory`: memory ran out, or the tree would have more than 268,435,456 pairs. Ask nothing more of the
     /// listing then.
     pub fn add(&mut self, command: &Command) -> Result<bool, NoMemory>
         ensures { TakesCommand self.old self.new (command_of command.now) result }

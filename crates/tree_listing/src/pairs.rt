@@ -138,10 +138,10 @@ impl ListedPairs {
         ensures params { self.new.params ≡ self.old.params }
         ensures first { self.new.first ≡ length self.old.pairs }
         ensures added { OnOk result
-            (AddsPairs (any_draw draw.now)
-            self.old.pairs
+            (AddsPairs (any_draw draw.now) self.old.pairs
             (model.file_pairs (model.is_inline self.old.params.version (length bytes.now))
-            path.now bytes.now) self.old self.new) }
+            path.now bytes.now)
+            self.old self.new) }
     {
         let bytes = bytes.as_slice();
         let len = bytes.len() as u32;

@@ -43,8 +43,8 @@ impl ListingReader {
         }
     }
 
-    /// Takes the next command: whether some tree's dump begins with those that were taken and this one, under the
-    /// reader's version. Then these are the whole dump of the tree that the command leads to. Where the answer is no,
+    /// Takes the next command, and says whether some tree's dump begins with those that were taken and this one,
+    /// under the reader's version. Then these are the whole dump of the tree that the command leads to. If not,
     /// nothing changed.
     pub fn add(&mut self, command: &Command) -> bool
         requires { IsCommand (command_of command.now) }

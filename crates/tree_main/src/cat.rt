@@ -10,7 +10,7 @@ use path_keys::Path;
 /// Prints the bytes of the file that stands at a path of the listing on standard input.
 pub fn cat(rt: HostRuntime, text: &str) -> Result<bool, Trouble> {
     let Ok(path) = Path::parse(text.as_bytes()) else {
-        return Err(Trouble::NoPath(copy(rt, text)?));
+        return Err(Trouble::NoPath);
     };
     let mut listing = of_input(rt)?;
     let mut taker = ContentTaker::new(path, output(rt)?);

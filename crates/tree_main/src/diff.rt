@@ -1,15 +1,15 @@
 //! `diff`: compares two listings.
 
-use crate::listing::{INPUT, Listing, ahead_of_input, of_file, of_input, trouble_of};
+use crate::listing::{INPUT, Listing, ahead_of_input, is_passing, of_file, trouble_of};
 use crate::output::{Output, finish, output};
-use crate::trouble::Trouble;
+use crate::trouble::{Trouble, spelled};
 use dump_diff::{
     AdditionTaker, CompareFault, Differences, compare, write_differences, write_removals,
 };
 use dump_streams::{DrainFault, drain_listing};
 
-/// Prints how two listings differ, or the script that leads from the tree of the first to that of the second; whether
-/// they are equal.
+/// Prints how two listings differ, or the script that leads from the tree of the first to that of the second, and
+/// says whether they are equal.
 pub fn diff(rt: HostRuntime, first: &str, second: &str, is_script: bool) -> Result<bool, Trouble> {
     if first == INPUT && second == INPUT {
         return Err(Trouble::InputTwice);
@@ -66,6 +66,9 @@ fn print_script(rt: HostRuntime, first: &str, second: &str) -> Result<bool, Trou
 
 /// The second listing, which is read once more later.
 fn ahead_of(rt: HostRuntime, second: &str) -> Result<Listing, Trouble> {
+    if is_passing(rt, second) {
+        return Err(Trouble::PipeTwice(spelled(rt, second)?));
+    }
     if second != INPUT {
         return of_file(rt, second);
     }

@@ -42,7 +42,7 @@ pub fn go_through(rt: HostRuntime, folder: &str, taken: Taken) -> Result<Packed,
     })
 }
 
-/// Why the commands of a folder's dump ended. What it cannot read it has named.
+/// Why the commands of a folder's dump ended. What cannot be read was named already.
 pub fn trouble_of(rt: HostRuntime, dump: &FolderDump, fault: StreamFault) -> Trouble {
     match fault {
         StreamFault::NoMemory => Trouble::NoMemory,

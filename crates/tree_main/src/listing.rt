@@ -1,6 +1,6 @@
 //! Where a listing comes from: standard input, or a file.
 
-use crate::trouble::{Trouble, copy, of_listing};
+use crate::trouble::{Trouble, copy, of_listing, spelled};
 use dump_streams::{ListingStream, StreamFault};
 use host_files::second_look;
 use script_lines::StdSource;
@@ -36,11 +36,11 @@ impl Read for Reader {
 pub type Listing = ListingStream<StdSource<Reader>>;
 
 /// What a listing is called in a message.
-fn called(name: &str) -> &str {
+fn called(rt: HostRuntime, name: &str) -> Result<String, Trouble> {
     if name == INPUT {
-        "standard input"
+        copy(rt, "standard input")
     } else {
-        name
+        spelled(rt, name)
     }
 }
 
@@ -65,6 +65,11 @@ pub fn ahead_of_input(rt: HostRuntime) -> Result<Option<Listing>, Trouble> {
     }
 }
 
+/// Whether something stands at a path that may not give its bytes twice, as a pipe.
+pub fn is_passing(rt: HostRuntime, name: &str) -> bool {
+    fs::metadata(&rt, name).is_ok_and(|found| !found.is_file() && !found.is_dir())
+}
+
 /// The listing in a file, or the one on standard input.
 pub fn of_file(rt: HostRuntime, name: &str) -> Result<Listing, Trouble> {
     if name == INPUT {
@@ -73,11 +78,14 @@ pub fn of_file(rt: HostRuntime, name: &str) -> Result<Listing, Trouble> {
     let is_folder = fs::metadata(&rt, name).is_ok_and(|found| found.is_dir());
     match File::open(&rt, name) {
         Ok(file) if !is_folder => listing_of(rt, Reader::File(file)),
-        _ => Err(Trouble::NotOpened(copy(rt, name)?)),
+        _ => Err(Trouble::NotOpened(spelled(rt, name)?)),
     }
 }
 
 /// Why the commands of a listing ended.
 pub fn trouble_of(rt: HostRuntime, name: &str, listing: &Listing, fault: StreamFault) -> Trouble {
-    of_listing(rt, called(name), listing.line(), fault)
+    match called(rt, name) {
+        Ok(called) => of_listing(called, listing.line(), fault),
+        Err(trouble) => trouble,
+    }
 }

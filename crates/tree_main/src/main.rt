@@ -1,8 +1,8 @@
 //! The program `hstore-tree WORDS..`: packs folders of the host into listings, makes folders of listings, and compares
 //! and shows listings and images.
 //!
-//! What it prints of a call goes to standard output, and what it says of what was not done to standard error, a line
-//! each. That files and the standard streams do what is asked of them is assumed here. All else is the libraries'.
+//! What a call gives goes to standard output. What was not done is said on standard error, a line each. This crate
+//! assumes that files and the standard streams do what is asked of them. All else is the libraries'.
 #![tactic(auto)]
 
 mod cat;
@@ -65,7 +65,8 @@ fn words_of(rt: HostRuntime) -> Result<Vec<String>, Trouble> {
     Ok(words)
 }
 
-/// The one line that says what is wrong with the words, of the text that `clap` has for it.
+/// The one line that says what is wrong with the words, of the text that `clap` has for it. In it a byte of a word that
+/// no terminal shows as it is, is `%` and two digits.
 fn line_of(alloc: Global, text: &str) -> Result<String, Trouble> {
     let mut line = String::new(alloc);
     for part in text.lines().take_while(|part| !part.is_empty()) {
@@ -74,12 +75,23 @@ fn line_of(alloc: Global, text: &str) -> Result<String, Trouble> {
         if !line.is_empty() {
             line.push(' ')?;
         }
-        line.push_str(part)?;
+        push_shown(&mut line, part)?;
     }
     Ok(line)
 }
 
-/// Does what is asked for; whether all of it was done, or what was compared is equal.
+/// Adds a text: each byte that is neither visible ASCII nor a space as `%` and two digits.
+fn push_shown(line: &mut String, text: &str) -> Result<(), Trouble> {
+    for byte in text.as_bytes() {
+        match byte {
+            b' '..=b'~' => line.push(char::from(*byte))?,
+            byte => write!(line, "%{byte:02X}")?,
+        }
+    }
+    Ok(())
+}
+
+/// Does what is asked for, and says whether all of it was done, or whether what was compared is equal.
 fn done(rt: HostRuntime, call: Call<'_>) -> Result<bool, Trouble> {
     match call {
         Call::Pack(folder, taken) => pack::pack(rt, folder, taken),
@@ -97,7 +109,7 @@ fn done(rt: HostRuntime, call: Call<'_>) -> Result<bool, Trouble> {
 fn status_of(call: Call<'_>, trouble: &Trouble) -> u8 {
     match (call, trouble) {
         (Call::Verify(..) | Call::Diff(..), _) => TROUBLE,
-        (_, Trouble::NoShape | Trouble::NoPath(_)) => TROUBLE,
+        (_, Trouble::NoShape | Trouble::NoPath) => TROUBLE,
         _ => 1,
     }
 }

@@ -1,7 +1,7 @@
 //! `map`: a picture of the slots of an image.
 
 use crate::output::{finish, output};
-use crate::trouble::{Trouble, copy};
+use crate::trouble::{Trouble, spelled};
 use disk_model::FileDisk;
 use slot_map::{MapFault, write_map};
 use std::fs;
@@ -12,18 +12,18 @@ use std::fs::{File, TryLockError};
 fn open(rt: HostRuntime, image: &str) -> Result<FileDisk, Trouble> {
     let is_file = fs::metadata(&rt, image).is_ok_and(|found| found.is_file());
     if !is_file {
-        return Err(Trouble::NotOpened(copy(rt, image)?));
+        return Err(Trouble::NotOpened(spelled(rt, image)?));
     }
     let Ok(file) = File::open(&rt, image) else {
-        return Err(Trouble::NotOpened(copy(rt, image)?));
+        return Err(Trouble::NotOpened(spelled(rt, image)?));
     };
     match file.try_lock_shared() {
         Ok(()) => {}
-        Err(TryLockError::WouldBlock) => return Err(Trouble::Locked(copy(rt, image)?)),
-        Err(TryLockError::Error(_)) => return Err(Trouble::NotOpened(copy(rt, image)?)),
+        Err(TryLockError::WouldBlock) => return Err(Trouble::Locked(spelled(rt, image)?)),
+        Err(TryLockError::Error(_)) => return Err(Trouble::NotOpened(spelled(rt, image)?)),
     }
     let Ok(found) = file.metadata() else {
-        return Err(Trouble::NotOpened(copy(rt, image)?));
+        return Err(Trouble::NotOpened(spelled(rt, image)?));
     };
     Ok(FileDisk::new(file, found.len()))
 }
@@ -34,8 +34,8 @@ pub fn map(rt: HostRuntime, image: &str) -> Result<bool, Trouble> {
     let mut sink = output(rt)?;
     match write_map(&mut disk, &mut sink) {
         Ok(()) => {}
-        Err(MapFault::NoImage) => return Err(Trouble::NoImage(copy(rt, image)?)),
-        Err(MapFault::Disk) => return Err(Trouble::Unreadable(copy(rt, image)?)),
+        Err(MapFault::NoImage) => return Err(Trouble::NoImage(spelled(rt, image)?)),
+        Err(MapFault::Disk) => return Err(Trouble::Unreadable(spelled(rt, image)?)),
         Err(MapFault::Sink) => return Err(Trouble::Output),
     }
     finish(&mut sink)?;

@@ -11,7 +11,7 @@ use script_lines::Sink;
 /// packed it is the one line, since no line at all is the listing of an empty folder.
 const BROKEN_OFF: &[u8] = b"broken off\n";
 
-/// Prints the listing of a folder; whether all of it was packed.
+/// Prints the listing of a folder, and says whether all of it was packed.
 pub fn pack(rt: HostRuntime, folder: &str, taken: Taken) -> Result<bool, Trouble> {
     let sink = output(rt)?;
     match go_through(rt, folder, taken) {
@@ -40,7 +40,7 @@ fn print_dump(rt: HostRuntime, dump: &mut FolderDump, sink: Output) -> Result<()
     }
 }
 
-/// Says behind what was printed that the listing is not whole.
+/// Ends what was printed with a line which says that the listing is not whole.
 fn break_off(sink: Output) {
     let mut sink = sink;
     let _ = sink.put(BROKEN_OFF);

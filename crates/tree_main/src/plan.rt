@@ -17,8 +17,8 @@ const DISK_ROOM: usize = 1_048_576;
 /// The most bytes that a load or a check prints.
 const REPLY_ROOM: usize = 256;
 
-/// Prints how many slots an image needs for a folder, how many are best, and the words that make such an image; whether
-/// all of the folder is counted.
+/// Prints how many slots an image needs for a folder, how many are best, and the words that make such an image. It
+/// says whether all of the folder is counted.
 pub fn plan(
     rt: HostRuntime,
     folder: &str,

@@ -7,10 +7,10 @@ use script_lines::Command;
 use std::io::IsTerminal;
 use std::time::{Duration, Instant};
 
-/// The line is written anew after so many commands at the earliest,
+/// How many commands come at least until the line is written anew.
 const STEP: u32 = 256;
 
-/// and after so many milliseconds.
+/// How many milliseconds pass at least until it is written anew.
 const PAUSE: u64 = 300;
 
 /// What clears the line of a terminal from the first column on.

@@ -1,6 +1,7 @@
 //! What the program says of what was not done, on standard error, a line each.
 
 use dump_streams::StreamFault;
+use host_files::Spelled;
 use std::alloc::{AllocError, AllocFailed};
 use std::fmt::Display;
 use store_base::NoMemory;
@@ -27,6 +28,9 @@ pub enum Trouble {
     /// Standard input is asked for twice.
     #[error("standard input cannot be read twice")]
     InputTwice,
+    /// A listing that has to be read twice stands in a pipe, or in what gives its bytes only once.
+    #[error("{0}: it is no file, and cannot be read twice")]
+    PipeTwice(String),
     /// `plan` has words that make no image.
     #[error("--seed has to have 64 hexadecimal digits, and --height no other than 1 to 8")]
     NoShape,
@@ -34,10 +38,10 @@ pub enum Trouble {
     #[error("standard output cannot be written")]
     Output,
     /// So much of a folder cannot be packed.
-    #[error("{0} of its entries cannot be packed: nothing is done; with --skip they are left out")]
+    #[error("{0} of its entries cannot be packed: nothing is done; --skip does the rest")]
     CannotPack(u64),
     /// So many entries of a listing have no path on the host.
-    #[error("{0} of its entries cannot be made: nothing is done; with --skip they are left out")]
+    #[error("{0} of its entries cannot be made: nothing is done; --skip does the rest")]
     CannotMake(u64),
     /// A folder has more entries than an image can hold.
     #[error("the folder has too many entries for any image")]
@@ -73,8 +77,8 @@ pub enum Trouble {
     #[error("{0}: it is a folder")]
     Folder(String),
     /// A word is no path of an image.
-    #[error("{0}: it is no path of an image")]
-    NoPath(String),
+    #[error("PATH is no path of an image, as /box/a%20b is one")]
+    NoPath,
 }
 
 impl From<NoMemory> for Trouble {
@@ -95,22 +99,23 @@ impl<T: Drop> From<AllocFailed<T>> for Trouble {
     }
 }
 
-/// A name, to be kept in a trouble.
-pub fn copy(rt: HostRuntime, name: &str) -> Result<String, Trouble> {
-    Ok(String::from_str(rt.alloc(), name)?)
+/// A text that is shown as it is, to be kept in a trouble.
+pub fn copy(rt: HostRuntime, text: &str) -> Result<String, Trouble> {
+    Ok(String::from_str(rt.alloc(), text)?)
 }
 
-/// Why the commands of the listing with this name ended at a line.
-pub fn of_listing(rt: HostRuntime, name: &str, line: u64, fault: StreamFault) -> Trouble {
-    let name = match copy(rt, name) {
-        Ok(name) => name,
-        Err(trouble) => return trouble,
-    };
+/// The name of a file of the host, to be kept in a trouble, in the spelling in which it is shown.
+pub fn spelled(rt: HostRuntime, name: &str) -> Result<String, Trouble> {
+    Ok(format!(in rt.alloc(); "{}", Spelled(name))?)
+}
+
+/// Why the commands of the listing that is called so ended at a line.
+pub fn of_listing(called: String, line: u64, fault: StreamFault) -> Trouble {
     match fault {
         StreamFault::NoMemory => Trouble::NoMemory,
-        StreamFault::Unreadable => Trouble::Unreadable(name),
-        StreamFault::NoDump => Trouble::BadLine(name, line),
-        StreamFault::TooLong => Trouble::TooLong(name),
+        StreamFault::Unreadable => Trouble::Unreadable(called),
+        StreamFault::NoDump => Trouble::BadLine(called, line),
+        StreamFault::TooLong => Trouble::TooLong(called),
     }
 }
 

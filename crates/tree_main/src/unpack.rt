@@ -2,9 +2,9 @@
 
 use crate::listing::{INPUT, Listing, ahead_of_input, of_input, trouble_of};
 use crate::progress::Watched;
-use crate::trouble::{Trouble, say};
+use crate::trouble::Trouble;
 use crate::words::Taken;
-use dump_streams::{DrainFault, Taker, TakerFault, drain};
+use dump_streams::{DrainFault, NoTaker, Taker, TakerFault, drain};
 use host_files::{NameTaker, StdBuilder};
 use script_lines::StdSink;
 use std::io::Stderr;
@@ -12,8 +12,8 @@ use std::io::Stderr;
 /// What makes the folder.
 type Builder = StdBuilder<StdSink<Stderr>>;
 
-/// Makes a folder of the listing on standard input; whether all of it was made. Where standard input is a file, the
-/// listing is looked through before.
+/// Makes a folder of the listing on standard input, and says whether all of it was made. Where standard input is a
+/// file, the listing is looked through before.
 pub fn unpack(rt: HostRuntime, folder: &str, taken: Taken) -> Result<bool, Trouble> {
     let name = String::from_str(rt.alloc(), folder)?;
     if let Some(listing) = ahead_of_input(rt)? {
@@ -27,20 +27,23 @@ pub fn unpack(rt: HostRuntime, folder: &str, taken: Taken) -> Result<bool, Troub
     }
 }
 
-/// Looks whether a listing is whole, and whether all of it can be made.
+/// Looks whether a listing is whole, and whether all of it can be made. With `skips` what cannot be made is named where
+/// the rest is made, and not here.
 fn look_through(
     rt: HostRuntime,
     listing: Listing,
     folder: String,
     skips: bool,
 ) -> Result<(), Trouble> {
+    if skips {
+        return lead(rt, listing, &mut NoTaker);
+    }
     let mut names = NameTaker::new(rt.alloc(), folder, StdSink::new(rt.stderr()));
     lead(rt, listing, &mut names)?;
-    let left_out = names.left_out();
-    if left_out > 0 && !skips {
-        return Err(Trouble::CannotMake(left_out));
+    match names.left_out() {
+        0 => Ok(()),
+        left_out => Err(Trouble::CannotMake(left_out)),
     }
-    Ok(())
 }
 
 /// Makes what a listing says, or takes away what was made of it.
@@ -49,10 +52,7 @@ fn make_all(rt: HostRuntime, listing: Listing, builder: &mut Builder) -> Result<
         builder.take_away();
         return Err(trouble);
     }
-    let attributes = builder.attributes_left_out();
-    if attributes > 0 {
-        say(rt, &format_args!("{attributes} attributes are left out"));
-    }
+    builder.say_attributes();
     Ok(builder.left_out() == 0)
 }
 

@@ -8,7 +8,7 @@ use crate::words::Taken;
 use crate::{folder, listing};
 use dump_diff::{CompareFault, compare, write_differences};
 
-/// Prints how a folder differs from the listing on standard input; whether they are equal.
+/// Prints how a folder differs from the listing on standard input, and says whether they are equal.
 pub fn verify(rt: HostRuntime, folder: &str, taken: Taken) -> Result<bool, Trouble> {
     let Packed { mut dump, lacks } = go_through(rt, folder, taken)?;
     let mut listing = of_input(rt)?;

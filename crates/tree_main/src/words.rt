@@ -135,7 +135,7 @@ static SUBCOMMANDS: [Subcommand; 8] = [
     },
 ];
 
-/// What `clap` has as an argument or an option.
+/// Makes an argument or an option for `clap`.
 fn arg_of<'a>(alloc: Global, part: Part) -> Arg<'a> {
     match part {
         Part::Argument(name) => Arg::new(alloc, name).required(true),
@@ -147,7 +147,7 @@ fn arg_of<'a>(alloc: Global, part: Part) -> Arg<'a> {
     }
 }
 
-/// What `clap` has as a subcommand.
+/// Makes a subcommand for `clap`.
 fn command_of<'a>(
     alloc: Global,
     subcommand: &'static Subcommand,
@@ -159,7 +159,7 @@ fn command_of<'a>(
     Ok(command)
 }
 
-/// What `clap` has as the whole command line, behind the name of the program.
+/// Makes the whole command line for `clap`, behind the name of the program.
 fn command<'a>(alloc: Global) -> Result<Command<'a>, AllocError> {
     let mut command = Command::new(alloc, "hstore-tree")
         .disable_help_flag(true)

@@ -1,6 +1,6 @@
-//! What stands at a path of the tree that a list of pairs holds. Files, directories and moves share it: what a call
-//! that carries out a command does to the list (`specs/TreeCalls.antt`), the values that say what stands at a path and
-//! those of attributes, and the laws between a tree and its list (`proofs/`).
+//! What stands at a path of the tree that a list of pairs holds. Start at `kind_of`. Files, directories and moves
+//! share it: what a call that carries out a command does to the list (`specs/TreeCalls.antt`), the values that say
+//! what stands at a path and those of attributes, and the laws between a tree and its list (`proofs/`).
 #![tactic(auto)]
 
 mod kind;

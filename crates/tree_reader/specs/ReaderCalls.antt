@@ -13,7 +13,7 @@ use Rattle.tree_reader.specs.Fronts.{AreOfTree, BeginTree}
 use Rattle.tree_reader.specs.Seen.{HasSeen}
 
 -- A pair behind those that a reader has seen. It is taken where some tree's pairs begin so under the reader's version,
--- and just there; but behind more pairs than any list has, it may be refused.
+-- and just there; but after more pairs than any list has, it may be refused.
 pub record AddsPair (old new : TreeReader) (pair : Pair) (result : Bool) : Type 0 where
   pub seen : (s : List Pair) (p : Parameters) → HasSeen old s p → OnTrue result (HasSeen new (s ++ pair ∷ []) p)
   pub begins : (s : List Pair) (p : Parameters) → HasSeen old s p → OnTrue result (BeginTree (s ++ pair ∷ []) p)

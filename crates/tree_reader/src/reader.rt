@@ -50,9 +50,9 @@ impl TreeReader {
         }
     }
 
-    /// Takes the next pair: whether some tree's pairs begin with those that were taken and this one, under the
-    /// reader's version. So its key has to be greater than theirs. Where the answer is no, nothing changed. Behind
-    /// `pairs_limit` pairs, which are more than any image holds, it may be no though such a tree exists.
+    /// Takes the next pair, and says whether some tree's pairs begin with those that were taken and this one, under
+    /// the reader's version. So its key has to be greater than theirs. If not, nothing changed. After `pairs_limit`
+    /// pairs, more than any image holds, the answer may be no though such a tree exists.
     pub fn add(&mut self, key: &Key, value: &Value) -> bool
         ensures { AddsPair self.old self.new (key.now, value.now) result }
     {

@@ -11,8 +11,8 @@ use crate::reader::TreeReader;
 use store_base::{Key, Value};
 use store_model::Version;
 
-/// What the tree holds whose pairs these are under a version, in the order of their keys; `None` exactly where they are
-/// no tree's.
+/// Counts what a tree holds, from its pairs under a version, in the order of their keys; `None` exactly where they
+/// are no tree's.
 pub fn count_tree(pairs: &[(Key, Value)], version: Version) -> Option<Counts>
     requires { length pairs.now ≤ pairs_limit }
     ensures tree { (p : Parameters) → p.version ≡ version → IfSome result (AreCounted pairs.now p) }

@@ -191,7 +191,11 @@ static WORKED: [Sample; 8] = [
 #[test]
 fn the_pages_of_a_list_are_walked_over(rt: HostRuntime) {
     let (is_list, fronts) = walk_over(&rt, rt.alloc(), 3, &WORKED, 8);
-    assert!(rt; is_list && fronts.count == 6);
+    assert_eq!(rt;
+        (is_list, fronts.count),
+        (true, 6),
+        "a list, of so many pairs"
+    );
     let wanted = [*b"U\0\0", *b"UU\0", *b"aU\0", *b"aaU", *b"b\0\0", *b"bU\0"];
     assert!(rt; fronts.fronts.starts_with(&wanted));
 }
@@ -201,12 +205,20 @@ const TEN: [Front; 10] = [
     [1; 3], [2; 3], [3; 3], [4; 3], [5; 3], [6; 3], [7; 3], [8; 3], [9; 3], [10; 3],
 ];
 
-/// Tables of the height 2 with the pages of a list, and how many pages there are.
-static LISTS: [(&[Sample], u32); 4] = [
-    (&[], 0),
-    (&[(0, None, 0, &TEN)], 1),
-    (&[(0, None, 0, &TEN), (0, None, 1, &[[11; 3]])], 2),
+/// The name of a row, the pages of a table, and how many there are told to be.
+type Table = (&'static str, &'static [Sample], u32);
+
+/// Tables of the height 2 with the pages of a list.
+static LISTS: [Table; 4] = [
+    ("no page", &[], 0),
+    ("a full page", &[(0, None, 0, &TEN)], 1),
     (
+        "a full page, and one behind it",
+        &[(0, None, 0, &TEN), (0, None, 1, &[[11; 3]])],
+        2,
+    ),
+    (
+        "a group of the start, and one of a leader",
         &[
             (0, None, 0, &[[1; 3]]),
             (1, None, 0, &[*b"U\0\0"]),
@@ -218,31 +230,51 @@ static LISTS: [(&[Sample], u32); 4] = [
 
 #[test]
 fn lists_are_known(rt: HostRuntime) {
-    for (samples, used) in &LISTS {
+    for (name, samples, used) in &LISTS {
         let (is_list, _) = walk_over(&rt, rt.alloc(), 2, *samples, *used);
-        assert!(rt; is_list);
+        assert!(rt; is_list, "a list is wanted, and none came: {name}");
     }
 }
 
-/// Tables of the height 2 that are no list's: a page more or less than is told; a run whose first key is the last of
-/// the run before; a run behind one with room; a group that is not there; one that no key leads; one that begins with
-/// another key; keys on a level below or above their own; and keys of one group that belong into the next.
-static OTHERS: [(&[Sample], u32); 10] = [
-    (&[(0, None, 0, &TEN)], 0),
-    (&[(0, None, 0, &TEN)], 2),
-    (&[(0, None, 0, &TEN), (0, None, 1, &[[10; 3]])], 2),
-    (&[(0, None, 0, &[[1; 3]]), (0, None, 1, &[[2; 3]])], 2),
-    (&[(1, None, 0, &[*b"U\0\0"])], 1),
-    (&[(0, Some(*b"U\0\0"), 0, &[*b"U\0\0"])], 1),
+/// Tables of the height 2 that are no list's.
+static OTHERS: [Table; 10] = [
+    ("a page more than is told", &[(0, None, 0, &TEN)], 0),
+    ("a page less than is told", &[(0, None, 0, &TEN)], 2),
     (
+        "a run whose first key is the last of the run before",
+        &[(0, None, 0, &TEN), (0, None, 1, &[[10; 3]])],
+        2,
+    ),
+    (
+        "a run behind one with room",
+        &[(0, None, 0, &[[1; 3]]), (0, None, 1, &[[2; 3]])],
+        2,
+    ),
+    (
+        "a group that is not there",
+        &[(1, None, 0, &[*b"U\0\0"])],
+        1,
+    ),
+    (
+        "a group that no key leads",
+        &[(0, Some(*b"U\0\0"), 0, &[*b"U\0\0"])],
+        1,
+    ),
+    (
+        "a group that begins with another key than its leader",
         &[
             (1, None, 0, &[*b"U\0\0"]),
             (0, Some(*b"U\0\0"), 0, &[*b"a\0\0"]),
         ],
         2,
     ),
-    (&[(0, None, 0, &[*b"U\0\0"])], 1),
     (
+        "a key on a level below its own",
+        &[(0, None, 0, &[*b"U\0\0"])],
+        1,
+    ),
+    (
+        "a key on a level above its own",
         &[
             (1, None, 0, &[*b"a\0\0"]),
             (0, Some(*b"a\0\0"), 0, &[*b"a\0\0"]),
@@ -250,6 +282,7 @@ static OTHERS: [(&[Sample], u32); 10] = [
         2,
     ),
     (
+        "a key of one group that belongs into the next",
         &[
             (1, None, 0, &[*b"U\0\0", *b"aU\0"]),
             (0, Some(*b"U\0\0"), 0, &[*b"U\0\0", *b"b\0\0"]),
@@ -261,8 +294,8 @@ static OTHERS: [(&[Sample], u32); 10] = [
 
 #[test]
 fn other_tables_are_told_apart(rt: HostRuntime) {
-    for (samples, used) in &OTHERS {
+    for (name, samples, used) in &OTHERS {
         let (is_list, _) = walk_over(&rt, rt.alloc(), 2, *samples, *used);
-        assert!(rt; !is_list);
+        assert!(rt; !is_list, "no list is wanted, and one came: {name}");
     }
 }

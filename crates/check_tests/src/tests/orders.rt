@@ -221,16 +221,22 @@ fn all_tables_of_four_slots(rt: HostRuntime) {
         ];
         let wanted = pages_in_order(&entries);
         let check = check_entries(&rt, rt.alloc(), 4, &entries);
+        let Checked {
+            used,
+            reads,
+            starts,
+        } = check;
+        assert_eq!(&rt; used, wanted, "the pages of table {number}");
         assert!(&rt;
-            check.used == wanted && check.reads <= 12 && check.starts <= 4,
-            "table {number}"
+            reads <= 12 && starts <= 4,
+            "{reads} reads and {starts} starts of table {number}, at most 12 and 4 wanted"
         );
         if wanted.is_some() {
             in_order = in_order.saturating_add(1);
         }
     }
     // As another program counts them.
-    assert!(&rt; in_order == 794, "{in_order} tables are in order");
+    assert_eq!(&rt; in_order, 794, "tables in order");
 }
 
 /// How many slots the tables have that are made to take work.
@@ -269,13 +275,15 @@ fn ways_that_are_jumped_over(rt: HostRuntime) {
             reads,
             starts,
         } = check;
-        assert!(&rt;
-            pages_in_order(&entries) == wanted && used == wanted,
-            "a table turned by {turn}"
+        let found = [pages_in_order(&entries), used];
+        assert_eq!(&rt;
+            found,
+            [wanted; 2],
+            "a table turned by {turn}, marred: {is_marred}"
         );
         assert!(&rt;
             reads <= 3 * 1024 && starts <= 1024,
-            "{reads} reads and {starts} starts at {turn}"
+            "{reads} reads and {starts} starts at {turn}, at most 3,072 and 1,024 wanted"
         );
     }
 }
@@ -320,10 +328,10 @@ fn full_tables_and_almost_full_ones(rt: HostRuntime) {
                 reads,
                 starts,
             } = check_pages(&rt, rt.alloc(), kind, pages);
-            assert!(&rt; used == Some(pages), "{pages} pages");
+            assert_eq!(&rt; used, Some(pages), "{pages} pages, {kind:?}");
             assert!(&rt;
                 reads <= 3 * 1024 && starts <= 1024,
-                "{reads} reads and {starts} starts of {pages} pages"
+                "{reads} reads and {starts} starts of {pages} pages, at most 3,072 and 1,024 wanted"
             );
         }
     }
@@ -349,9 +357,25 @@ fn page_on(level: u8) -> Page
 
 #[test]
 fn what_one_slot_may_hold(rt: HostRuntime) {
-    assert!(&rt; used_of(&rt, rt.alloc(), &slot_with(&[])) == Some(0));
-    assert!(&rt; used_of(&rt, rt.alloc(), &slot_with(&[(7, 1)])) == None);
-    assert!(&rt; used_of(&rt, rt.alloc(), &slot_with(&[(0, 1)])) == None);
-    assert!(&rt; used_of(&rt, rt.alloc(), page_on(1).as_slot()) == Some(1));
-    assert!(&rt; used_of(&rt, rt.alloc(), page_on(2).as_slot()) == None);
+    assert_eq!(&rt; used_of(&rt, rt.alloc(), &slot_with(&[])), Some(0), "zeros");
+    assert_eq!(&rt;
+        used_of(&rt, rt.alloc(), &slot_with(&[(7, 1)])),
+        None,
+        "a byte"
+    );
+    assert_eq!(&rt;
+        used_of(&rt, rt.alloc(), &slot_with(&[(0, 1)])),
+        None,
+        "a first byte"
+    );
+    assert_eq!(&rt;
+        used_of(&rt, rt.alloc(), page_on(1).as_slot()),
+        Some(1),
+        "level 1"
+    );
+    assert_eq!(&rt;
+        used_of(&rt, rt.alloc(), page_on(2).as_slot()),
+        None,
+        "level 2"
+    );
 }

@@ -37,7 +37,7 @@ enum Says {
 type Row = (&'static str, u32, Says);
 
 /// What comes of pairs.
-#[derive(Clone, Copy, PartialEq, Eq)]
+#[derive(Clone, Copy, Debug, PartialEq, Eq)]
 enum Outcome {
     /// They are those of a tree of so many directories, files and bytes.
     Tree(u32, u32, u64),
@@ -47,11 +47,19 @@ enum Outcome {
     Refused(usize),
 }
 
+/// The name of a row, pairs, and what comes of them. In each of the tables below a name stands once.
+type Case = (&'static str, &'static [Row], Outcome);
+
 /// Pairs that begin those of a tree.
-static FRONTS: [(&[Row], Outcome); 6] = [
-    (&[], Outcome::Tree(0, 0, 0)),
-    (&[("/a", 0, Says::Directory)], Outcome::Tree(1, 0, 0)),
+static FRONTS: [Case; 6] = [
+    ("no pair", &[], Outcome::Tree(0, 0, 0)),
     (
+        "a directory",
+        &[("/a", 0, Says::Directory)],
+        Outcome::Tree(1, 0, 0),
+    ),
+    (
+        "a directory with an empty file and one of two blocks",
         &[
             ("/a", 0, Says::Directory),
             ("/a/b", 0, Says::File(0)),
@@ -62,6 +70,7 @@ static FRONTS: [(&[Row], Outcome); 6] = [
         Outcome::Tree(1, 2, 257),
     ),
     (
+        "directories in directories, and a file of one block",
         &[
             ("/a", 0, Says::Directory),
             ("/a/b", 0, Says::Directory),
@@ -73,27 +82,36 @@ static FRONTS: [(&[Row], Outcome); 6] = [
         Outcome::Tree(4, 1, 256),
     ),
     (
+        "a file without its last block",
         &[("/f", 0, Says::File(257)), ("/f", 1, Says::Block(256))],
         Outcome::Front,
     ),
-    (&[("/f", 0, Says::File(16_777_216))], Outcome::Front),
+    (
+        "the longest file without its blocks",
+        &[("/f", 0, Says::File(16_777_216))],
+        Outcome::Front,
+    ),
 ];
 
 /// Entries that may not stand where they do, or not in this order.
-static MISPLACED: [(&[Row], Outcome); 8] = [
-    // a child without a parent
-    (&[("/a/b", 0, Says::Directory)], Outcome::Refused(0)),
+static MISPLACED: [Case; 8] = [
     (
+        "a child without a parent",
+        &[("/a/b", 0, Says::Directory)],
+        Outcome::Refused(0),
+    ),
+    (
+        "a child two levels below no parent",
         &[("/a", 0, Says::Directory), ("/c/d/e", 0, Says::File(0))],
         Outcome::Refused(1),
     ),
-    // a child of a file
     (
+        "a child of a file",
         &[("/a", 0, Says::File(0)), ("/a/b", 0, Says::File(0))],
         Outcome::Refused(1),
     ),
-    // a child of a path that no entry has
     (
+        "a child of a path that no entry has",
         &[
             ("/a", 0, Says::Directory),
             ("/a/b", 0, Says::Directory),
@@ -101,8 +119,8 @@ static MISPLACED: [(&[Row], Outcome); 8] = [
         ],
         Outcome::Refused(2),
     ),
-    // a child behind its parent's next sibling
     (
+        "a child behind its parent's next sibling",
         &[
             ("/a", 0, Says::Directory),
             ("/b", 0, Says::Directory),
@@ -110,30 +128,32 @@ static MISPLACED: [(&[Row], Outcome); 8] = [
         ],
         Outcome::Refused(2),
     ),
-    // a path twice
     (
+        "a directory twice",
         &[("/a", 0, Says::Directory), ("/a", 0, Says::Directory)],
         Outcome::Refused(1),
     ),
     (
+        "a directory, and a file at its path",
         &[("/a", 0, Says::Directory), ("/a", 0, Says::File(0))],
         Outcome::Refused(1),
     ),
-    // a path before the last one
     (
+        "a path before the last one",
         &[("/b", 0, Says::Directory), ("/a", 0, Says::Directory)],
         Outcome::Refused(1),
     ),
 ];
 
 /// Blocks that no file has.
-static WRONG_BLOCKS: [(&[Row], Outcome); 9] = [
-    // a block that is missing, at the front, in the middle and at the end
+static WRONG_BLOCKS: [Case; 9] = [
     (
+        "a first block that is missing",
         &[("/f", 0, Says::File(257)), ("/f", 2, Says::Block(1))],
         Outcome::Refused(1),
     ),
     (
+        "a block in the middle that is missing",
         &[
             ("/f", 0, Says::File(513)),
             ("/f", 1, Says::Block(256)),
@@ -142,11 +162,12 @@ static WRONG_BLOCKS: [(&[Row], Outcome); 9] = [
         Outcome::Refused(2),
     ),
     (
+        "a last block that is missing",
         &[("/f", 0, Says::File(1)), ("/g", 0, Says::Directory)],
         Outcome::Refused(1),
     ),
-    // a block too many
     (
+        "a block too many",
         &[
             ("/f", 0, Says::File(1)),
             ("/f", 1, Says::Block(1)),
@@ -154,51 +175,81 @@ static WRONG_BLOCKS: [(&[Row], Outcome); 9] = [
         ],
         Outcome::Refused(2),
     ),
-    // a block of another path, and one of no file
     (
+        "a block of another path",
         &[("/f", 0, Says::File(1)), ("/g", 1, Says::Block(1))],
         Outcome::Refused(1),
     ),
-    (&[("/f", 1, Says::Block(1))], Outcome::Refused(0)),
-    // a short block in the middle, and ones that are shorter and longer than the file
     (
+        "a block of no file",
+        &[("/f", 1, Says::Block(1))],
+        Outcome::Refused(0),
+    ),
+    (
+        "a short block in the middle",
         &[("/f", 0, Says::File(257)), ("/f", 1, Says::Block(255))],
         Outcome::Refused(1),
     ),
     (
+        "a block that is shorter than the file",
         &[("/f", 0, Says::File(2)), ("/f", 1, Says::Block(1))],
         Outcome::Refused(1),
     ),
     (
+        "a block that is longer than the file",
         &[("/f", 0, Says::File(1)), ("/f", 1, Says::Block(2))],
         Outcome::Refused(1),
     ),
 ];
 
 /// First values of no kind under version 1.
-static WRONG_VALUES: [(&[Row], Outcome); 6] = [
-    (&[("/f", 0, Says::File(16_777_217))], Outcome::Refused(0)),
-    (&[("/f", 0, Says::Two([1, 1]))], Outcome::Refused(0)),
+static WRONG_VALUES: [Case; 6] = [
     (
+        "a file longer than any may be",
+        &[("/f", 0, Says::File(16_777_217))],
+        Outcome::Refused(0),
+    ),
+    (
+        "two bytes of a directory's value",
+        &[("/f", 0, Says::Two([1, 1]))],
+        Outcome::Refused(0),
+    ),
+    (
+        "five bytes that begin with 3",
         &[("/f", 0, Says::Five([3, 0, 0, 0, 0]))],
         Outcome::Refused(0),
     ),
     (
+        "five bytes that begin with 1",
         &[("/f", 0, Says::Five([1, 0, 0, 0, 0]))],
         Outcome::Refused(0),
     ),
-    (&[("/f", 0, Says::Inline(0))], Outcome::Refused(0)),
-    (&[("/f", 0, Says::Inline(200))], Outcome::Refused(0)),
+    (
+        "an empty file in one pair",
+        &[("/f", 0, Says::Inline(0))],
+        Outcome::Refused(0),
+    ),
+    (
+        "a file of 200 bytes in one pair",
+        &[("/f", 0, Says::Inline(200))],
+        Outcome::Refused(0),
+    ),
 ];
 
 /// Pairs that begin those of a tree under version 2.
-static SHORT_FILES: [(&[Row], Outcome); 6] = [
-    (&[("/f", 0, Says::Inline(0))], Outcome::Tree(0, 1, 0)),
+static SHORT_FILES: [Case; 6] = [
     (
+        "an empty file in one pair",
+        &[("/f", 0, Says::Inline(0))],
+        Outcome::Tree(0, 1, 0),
+    ),
+    (
+        "the longest file in one pair, and a short one",
         &[("/f", 0, Says::Inline(200)), ("/g", 0, Says::Inline(1))],
         Outcome::Tree(0, 2, 201),
     ),
     (
+        "a short file, and the shortest one in a block",
         &[
             ("/d", 0, Says::Directory),
             ("/d/f", 0, Says::Inline(3)),
@@ -208,41 +259,60 @@ static SHORT_FILES: [(&[Row], Outcome); 6] = [
         Outcome::Tree(1, 2, 204),
     ),
     (
+        "four bytes that are a file's",
         &[("/f", 0, Says::Five([3, 0, 0, 0, 0]))],
         Outcome::Tree(0, 1, 4),
     ),
-    (&[("/f", 0, Says::File(201))], Outcome::Front),
     (
+        "a file of 201 bytes without its block",
+        &[("/f", 0, Says::File(201))],
+        Outcome::Front,
+    ),
+    (
+        "a file without its last block",
         &[("/f", 0, Says::File(257)), ("/f", 1, Says::Block(256))],
         Outcome::Front,
     ),
 ];
 
 /// Pairs that begin those of no tree under version 2.
-static WRONG_FORMS: [(&[Row], Outcome); 6] = [
-    // a file that is too long for its pair, and ones that are too short for blocks
-    (&[("/f", 0, Says::Inline(201))], Outcome::Refused(0)),
-    (&[("/f", 0, Says::File(200))], Outcome::Refused(0)),
-    (&[("/f", 0, Says::File(0))], Outcome::Refused(0)),
-    // a block, a child and the same path behind a file in one pair
+static WRONG_FORMS: [Case; 6] = [
     (
+        "a file of 201 bytes in one pair",
+        &[("/f", 0, Says::Inline(201))],
+        Outcome::Refused(0),
+    ),
+    (
+        "a file of 200 bytes in blocks",
+        &[("/f", 0, Says::File(200))],
+        Outcome::Refused(0),
+    ),
+    (
+        "an empty file in blocks",
+        &[("/f", 0, Says::File(0))],
+        Outcome::Refused(0),
+    ),
+    (
+        "a block behind a file in one pair",
         &[("/f", 0, Says::Inline(1)), ("/f", 1, Says::Block(1))],
         Outcome::Refused(1),
     ),
     (
+        "a child of a file in one pair",
         &[("/f", 0, Says::Inline(1)), ("/f/g", 0, Says::Directory)],
         Outcome::Refused(1),
     ),
     (
+        "a file in one pair twice",
         &[("/f", 0, Says::Inline(1)), ("/f", 0, Says::Inline(1))],
         Outcome::Refused(1),
     ),
 ];
 
 /// Pairs of trees with attributes, under version 2.
-static ATTRIBUTES: [(&[Row], Outcome); 3] = [
-    // a file in blocks and attributes, a path that is longer by a byte, a directory with an attribute and a child
+static ATTRIBUTES: [Case; 3] = [
     (
+        "attributes of entries of each kind",
         &[
             ("d", 0, Says::File(300)),
             ("d", 1, Says::Block(256)),
@@ -262,8 +332,8 @@ static ATTRIBUTES: [(&[Row], Outcome); 3] = [
         ],
         Outcome::Tree(2, 2, 300),
     ),
-    // the same name at two paths, and names of which one begins the other
     (
+        "the same name at two paths, and one that begins another",
         &[
             ("d", 0, Says::Directory),
             ("d\0\x01k", 0, Says::Attribute(1)),
@@ -273,8 +343,8 @@ static ATTRIBUTES: [(&[Row], Outcome); 3] = [
         ],
         Outcome::Tree(1, 1, 200),
     ),
-    // a file that lacks blocks has no attribute yet
     (
+        "an attribute of a file that lacks blocks",
         &[
             ("d", 0, Says::File(300)),
             ("d\0\x01k", 0, Says::Attribute(1)),
@@ -284,10 +354,14 @@ static ATTRIBUTES: [(&[Row], Outcome); 3] = [
 ];
 
 /// Attributes that no tree has, under version 2.
-static WRONG_ATTRIBUTES: [(&[Row], Outcome); 18] = [
-    // of a path that is missing, of another path than the last one, and of the root
-    (&[("d\0\x01k", 0, Says::Attribute(1))], Outcome::Refused(0)),
+static WRONG_ATTRIBUTES: [Case; 18] = [
     (
+        "of a path that is missing",
+        &[("d\0\x01k", 0, Says::Attribute(1))],
+        Outcome::Refused(0),
+    ),
+    (
+        "of another path than the last one",
         &[
             ("d", 0, Says::Directory),
             ("e\0\x01k", 0, Says::Attribute(1)),
@@ -295,6 +369,7 @@ static WRONG_ATTRIBUTES: [(&[Row], Outcome); 18] = [
         Outcome::Refused(1),
     ),
     (
+        "of a path before the last one",
         &[
             ("d", 0, Says::Directory),
             ("d\0f", 0, Says::Inline(0)),
@@ -302,13 +377,18 @@ static WRONG_ATTRIBUTES: [(&[Row], Outcome); 18] = [
         ],
         Outcome::Refused(2),
     ),
-    (&[("\x01k", 0, Says::Attribute(1))], Outcome::Refused(0)),
     (
+        "of the root, in front",
+        &[("\x01k", 0, Says::Attribute(1))],
+        Outcome::Refused(0),
+    ),
+    (
+        "of the root, behind a directory",
         &[("d", 0, Says::Directory), ("\x01k", 0, Says::Attribute(1))],
         Outcome::Refused(1),
     ),
-    // names of 33 bytes, of none, `.` and `..`, and with a byte out of 21 to 7E
     (
+        "a name of 33 bytes",
         &[
             ("d", 0, Says::Directory),
             (
@@ -320,6 +400,7 @@ static WRONG_ATTRIBUTES: [(&[Row], Outcome); 18] = [
         Outcome::Refused(1),
     ),
     (
+        "a name of no byte",
         &[
             ("d", 0, Says::Directory),
             ("d\0\x01", 0, Says::Attribute(1)),
@@ -327,6 +408,7 @@ static WRONG_ATTRIBUTES: [(&[Row], Outcome); 18] = [
         Outcome::Refused(1),
     ),
     (
+        "the name `.`",
         &[
             ("d", 0, Says::Directory),
             ("d\0\x01.", 0, Says::Attribute(1)),
@@ -334,6 +416,7 @@ static WRONG_ATTRIBUTES: [(&[Row], Outcome); 18] = [
         Outcome::Refused(1),
     ),
     (
+        "the name `..`",
         &[
             ("d", 0, Says::Directory),
             ("d\0\x01..", 0, Says::Attribute(1)),
@@ -341,6 +424,7 @@ static WRONG_ATTRIBUTES: [(&[Row], Outcome); 18] = [
         Outcome::Refused(1),
     ),
     (
+        "a name with a space",
         &[
             ("d", 0, Says::Directory),
             ("d\0\x01a b", 0, Says::Attribute(1)),
@@ -348,14 +432,15 @@ static WRONG_ATTRIBUTES: [(&[Row], Outcome); 18] = [
         Outcome::Refused(1),
     ),
     (
+        "a name with the byte 7F",
         &[
             ("d", 0, Says::Directory),
             ("d\0\x01\x7f", 0, Says::Attribute(1)),
         ],
         Outcome::Refused(1),
     ),
-    // block number 1, and two names behind the 01
     (
+        "block number 1",
         &[
             ("d", 0, Says::Directory),
             ("d\0\x01k", 1, Says::Attribute(1)),
@@ -363,24 +448,30 @@ static WRONG_ATTRIBUTES: [(&[Row], Outcome); 18] = [
         Outcome::Refused(1),
     ),
     (
+        "two names behind the 01",
         &[
             ("d", 0, Says::Directory),
             ("d\0\x01k\0k", 0, Says::Attribute(1)),
         ],
         Outcome::Refused(1),
     ),
-    // values of no attribute, and an attribute's as a first value
     (
+        "a short file's value",
         &[("d", 0, Says::Directory), ("d\0\x01k", 0, Says::Inline(1))],
         Outcome::Refused(1),
     ),
     (
+        "a directory's value",
         &[("d", 0, Says::Directory), ("d\0\x01k", 0, Says::Directory)],
         Outcome::Refused(1),
     ),
-    (&[("d", 0, Says::Attribute(1))], Outcome::Refused(0)),
-    // names that do not rise
     (
+        "an attribute's value at a path",
+        &[("d", 0, Says::Attribute(1))],
+        Outcome::Refused(0),
+    ),
+    (
+        "a name twice",
         &[
             ("d", 0, Says::Directory),
             ("d\0\x01k", 0, Says::Attribute(1)),
@@ -389,6 +480,7 @@ static WRONG_ATTRIBUTES: [(&[Row], Outcome); 18] = [
         Outcome::Refused(2),
     ),
     (
+        "names that fall",
         &[
             ("d", 0, Says::Directory),
             ("d\0\x01k", 0, Says::Attribute(1)),
@@ -399,7 +491,8 @@ static WRONG_ATTRIBUTES: [(&[Row], Outcome); 18] = [
 ];
 
 /// An attribute under version 1.
-static OLD_ATTRIBUTES: [(&[Row], Outcome); 1] = [(
+static OLD_ATTRIBUTES: [Case; 1] = [(
+    "an attribute under version 1",
     &[
         ("d", 0, Says::Directory),
         ("d\0\x01k", 0, Says::Attribute(1)),
@@ -469,16 +562,16 @@ fn outcome_of(pairs: &[(Key, Value)], version: Version) -> Outcome {
 }
 
 /// Looks whether each row comes out so under a version, read pair by pair and as a whole.
-fn come_out(rt: &impl Abort, alloc: Global, version: Version, table: &[(&[Row], Outcome)]) {
-    for (at, (rows, outcome)) in table.iter().enumerate() {
+fn come_out(rt: &impl Abort, alloc: Global, version: Version, table: &[Case]) {
+    for (name, rows, outcome) in table {
         let pairs = pairs_of(rt, alloc, *rows).expect(rt, "memory");
-        assert!(rt; outcome_of(&pairs, version) == *outcome, "row {at}");
-        assert!(rt; pairs.len() < 16, "few rows");
+        assert_eq!(rt; outcome_of(&pairs, version), *outcome, "{name}");
+        assert!(rt; pairs.len() < 16, "few pairs: {name}");
         let counts = match *outcome {
             Outcome::Tree(dirs, files, bytes) => Some(Counts { dirs, files, bytes }),
             _ => None,
         };
-        assert!(rt; count_tree(&pairs, version) == counts, "row {at}");
+        assert_eq!(rt; count_tree(&pairs, version), counts, "{name}, as a whole");
     }
 }
 

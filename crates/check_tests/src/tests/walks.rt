@@ -124,10 +124,14 @@ fn hold_full_table(rt: &impl Abort, alloc: Global, kind: DrawKind, height: u8, k
         reads,
         starts,
     } = count_check(rt, slots, AnyDraw::new(&params));
-    assert!(rt; is_whole && pairs as usize == keys.len(), "{pairs} pairs");
+    let count = keys.len();
+    assert!(rt;
+        is_whole && pairs as usize == count,
+        "whole: {is_whole}, with {pairs} pairs, {count} wanted"
+    );
     assert!(rt;
         reads <= 4 * 1024 && starts <= 1024,
-        "{reads} reads and {starts} starts"
+        "{reads} reads and {starts} starts, at most 4,096 and 1,024 wanted"
     );
 }
 
@@ -200,10 +204,10 @@ fn ways_made_for_jumping_back(rt: HostRuntime) {
             ..
         } = count_check(&rt, slots, draw);
         // No start leads to its groups, so the walk comes to none of its pages.
-        assert!(&rt; !is_whole);
+        assert!(&rt; !is_whole, "turned by {turn}, marred: {is_marred}");
         assert!(&rt;
             reads <= 4 * 1024 && starts <= 1024,
-            "{reads} reads and {starts} starts at {turn}"
+            "{reads} reads and {starts} starts at {turn}, at most 4,096 and 1,024 wanted"
         );
     }
 }

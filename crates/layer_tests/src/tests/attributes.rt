@@ -6,7 +6,7 @@ ghost use Rattle.script_lines.specs.Parsing.{command_of};
 ghost use Rattle.script_lines.specs.Sessions.{is_change};
 
 use super::paths::path;
-use super::short_files::{Run, change_few, empty_list, has_runs};
+use super::short_files::{Run, change_few, empty_list, has_runs, text_of};
 use dir_tree::{attr, attrs, list, make, set_attr};
 use ordered_pairs::MapPairs;
 use path_keys::{AttrName, Path};
@@ -41,13 +41,13 @@ enum Act {
 /// What a key begins with, before the zeros of its field; its block number; and the value.
 type Pair = (&'static [u8], u32, &'static [Run]);
 
-/// What is done, each with its answer, and all the pairs behind it.
-type Stage = (&'static [(Act, Answer<()>)], &'static [Pair]);
+/// The name of a row, which stands once in its table; what is done, each with its answer; and all the pairs behind it.
+type Stage = (&'static str, &'static [(Act, Answer<()>)], &'static [Pair]);
 
 /// Acts on directories with attributes and children, which leave nothing.
 #[rattlefmt::skip]
 static OF_DIRECTORIES: [Stage; 5] = [
-    (
+    ("attributes are set at /d and /d/c", 
         &[
             (Act::Make("/d"), Ok(())),
             (Act::Set("/d", "k", 0x41, 1), Ok(())),
@@ -69,7 +69,7 @@ static OF_DIRECTORIES: [Stage; 5] = [
             (b"d!", 0, &[(1, 1)]),
         ],
     ),
-    (
+    ("/d is moved to /e", 
         &[
             (Act::Rename("/d", "/e"), Ok(())),
         ],
@@ -82,7 +82,7 @@ static OF_DIRECTORIES: [Stage; 5] = [
             (b"e\0c\0\x01nnnnnnnnnnnnnnnnnnnnnnnnnnnnnnnn", 0, &[(4, 1)]),
         ],
     ),
-    (
+    ("an attribute of /e goes, and /e/c", 
         &[
             (Act::Unset("/e", "K"), Ok(())),
             (Act::Unset("/e", "K"), Err(Refusal::NoAttr)),
@@ -94,7 +94,7 @@ static OF_DIRECTORIES: [Stage; 5] = [
             (b"e\0\x01k", 0, &[(4, 1), (0x41, 1)]),
         ],
     ),
-    (
+    ("/e is pruned, and /d! stays", 
         &[
             (Act::Make("/e/b"), Ok(())),
             (Act::Set("/e/b", "k", 2, 1), Ok(())),
@@ -106,7 +106,7 @@ static OF_DIRECTORIES: [Stage; 5] = [
             (b"d!\0\x01k", 0, &[(4, 1), (3, 1)]),
         ],
     ),
-    (
+    ("/d! is removed", 
         &[
             (Act::Remove("/d!"), Ok(())),
         ],
@@ -118,7 +118,7 @@ static OF_DIRECTORIES: [Stage; 5] = [
 /// one of its name.
 #[rattlefmt::skip]
 static OF_FILE: [Stage; 6] = [
-    (
+    ("a file of 200 bytes gets attributes", 
         &[
             (Act::Write("/f", 0, 0x41, 200), Ok(())),
             (Act::Set("/f", "a", 1, 1), Ok(())),
@@ -130,7 +130,7 @@ static OF_FILE: [Stage; 6] = [
             (b"f\0\x01b", 0, &[(4, 1)]),
         ],
     ),
-    (
+    ("it becomes one in blocks", 
         &[
             (Act::Write("/f", 200, 0x42, 1), Ok(())),
         ],
@@ -141,7 +141,7 @@ static OF_FILE: [Stage; 6] = [
             (b"f\0\x01b", 0, &[(4, 1)]),
         ],
     ),
-    (
+    ("it gets a second block", 
         &[
             (Act::Write("/f", 201, 0x43, 256), Ok(())),
             (Act::Set("/f", "a", 2, 1), Ok(())),
@@ -154,7 +154,7 @@ static OF_FILE: [Stage; 6] = [
             (b"f\0\x01b", 0, &[(4, 1)]),
         ],
     ),
-    (
+    ("it becomes one in its first pair again", 
         &[
             (Act::Cut("/f", 201), Ok(())),
             (Act::Cut("/f", 200), Ok(())),
@@ -165,7 +165,7 @@ static OF_FILE: [Stage; 6] = [
             (b"f\0\x01b", 0, &[(4, 1)]),
         ],
     ),
-    (
+    ("it gets two blocks, and moves", 
         &[
             (Act::Write("/f", 200, 0x44, 101), Ok(())),
             (Act::Rename("/f", "/g"), Ok(())),
@@ -178,7 +178,7 @@ static OF_FILE: [Stage; 6] = [
             (b"g\0\x01b", 0, &[(4, 1)]),
         ],
     ),
-    (
+    ("it is removed, and a new one is made", 
         &[
             (Act::Remove("/g"), Ok(())),
             (Act::Write("/g", 0, 0, 0), Ok(())),
@@ -219,41 +219,54 @@ fn command_for(rt: &impl Abort, act: Act) -> Command
     }
 }
 
-/// Looks whether the pair has this key and this value.
-fn is_pair(rt: &impl Abort, pair: &(Key, Value), wanted: &Pair) {
+/// Looks whether the pair of the row has this key and this value.
+fn is_pair(rt: &impl Abort, pair: &(Key, Value), wanted: &Pair, row: &str) {
     let (front, block, runs) = wanted;
     let (field, number) = pair.0.as_bytes().split_at(120);
     let is_key = field.starts_with(*front)
         && field.iter().skip(front.len()).all(|byte| *byte == 0)
         && number == block.to_be_bytes().as_slice();
-    assert!(rt; is_key && has_runs(pair.1.as_slice(), *runs), "{block}");
+    assert!(rt;
+        is_key,
+        "{row}: a key\n  left: {:?}\n right: {:?}, zeros and {block}",
+        text_of(pair.0.as_bytes()),
+        text_of(*front)
+    );
+    assert!(rt;
+        has_runs(pair.1.as_slice(), *runs),
+        "{row}: the value of block {block}\n  left: {:?}\n right: each byte so many times, {:?}",
+        pair.1.as_slice(),
+        *runs
+    );
 }
 
-/// Looks whether the list has these pairs and no others.
-fn has_pairs(rt: &impl Abort, list: &MapPairs, wanted: &[Pair]) {
+/// Looks whether the list has the pairs of the row and no others.
+fn has_pairs(rt: &impl Abort, list: &MapPairs, wanted: &[Pair], row: &str) {
     let pairs = list.pairs().expect(rt, "memory");
-    assert!(rt; pairs.as_slice().len() == wanted.len());
     for (pair, wanted) in pairs.as_slice().iter().zip(wanted) {
-        is_pair(rt, pair, wanted);
+        is_pair(rt, pair, wanted, row);
     }
+    assert_eq!(rt;
+        pairs.as_slice().len(),
+        wanted.len(),
+        "{row}: how many pairs"
+    );
 }
 
-/// Looks whether the acts, one behind the other, are answered so.
-fn are_answered(rt: &impl Abort, list: &mut MapPairs, acts: &[(Act, Answer<()>)]) {
+/// Looks whether the acts of the row, one behind the other, are answered so. They are counted from 0.
+fn are_answered(rt: &impl Abort, list: &mut MapPairs, acts: &[(Act, Answer<()>)], row: &str) {
     for (at, (act, answer)) in acts.iter().enumerate() {
         let command = command_for(rt, *act);
-        assert!(rt;
-            change_few(rt, list, Version::Two, &command) == *answer,
-            "act {at}"
-        );
+        let came = change_few(rt, list, Version::Two, &command);
+        assert_eq!(rt; came, *answer, "{row}: the answer to act {at}");
     }
 }
 
 /// Looks whether the stages, one behind the other, are answered so and leave these pairs.
 fn are_done(rt: &impl Abort, list: &mut MapPairs, stages: &[Stage]) {
-    for (acts, pairs) in stages {
-        are_answered(rt, list, *acts);
-        has_pairs(rt, list, *pairs);
+    for (row, acts, pairs) in stages {
+        are_answered(rt, list, *acts, *row);
+        has_pairs(rt, list, *pairs, *row);
     }
 }
 

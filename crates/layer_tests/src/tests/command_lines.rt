@@ -5,7 +5,7 @@ use script_lines::{MAX_LINE, MemSink, parse_command, write_command, write_piece}
 use std::alloc::Global;
 use std::process::Abort;
 
-/// A line of each command, as it is written.
+/// A line of each command, as it is written, by which the row is named.
 const LINES: [&str; 16] = [
     "make /d",
     "write /d/f 0 -",
@@ -31,9 +31,11 @@ fn is_read_back(rt: &impl Abort, alloc: Global, line: &str) {
     let mut sink = MemSink::new(alloc, line.len() + 1, Vec::new(alloc)).expect(rt, "memory");
     let command = parse_command(line.as_bytes()).expect(rt, "a command");
     write_command(&mut sink, &command).expect(rt, "a put");
-    assert!(rt;
-        sink.written().strip_suffix(b"\n".as_slice()) == Some(line.as_bytes()),
-        "{line}"
+    let came = str::from_utf8(sink.written()).unwrap_or("no text");
+    assert_eq!(rt;
+        came.strip_suffix('\n'),
+        Some(line),
+        "a line that is read and written"
     );
 }
 

@@ -14,7 +14,7 @@ use store_base::{BadParams, DiskFault, Fault, NoMemory};
 /// Looks whether this is the text of a fault.
 fn is_told<T: Display>(rt: &impl Abort, alloc: Global, fault: &T, wanted: &str) {
     let text = format!(in alloc; "{fault}").expect(rt, "memory");
-    assert!(rt; text.as_str() == wanted);
+    assert_eq!(rt; text.as_str(), wanted, "the text of a fault");
 }
 
 #[test]
@@ -43,7 +43,7 @@ fn faults_of_scripts_have_their_texts(rt: HostRuntime) {
     is_told(&rt, alloc, &LineFault::TooLong, "the script is too long");
 }
 
-/// The faults of a store, and their texts.
+/// The columns are: a fault of a store; and its text, by which the row is named.
 static ATTACHED: [(AttachFault, &str); 4] = [
     (AttachFault::Disk, "the disk failed"),
     (AttachFault::NoMemory, "out of memory"),
@@ -51,6 +51,7 @@ static ATTACHED: [(AttachFault, &str); 4] = [
     (AttachFault::Damaged, "the image is damaged"),
 ];
 
+/// The columns are: a fault of a store that is open; and its text, by which the row is named.
 static APPLIED: [(ApplyFault, &str); 3] = [
     (ApplyFault::Disk, "the disk failed"),
     (ApplyFault::NoMemory, "out of memory"),
@@ -70,7 +71,7 @@ fn faults_of_a_store_have_their_texts(rt: HostRuntime) {
     are_told(&rt, rt.alloc(), &APPLIED);
 }
 
-/// The faults of a journal, of a settle and of a layout, and their texts.
+/// The columns are: a fault of a journal; and its text, by which the row is named.
 static FORMATTED: [(JournalFault, &str); 3] = [
     (JournalFault::Disk, "the disk failed"),
     (JournalFault::AlreadyImage, "the disk is an image already"),
@@ -80,6 +81,7 @@ static FORMATTED: [(JournalFault, &str); 3] = [
     ),
 ];
 
+/// The columns are: a fault of a settle; and its text, by which the row is named.
 static SETTLED: [(SettleFault, &str); 3] = [
     (
         SettleFault::Full { need: 3, slots: 2 },
@@ -89,6 +91,7 @@ static SETTLED: [(SettleFault, &str); 3] = [
     (SettleFault::NoMemory, "out of memory"),
 ];
 
+/// The columns are: a fault of a layout; and its text, by which the row is named.
 static LAID_OUT: [(ScratchFault, &str); 2] = [
     (
         ScratchFault::Full {

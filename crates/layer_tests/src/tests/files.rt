@@ -24,61 +24,81 @@ enum Change {
     Cut(u32),
 }
 
-/// A change of a file, its answer, and the calls that it makes on the pairs.
-type Counted = (Change, Answer<()>, u32);
+/// The name of a row, which stands once in its table; a change of a file; its answer; and the calls that it makes on
+/// the pairs.
+type Counted = (&'static str, Change, Answer<()>, u32);
 
 /// Changes of a file that is absent, which leave it with one block.
 static ONE_BLOCK: [Counted; 3] = [
-    (Change::Fill(0, 257), Ok(()), 4),
-    (Change::Cut(256), Ok(()), 3),
-    (Change::Cut(257), Err(Refusal::Gap), 1),
+    ("257 bytes", Change::Fill(0, 257), Ok(()), 4),
+    ("a cut to 256", Change::Cut(256), Ok(()), 3),
+    ("a cut to 257", Change::Cut(257), Err(Refusal::Gap), 1),
 ];
 
 /// Changes of a file that is absent, under the version that has a short one in its first pair.
 static ONE_PAIR: [Counted; 7] = [
-    (Change::Fill(0, 200), Ok(()), 2),
-    (Change::Fill(50, 100), Ok(()), 2),
+    ("200 bytes", Change::Fill(0, 200), Ok(()), 2),
+    ("100 of them over again", Change::Fill(50, 100), Ok(()), 2),
     // The bytes are put into a block, which is read and put again, and the first pair tells their number.
-    (Change::Fill(200, 1), Ok(()), 5),
+    ("a byte behind 200", Change::Fill(200, 1), Ok(()), 5),
     // The block is read and taken.
-    (Change::Cut(200), Ok(()), 4),
-    (Change::Cut(200), Ok(()), 1),
-    (Change::Cut(0), Ok(()), 2),
-    (Change::Fill(0, 200), Ok(()), 2),
+    ("a cut to 200", Change::Cut(200), Ok(()), 4),
+    ("a cut to 200 again", Change::Cut(200), Ok(()), 1),
+    ("a cut to no byte", Change::Cut(0), Ok(()), 2),
+    ("200 bytes again", Change::Fill(0, 200), Ok(()), 2),
 ];
 
 /// Changes of a file of the greatest length.
 static LONGEST: [Counted; 5] = [
-    (Change::Fill(16_777_216, 1), Err(Refusal::Big), 1),
-    (Change::Fill(16_777_215, 1), Ok(()), 3),
-    (Change::Fill(0, 4096), Ok(()), 17),
-    (Change::Fill(16_773_120, 4096), Ok(()), 17),
-    (Change::Cut(16_776_640), Ok(()), 6),
+    (
+        "a byte behind the end",
+        Change::Fill(16_777_216, 1),
+        Err(Refusal::Big),
+        1,
+    ),
+    ("the last byte", Change::Fill(16_777_215, 1), Ok(()), 3),
+    ("the first 4,096 bytes", Change::Fill(0, 4096), Ok(()), 17),
+    (
+        "the last 4,096 bytes",
+        Change::Fill(16_773_120, 4096),
+        Ok(()),
+        17,
+    ),
+    ("a cut by five blocks", Change::Cut(16_776_640), Ok(()), 6),
 ];
 
 /// Changes at the end of a file of 1 MiB, whose last block is full.
 static FULL_BLOCKS: [Counted; 2] = [
-    (Change::Fill(1_048_576, 1), Ok(()), 3),
-    (Change::Fill(1_048_575, 1), Ok(()), 3),
+    (
+        "a byte behind the end",
+        Change::Fill(1_048_576, 1),
+        Ok(()),
+        3,
+    ),
+    (
+        "the last byte of the last full block",
+        Change::Fill(1_048_575, 1),
+        Ok(()),
+        3,
+    ),
 ];
 
-/// Whether the change of the file at the path is answered so, with so many calls.
-fn is_made(
+/// The answer to the change of the file at the path, and how many calls it makes.
+fn made_by(
     list: &mut CountedPairs,
     path: &Path,
     version: Version,
-    row: &Counted,
-) -> Result<bool, Fault> {
-    let (change, answer, calls) = row;
+    change: Change,
+) -> Result<(Answer<()>, u32), Fault> {
     list.calls();
     let made = match change {
         Change::Fill(at, count) => {
-            let zeros = bytes_of(&[0; Bytes::MAX_LEN][..(*count).min(Bytes::MAX_LEN)]);
-            write_at(list, path, *at, &zeros, version)?
+            let zeros = bytes_of(&[0; Bytes::MAX_LEN][..count.min(Bytes::MAX_LEN)]);
+            write_at(list, path, at, &zeros, version)?
         }
-        Change::Cut(len) => cut(list, path, *len, version)?,
+        Change::Cut(len) => cut(list, path, len, version)?,
     };
-    Ok(made == *answer && list.calls() == *calls)
+    Ok((made, list.calls()))
 }
 
 /// Looks whether the changes of the file at the path are so.
@@ -89,10 +109,12 @@ fn are_made(
     version: Version,
     rows: &[Counted],
 ) {
-    for (at, row) in rows.iter().enumerate() {
-        assert!(rt;
-            is_made(list, path, version, row) == Ok(true),
-            "change {at}"
+    for (row, change, answer, calls) in rows {
+        let came = made_by(list, path, version, *change);
+        assert_eq!(rt;
+            came,
+            Ok((*answer, *calls)),
+            "{row}: the answer and the calls"
         );
     }
 }
@@ -115,15 +137,10 @@ fn file_in_one_pair(rt: HostRuntime) {
 fn fill(rt: &impl Abort, list: &mut CountedPairs, path: &Path, writes: u16, blocks: u8) {
     let len = u32::from(blocks.min(16)) * 256;
     for piece in 0..u32::from(writes) {
-        let filled = (
-            Change::Fill(piece * len, len as usize),
-            Ok(()),
-            u32::from(blocks) + 2,
-        );
-        assert!(rt;
-            is_made(list, path, Version::One, &filled) == Ok(true),
-            "piece {piece}"
-        );
+        let change = Change::Fill(piece * len, len as usize);
+        let came = made_by(list, path, Version::One, change);
+        let wanted = Ok((Ok(()), u32::from(blocks) + 2));
+        assert_eq!(rt; came, wanted, "piece {piece}: the answer and the calls");
     }
 }
 

@@ -1,42 +1,51 @@
-//! Lists of pairs, and the pages that they have, as another program worked them out. A change is `+KEY`, which puts
-//! the value 1, or `-KEY`, which takes the key out. A key is a path, with `#1` behind it for the block number 1. A
-//! page is its level, what leads its group, its index and its keys; with no key it is gone. A row ends at `;`: its
-//! changes stand before `|`, and its pages behind.
+//! Lists of pairs, and the pages that they have, as another program worked them out. A row ends at `;`, and `|` parts
+//! its columns:
+//!
+//! - the name of the row;
+//! - changes, parted by blanks. A change is `+KEY`, which puts the value 1, or `-KEY`, which takes the key out. A key
+//!   is a path, with `#1` behind it for the block number 1;
+//! - pages, parted by commas. A page is its level, what leads its group, its index and its keys; with no key it is
+//!   gone.
+//!
+//! The list of a row is that of the row before, with its changes.
 
-/// Changes under the draw `ruler` with three levels, and the pages that each puts and drops.
+/// Changes under the draw `ruler` with three levels, and the pages that each puts and drops. The columns stand at the
+/// head of this file.
 pub(crate) static RULER: &str = "\
-    +/aaU|0 /aaU 0 /aaU, 1 start 0 /aaU;\
-    +/UU|0 /UU 0 /UU, 1 start 0, 1 /UU 0 /UU /aaU, 2 start 0 /UU;\
-    +/U|0 /U 0 /U, 1 start 0 /U;\
-    +/bU|0 /bU 0 /bU, 1 /UU 0 /UU /aaU /bU;\
-    +/aU|0 /aU 0 /aU, 1 /UU 0 /UU /aU /aaU /bU;\
-    +/b|0 /aaU 0 /aaU /b;\
-    +/UUU|0 /UUU 0 /UUU, 1 /UU 0 /UU, 1 /UUU 0 /UUU /aU /aaU /bU, 2 start 0 /UU /UUU;\
-    +/a|0 /UUU 0 /UUU /a;\
-    +/Ua|0 /UUU 0 /UUU, 0 /Ua 0 /Ua /a, 1 /UUU 0 /UUU /Ua /aU /aaU /bU;\
-    +/ab|0 /aaU 0 /aaU /ab /b;\
-    +/aUb|0 /aUb 0 /aUb, 1 /UUU 0 /UUU /Ua /aU /aUb /aaU /bU;\
-    +/Ub|0 /Ua 0 /Ua, 0 /Ub 0 /Ub /a, 1 /UUU 0 /UUU /Ua /Ub /aU /aUb /aaU /bU;\
-    +/aa|0 /aUb 0 /aUb /aa;\
-    +/abU|0 /aaU 0 /aaU /ab, 0 /abU 0 /abU /b, 1 /UUU 0 /UUU /Ua /Ub /aU /aUb /aaU /abU /bU;\
-    +/Uab|0 /Uab 0 /Uab, 1 /UUU 0 /UUU /Ua /Uab /Ub /aU /aUb /aaU /abU /bU;\
-    +/aaU#1|0 /aaU 0 /aaU /aaU#1 /ab;\
-    +/a#1|0 /Ub 0 /Ub /a /a#1;\
-    +/Uab#1|0 /Uab 0 /Uab /Uab#1;\
-    -/bU|0 /bU 0, 1 /UUU 0 /UUU /Ua /Uab /Ub /aU /aUb /aaU /abU;\
-    -/U|0 /U 0, 1 start 0;\
-    -/aUb|0 /aU 0 /aU /aa, 0 /aUb 0, 1 /UUU 0 /UUU /Ua /Uab /Ub /aU /aaU /abU;\
-    -/UU|0 /UU 0, 1 /UU 0, 2 start 0 /UUU;\
-    -/abU|0 /aaU 0 /aaU /aaU#1 /ab /b, 0 /abU 0, 1 /UUU 0 /UUU /Ua /Uab /Ub /aU /aaU;\
-    -/UUU|0 /UUU 0, 1 start 0 /Ua /Uab /Ub /aU /aaU, 1 /UUU 0, 2 start 0;\
-    -/Uab|0 /Ua 0 /Ua /Uab#1, 0 /Uab 0, 1 start 0 /Ua /Ub /aU /aaU;\
-    -/aa|0 /aU 0 /aU;\
-    -/b|0 /aaU 0 /aaU /aaU#1 /ab;\
-    -/a|0 /Ub 0 /Ub /a#1";
+    put /aaU|+/aaU|0 /aaU 0 /aaU, 1 start 0 /aaU;\
+    put /UU|+/UU|0 /UU 0 /UU, 1 start 0, 1 /UU 0 /UU /aaU, 2 start 0 /UU;\
+    put /U|+/U|0 /U 0 /U, 1 start 0 /U;\
+    put /bU|+/bU|0 /bU 0 /bU, 1 /UU 0 /UU /aaU /bU;\
+    put /aU|+/aU|0 /aU 0 /aU, 1 /UU 0 /UU /aU /aaU /bU;\
+    put /b|+/b|0 /aaU 0 /aaU /b;\
+    put /UUU|+/UUU|0 /UUU 0 /UUU, 1 /UU 0 /UU, 1 /UUU 0 /UUU /aU /aaU /bU, 2 start 0 /UU /UUU;\
+    put /a|+/a|0 /UUU 0 /UUU /a;\
+    put /Ua|+/Ua|0 /UUU 0 /UUU, 0 /Ua 0 /Ua /a, 1 /UUU 0 /UUU /Ua /aU /aaU /bU;\
+    put /ab|+/ab|0 /aaU 0 /aaU /ab /b;\
+    put /aUb|+/aUb|0 /aUb 0 /aUb, 1 /UUU 0 /UUU /Ua /aU /aUb /aaU /bU;\
+    put /Ub|+/Ub|0 /Ua 0 /Ua, 0 /Ub 0 /Ub /a, 1 /UUU 0 /UUU /Ua /Ub /aU /aUb /aaU /bU;\
+    put /aa|+/aa|0 /aUb 0 /aUb /aa;\
+    put /abU|+/abU|0 /aaU 0 /aaU /ab, 0 /abU 0 /abU /b, 1 /UUU 0 /UUU /Ua /Ub /aU /aUb /aaU /abU /bU;\
+    put /Uab|+/Uab|0 /Uab 0 /Uab, 1 /UUU 0 /UUU /Ua /Uab /Ub /aU /aUb /aaU /abU /bU;\
+    put block 1 of /aaU|+/aaU#1|0 /aaU 0 /aaU /aaU#1 /ab;\
+    put block 1 of /a|+/a#1|0 /Ub 0 /Ub /a /a#1;\
+    put block 1 of /Uab|+/Uab#1|0 /Uab 0 /Uab /Uab#1;\
+    take /bU|-/bU|0 /bU 0, 1 /UUU 0 /UUU /Ua /Uab /Ub /aU /aUb /aaU /abU;\
+    take /U|-/U|0 /U 0, 1 start 0;\
+    take /aUb|-/aUb|0 /aU 0 /aU /aa, 0 /aUb 0, 1 /UUU 0 /UUU /Ua /Uab /Ub /aU /aaU /abU;\
+    take /UU|-/UU|0 /UU 0, 1 /UU 0, 2 start 0 /UUU;\
+    take /abU|-/abU|0 /aaU 0 /aaU /aaU#1 /ab /b, 0 /abU 0, 1 /UUU 0 /UUU /Ua /Uab /Ub /aU /aaU;\
+    take /UUU|-/UUU|0 /UUU 0, 1 start 0 /Ua /Uab /Ub /aU /aaU, 1 /UUU 0, 2 start 0;\
+    take /Uab|-/Uab|0 /Ua 0 /Ua /Uab#1, 0 /Uab 0, 1 start 0 /Ua /Ub /aU /aaU;\
+    take /aa|-/aa|0 /aU 0 /aU;\
+    take /b|-/b|0 /aaU 0 /aaU /aaU#1 /ab;\
+    take /a|-/a|0 /Ub 0 /Ub /a#1";
 
-/// Changes under the draw `sha256` with four levels and the seed of the bytes 0 to 31, and all pages after them.
+/// Changes under the draw `sha256` with four levels and the seed of the bytes 0 to 31, and all pages after them. The
+/// columns stand at the head of this file.
 pub(crate) static SHA256: &str = "\
-    +/p16 +/p121 +/p379 +/p304 +/p176 +/p128 +/p233 +/p333 +/p215 +/p74 +/p28 +/p326 +/p252 \
+    60 keys are put|\
+        +/p16 +/p121 +/p379 +/p304 +/p176 +/p128 +/p233 +/p333 +/p215 +/p74 +/p28 +/p326 +/p252 \
         +/p171 +/p106 +/p66 +/p374 +/p288 +/p67 +/p322 +/p211 +/p54 +/p86 +/p222 +/p190 +/p76 +/p30 \
         +/p150 +/p72 +/p232 +/p317 +/p267 +/p249 +/p352 +/p373 +/p162 +/p245 +/p140 +/p149 +/p240 \
         +/p206 +/p75 +/p57 +/p193 +/p272 +/p91 +/p321 +/p255 +/p173 +/p92 +/p45 +/p251 +/p139 +/p263 \
@@ -46,7 +55,8 @@ pub(crate) static SHA256: &str = "\
         /p32, 0 /p321 0 /p321 /p322 /p326 /p333 /p352 /p373 /p374 /p379 /p396 /p400, 0 /p321 1 /p45 \
         /p54 /p57 /p66 /p67 /p72 /p74 /p75 /p76 /p86, 0 /p321 2 /p91 /p92, 0 start 0 /p106 /p121 \
         /p128 /p139 /p140 /p149 /p150 /p16, 1 start 0 /p162 /p176 /p222 /p255 /p32 /p321;\
-    +/p182 +/p355 +/p300 +/p339 +/p17 +/p388 +/p156 +/p186 +/p286 +/p360 +/p342 +/p143 +/p248 \
+    60 keys more are put|\
+        +/p182 +/p355 +/p300 +/p339 +/p17 +/p388 +/p156 +/p186 +/p286 +/p360 +/p342 +/p143 +/p248 \
         +/p135 +/p394 +/p353 +/p366 +/p174 +/p332 +/p297 +/p5 +/p242 +/p166 +/p343 +/p237 +/p147 \
         +/p256 +/p331 +/p344 +/p178 +/p329 +/p377 +/p209 +/p179 +/p88 +/p230 +/p265 +/p271 +/p85 \
         +/p101 +/p185 +/p244 +/p144 +/p354 +/p40 +/p368 +/p213 +/p87 +/p315 +/p399 +/p264 +/p340 \
@@ -62,7 +72,8 @@ pub(crate) static SHA256: &str = "\
         /p101 /p106 /p121 /p128 /p135 /p138 /p139 /p14 /p140, 0 start 1 /p143 /p144 /p147 /p149 /p150 \
         /p154 /p156 /p16, 1 /p264 0 /p264 /p32 /p321 /p344, 1 start 0 /p162 /p176 /p222 /p230 /p242 \
         /p255, 2 start 0 /p264;\
-    +/p112 +/p351 +/p323 +/p367 +/p21 +/p241 +/p115 +/p84 +/p27 +/p68 +/p56 +/p247 +/p99 +/p18 \
+    115 keys more are put|\
+        +/p112 +/p351 +/p323 +/p367 +/p21 +/p241 +/p115 +/p84 +/p27 +/p68 +/p56 +/p247 +/p99 +/p18 \
         +/p212 +/p238 +/p194 +/p313 +/p36 +/p302 +/p104 +/p191 +/p0 +/p207 +/p142 +/p58 +/p281 +/p314 \
         +/p48 +/p151 +/p279 +/p262 +/p180 +/p214 +/p328 +/p275 +/p189 +/p239 +/p80 +/p305 +/p195 \
         +/p311 +/p46 +/p338 +/p55 +/p289 +/p276 +/p192 +/p219 +/p221 +/p362 +/p196 +/p133 +/p254 \
@@ -92,7 +103,8 @@ pub(crate) static SHA256: &str = "\
         /p14 /p140 /p142 /p143 /p144 /p146 /p147 /p149, 0 start 3 /p150 /p151 /p153 /p154 /p154#1 \
         /p156 /p157 /p16 /p16#1, 1 /p264 0 /p264 /p32 /p321 /p344 /p368#1 /p62, 1 start 0 /p162 /p176 \
         /p222 /p230 /p242 /p255, 2 start 0 /p264;\
-    -/p30 -/p0 -/p162 -/p244 -/p73 -/p125 -/p69 -/p211 -/p88 -/p142 -/p377 -/p139 -/p182 -/p250 \
+    65 keys are taken|\
+        -/p30 -/p0 -/p162 -/p244 -/p73 -/p125 -/p69 -/p211 -/p88 -/p142 -/p377 -/p139 -/p182 -/p250 \
         -/p186 -/p219 -/p146 -/p273 -/p124 -/p380 -/p60 -/p344 -/p214 -/p232 -/p76 -/p81 -/p340 \
         -/p194 -/p79 -/p263 -/p179 -/p184 -/p200 -/p222 -/p189 -/p56 -/p138 -/p339 -/p283 -/p195 \
         -/p137 -/p100 -/p275 -/p68 -/p319 -/p242 -/p190 -/p338 -/p272 -/p209 -/p388 -/p58 -/p221 \
@@ -112,7 +124,8 @@ pub(crate) static SHA256: &str = "\
         /p14 /p140 /p143 /p147 /p149 /p150, 0 start 2 /p151 /p153 /p154 /p154#1 /p156 /p157 /p16 \
         /p16#1 /p162#1 /p163, 0 start 3 /p163#1 /p166 /p17 /p171 /p172 /p173 /p174 /p174#1, 1 /p264 0 \
         /p264 /p32 /p321 /p368#1 /p62, 1 start 0 /p176 /p230 /p255, 2 start 0 /p264;\
-    -/p171 -/p238 -/p355 -/p396 -/p166 -/p369 -/p262 -/p101 -/p48 -/p153 -/p176 -/p241 -/p28 \
+    71 keys more are taken|\
+        -/p171 -/p238 -/p355 -/p396 -/p166 -/p369 -/p262 -/p101 -/p48 -/p153 -/p176 -/p241 -/p28 \
         -/p193 -/p379 -/p328 -/p86 -/p92 -/p239 -/p46 -/p329 -/p213 -/p156 -/p362 -/p249 -/p317 \
         -/p265 -/p215 -/p352 -/p207 -/p133 -/p342 -/p27 -/p40 -/p172 -/p256 -/p5 -/p248 -/p322 -/p140 \
         -/p178 -/p62 -/p333 -/p55 -/p343 -/p91 -/p20 -/p300 -/p366 -/p331 -/p206 -/p99 -/p280 -/p121 \

@@ -69,28 +69,41 @@ fn answer_to(
     }
 }
 
-/// A change, its answer, and the calls that it makes on the pairs.
-type Row = (Change, Answer<()>, u32);
+/// The name of a row, which stands once in its table; a change; its answer; and the calls that it makes on the pairs.
+type Row = (&'static str, Change, Answer<()>, u32);
 
 /// Looks whether the changes, one behind the other, are answered so.
 fn are_answered(rt: &impl Abort, pairs: &mut CountedPairs, rows: &[Row]) {
-    for (at, (change, answer, calls)) in rows.iter().enumerate() {
-        let found = answer_to(rt, pairs, change);
-        assert!(rt;
-            found == Ok(*answer) && pairs.calls() == *calls,
-            "change {at}"
-        );
+    for (row, change, answer, calls) in rows {
+        let came = answer_to(rt, pairs, change);
+        assert_eq!(rt; came, Ok(*answer), "{row}: the answer");
+        assert_eq!(rt; pairs.calls(), *calls, "{row}: the calls");
     }
 }
 
 /// Changes of the small tree, which leave nothing of it.
 static MOVES: [Row; 4] = [
     // The tests find four paths; then seven pairs are found, taken and put.
-    (Change::Rename("/d", "/dd/e"), Ok(()), 3 + 5 + 22),
-    (Change::Remove("/dd"), Err(Refusal::NotEmpty), 1 + 1),
+    (
+        "/d is moved to /dd/e",
+        Change::Rename("/d", "/dd/e"),
+        Ok(()),
+        3 + 5 + 22,
+    ),
+    (
+        "/dd is removed, and is not empty",
+        Change::Remove("/dd"),
+        Err(Refusal::NotEmpty),
+        1 + 1,
+    ),
     // Four pairs are found and taken, of the file and then of the directories.
-    (Change::Remove("/dd/e/f"), Ok(()), 1 + 9),
-    (Change::Prune("/dd"), Ok(()), 1 + 9),
+    (
+        "a file of three blocks is removed",
+        Change::Remove("/dd/e/f"),
+        Ok(()),
+        1 + 9,
+    ),
+    ("/dd is pruned", Change::Prune("/dd"), Ok(()), 1 + 9),
 ];
 
 #[test]

@@ -4,7 +4,8 @@ use path_keys::{AttrName, Path, attr_key, last_at, of_attr_key, replant};
 use std::process::Abort;
 use store_base::Key;
 
-/// Attributes of paths, and the bytes with which their keys begin; zeros follow.
+/// The columns are: a path, and the name of an attribute of it, by which the row is named; and the bytes with which
+/// its key begins; zeros follow.
 static KEYS: [(&str, &str, &[u8]); 5] = [
     ("/d", "K!", b"d\x00\x01K!\x00"),
     ("/d", "U", b"d\x00\x01U\x00"),
@@ -17,7 +18,8 @@ static KEYS: [(&str, &str, &[u8]); 5] = [
     ),
 ];
 
-/// The bytes of a path's text and of an attribute's name, and whether a field has room for both.
+/// The columns are: how many bytes a path's text has, and how many an attribute's name, by which the row is named; and
+/// whether a field has room for both.
 static LENGTHS: [(usize, usize, bool); 7] = [
     (2, 32, true),
     (86, 32, true),
@@ -55,10 +57,16 @@ fn keys_of_attributes_have_these_bytes(rt: HostRuntime) {
     for (text, attribute, front) in &KEYS {
         let key = key_of(&rt, text, attribute);
         let rest = key.as_bytes().strip_prefix(*front).expect(&rt, "the front");
-        assert!(rt; rest.iter().all(|byte| *byte == 0), "{text} {attribute}");
+        assert!(rt;
+            rest.iter().all(|byte| *byte == 0),
+            "zeros behind the front: {text} {attribute}"
+        );
         let found = of_attr_key(&key).expect(&rt, "an attribute");
-        assert!(rt; found.0 == path(&rt, text) && found.1.as_bytes() == attribute.as_bytes());
-        assert!(rt; Path::of_key(&key).is_none());
+        assert!(rt;
+            found.0 == path(&rt, text) && found.1.as_bytes() == attribute.as_bytes(),
+            "the path and the name of the key: {text} {attribute}"
+        );
+        assert!(rt; Path::of_key(&key).is_none(), "no path: {text} {attribute}");
     }
 }
 
@@ -86,9 +94,7 @@ fn a_field_has_120_bytes_for_path_and_name(rt: HostRuntime) {
         text[0] = b'/';
         let path = Path::parse(&text[..(*path_len).min(120)]).expect(&rt, "a path");
         let name = AttrName::parse(&[b'n'; 32][..(*name_len).min(32)]).expect(&rt, "a name");
-        assert!(rt;
-            attr_key(&path, &name).is_some() == *has_room,
-            "at {path_len} and {name_len}"
-        );
+        let came = attr_key(&path, &name).is_some();
+        assert_eq!(rt; came, *has_room, "room for {path_len} and {name_len} bytes");
     }
 }

@@ -10,23 +10,23 @@ use std::io::{Read, Write};
 use std::process::Abort;
 use store_base::Entries;
 
-/// Whether this is the reader's next answer: a line, or words in capitals for another one.
-fn tells<R: Source>(reader: &mut LineReader<R>, want: &str) -> bool {
+/// The reader's next answer: a line, or words in capitals for another one.
+fn answer_of<R: Source>(reader: &mut LineReader<R>) -> &str {
     if !reader.is_live() {
-        return want == "NONE";
+        return "NONE";
     }
     match reader.next_line() {
-        Ok(Line::Text) => reader.text() == want.as_bytes(),
-        Ok(_) => want == "END",
-        Err(LineFault::Source) => want == "FAULT",
-        Err(LineFault::TooLong) => want == "TOO LONG",
+        Ok(Line::Text) => str::from_utf8(reader.text()).unwrap_or("NO TEXT"),
+        Ok(_) => "END",
+        Err(LineFault::Source) => "FAULT",
+        Err(LineFault::TooLong) => "TOO LONG",
     }
 }
 
 /// Looks whether these are the reader's next answers.
-fn tells_all<R: Source>(rt: &impl Abort, reader: &mut LineReader<R>, answers: &[&str]) {
+fn tells_all<R: Source>(rt: &impl Abort, reader: &mut LineReader<R>, answers: &[&str], row: &str) {
     for answer in answers {
-        assert!(rt; tells(reader, *answer), "{answer}");
+        assert_eq!(rt; answer_of(reader), *answer, "{row}");
     }
 }
 
@@ -37,23 +37,31 @@ fn read_from<R: Read + Drop>(
     reader: R,
     limit: u64,
     answers: &[&str],
+    row: &str,
 ) -> R {
     let lines = LineReader::with_limit(alloc, StdSource::new(reader), limit);
     let mut lines = lines.ok().expect(rt, "memory");
-    tells_all(rt, &mut lines, answers);
+    tells_all(rt, &mut lines, answers, row);
     lines.into_source().into_inner()
 }
 
-/// Scripts, the most bytes of them that a reader takes, and what it answers.
-static LIMITS: [(&str, u64, &[&str]); 4] = [
-    ("space\nx", 6, &["space", "TOO LONG", "NONE"]),
-    ("space\n", 6, &["space", "END"]),
+/// The columns are: the name of the row; a script; the most bytes of it that a reader takes; and what it answers.
+static LIMITS: [(&str, &str, u64, &[&str]); 4] = [
     (
+        "a byte more than the limit",
+        "space\nx",
+        6,
+        &["space", "TOO LONG", "NONE"],
+    ),
+    ("just the limit", "space\n", 6, &["space", "END"]),
+    (
+        "empty lines, and a byte more than the limit",
         "\nmake /a\n\n\nlist /\nspace",
         22,
         &["make /a", "list /", "TOO LONG", "NONE"],
     ),
     (
+        "empty lines, and just the limit",
         "\nmake /a\n\n\nlist /\nspace",
         23,
         &["make /a", "list /", "space", "END"],
@@ -62,9 +70,9 @@ static LIMITS: [(&str, u64, &[&str]); 4] = [
 
 #[test]
 fn a_script_is_read_to_its_limit(rt: HostRuntime) {
-    for (script, limit, answers) in &LIMITS {
-        let left = read_from(&rt, rt.alloc(), script.as_bytes(), *limit, *answers);
-        assert!(rt; left.is_empty(), "{script}");
+    for (row, script, limit, answers) in &LIMITS {
+        let left = read_from(&rt, rt.alloc(), script.as_bytes(), *limit, *answers, *row);
+        assert!(rt; left.is_empty(), "all of the script is read: {row}");
     }
 }
 
@@ -132,7 +140,14 @@ impl Write for Uneven {
 #[test]
 fn readers_of_std_are_adapted(rt: HostRuntime) {
     let answers = ["a", "FAULT", "NONE"];
-    let uneven = read_from(&rt, rt.alloc(), Uneven::new(), MAX_SCRIPT, &answers);
+    let uneven = read_from(
+        &rt,
+        rt.alloc(),
+        Uneven::new(),
+        MAX_SCRIPT,
+        &answers,
+        "an uneven reader",
+    );
     assert!(rt; uneven.calls == 3);
 }
 

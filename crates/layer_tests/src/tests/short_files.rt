@@ -32,25 +32,29 @@ pub(crate) type Run = (u8, usize);
 /// The name of a file in the root, the number in the key, and the value.
 type Pair = (u8, u32, &'static [Run]);
 
-/// The name of a file in the root, what is done to it, the answer, and all the pairs behind it.
-type Row = (u8, Act, Answer<()>, &'static [Pair]);
+/// The name of the row, which stands once in its table; the name of a file in the root; what is done to it; the answer;
+/// and all the pairs behind it.
+type Row = (&'static str, u8, Act, Answer<()>, &'static [Pair]);
 
 /// Acts under version 2. Up to the removal the pairs come from an independent model of the definitions; the others are
 /// worked out by hand.
 static SHORT: [Row; 17] = [
     (
+        "199 bytes are written",
         b'f',
         Act::Write(0, 0x41, 199),
         Ok(()),
         &[(b'f', 0, &[(3, 1), (0x41, 199)])],
     ),
     (
+        "a byte behind them",
         b'f',
         Act::Write(199, 0x41, 1),
         Ok(()),
         &[(b'f', 0, &[(3, 1), (0x41, 200)])],
     ),
     (
+        "a byte behind 200",
         b'f',
         Act::Write(200, 0, 1),
         Ok(()),
@@ -60,18 +64,21 @@ static SHORT: [Row; 17] = [
         ],
     ),
     (
+        "a cut to 200 bytes",
         b'f',
         Act::Cut(200),
         Ok(()),
         &[(b'f', 0, &[(3, 1), (0x41, 200)])],
     ),
     (
+        "nothing is written at the end",
         b'f',
         Act::Write(200, 0, 0),
         Ok(()),
         &[(b'f', 0, &[(3, 1), (0x41, 200)])],
     ),
     (
+        "101 bytes from place 100 on",
         b'f',
         Act::Write(100, 0x42, 101),
         Ok(()),
@@ -80,8 +87,15 @@ static SHORT: [Row; 17] = [
             (b'f', 1, &[(0x41, 100), (0x42, 101)]),
         ],
     ),
-    (b'f', Act::Cut(0), Ok(()), &[(b'f', 0, &[(3, 1)])]),
     (
+        "a cut to no byte",
+        b'f',
+        Act::Cut(0),
+        Ok(()),
+        &[(b'f', 0, &[(3, 1)])],
+    ),
+    (
+        "a whole block is written",
         b'g',
         Act::Write(0, 0x43, 256),
         Ok(()),
@@ -92,6 +106,7 @@ static SHORT: [Row; 17] = [
         ],
     ),
     (
+        "a byte behind a whole block",
         b'g',
         Act::Write(256, 0x44, 1),
         Ok(()),
@@ -103,6 +118,7 @@ static SHORT: [Row; 17] = [
         ],
     ),
     (
+        "a cut to a whole block",
         b'g',
         Act::Cut(256),
         Ok(()),
@@ -113,32 +129,37 @@ static SHORT: [Row; 17] = [
         ],
     ),
     (
+        "a cut of a block to 200 bytes",
         b'g',
         Act::Cut(200),
         Ok(()),
         &[(b'f', 0, &[(3, 1)]), (b'g', 0, &[(3, 1), (0x43, 200)])],
     ),
     (
+        "a cut to more bytes than there are",
         b'g',
         Act::Cut(201),
         Err(Refusal::Gap),
         &[(b'f', 0, &[(3, 1)]), (b'g', 0, &[(3, 1), (0x43, 200)])],
     ),
     (
+        "a file is removed",
         b'f',
         Act::Remove,
         Ok(()),
         &[(b'g', 0, &[(3, 1), (0x43, 200)])],
     ),
-    // Bytes in the middle are replaced, and the length stays.
+    // The length stays.
     (
+        "bytes in the middle are replaced",
         b'g',
         Act::Write(50, 0x45, 100),
         Ok(()),
         &[(b'g', 0, &[(3, 1), (0x43, 50), (0x45, 100), (0x43, 50)])],
     ),
-    // A file grows past a whole block at once, and comes back.
+    // At once; and it comes back.
     (
+        "a file grows past a whole block",
         b'g',
         Act::Write(150, 0x46, 107),
         Ok(()),
@@ -149,13 +170,14 @@ static SHORT: [Row; 17] = [
         ],
     ),
     (
+        "a cut from two blocks to 199 bytes",
         b'g',
         Act::Cut(199),
         Ok(()),
         &[(b'g', 0, &[(3, 1), (0x43, 50), (0x45, 100), (0x46, 49)])],
     ),
-    // An empty file is made.
     (
+        "an empty file is made",
         b'h',
         Act::Write(0, 0, 0),
         Ok(()),
@@ -169,6 +191,7 @@ static SHORT: [Row; 17] = [
 /// Acts under version 1, with pairs that are worked out by hand.
 static SHORT_IN_BLOCKS: [Row; 4] = [
     (
+        "200 bytes are written",
         b'f',
         Act::Write(0, 0x41, 200),
         Ok(()),
@@ -178,6 +201,7 @@ static SHORT_IN_BLOCKS: [Row; 4] = [
         ],
     ),
     (
+        "a byte behind 200",
         b'f',
         Act::Write(200, 0, 1),
         Ok(()),
@@ -187,6 +211,7 @@ static SHORT_IN_BLOCKS: [Row; 4] = [
         ],
     ),
     (
+        "a cut to 200 bytes",
         b'f',
         Act::Cut(200),
         Ok(()),
@@ -195,7 +220,13 @@ static SHORT_IN_BLOCKS: [Row; 4] = [
             (b'f', 1, &[(0x41, 200)]),
         ],
     ),
-    (b'f', Act::Cut(0), Ok(()), &[(b'f', 0, &[(2, 1), (0, 4)])]),
+    (
+        "a cut to no byte",
+        b'f',
+        Act::Cut(0),
+        Ok(()),
+        &[(b'f', 0, &[(2, 1), (0, 4)])],
+    ),
 ];
 
 /// The file of this name in the root.
@@ -247,31 +278,49 @@ pub(crate) fn has_runs(bytes: &[u8], runs: &[Run]) -> bool {
     rest.is_empty()
 }
 
-/// Looks whether the pair has this key and this value.
-fn is_pair(rt: &impl Abort, pair: &(Key, Value), wanted: &Pair) {
-    let (name, block, runs) = wanted;
-    assert!(rt; pair.0 == file_of(rt, *name).key(*block), "{name} {block}");
-    assert!(rt; has_runs(pair.1.as_slice(), *runs), "{name} {block}");
+/// The text that these bytes are.
+pub(crate) fn text_of(bytes: &[u8]) -> &str {
+    str::from_utf8(bytes).unwrap_or("bytes that are no text")
 }
 
-/// Looks whether the list has these pairs and no others.
-fn has_pairs(rt: &impl Abort, list: &MapPairs, wanted: &[Pair]) {
+/// Looks whether the pair of the row has this key and this value.
+fn is_pair(rt: &impl Abort, pair: &(Key, Value), wanted: &Pair, row: &str) {
+    let (name, block, runs) = wanted;
+    let key = file_of(rt, *name).key(*block);
+    assert!(rt;
+        pair.0 == key,
+        "{row}: a key\n  left: {:?}\n right: {:?}",
+        text_of(pair.0.as_bytes()),
+        text_of(key.as_bytes())
+    );
+    assert!(rt;
+        has_runs(pair.1.as_slice(), *runs),
+        "{row}: the value of block {block}\n  left: {:?}\n right: each byte so many times, {:?}",
+        pair.1.as_slice(),
+        *runs
+    );
+}
+
+/// Looks whether the list has the pairs of the row and no others.
+fn has_pairs(rt: &impl Abort, list: &MapPairs, wanted: &[Pair], row: &str) {
     let pairs = list.pairs().expect(rt, "memory");
-    assert!(rt; pairs.as_slice().len() == wanted.len());
     for (pair, wanted) in pairs.as_slice().iter().zip(wanted) {
-        is_pair(rt, pair, wanted);
+        is_pair(rt, pair, wanted, row);
     }
+    assert_eq!(rt;
+        pairs.as_slice().len(),
+        wanted.len(),
+        "{row}: how many pairs"
+    );
 }
 
 /// Looks whether the acts, one behind the other, are answered so and leave these pairs.
 fn are_done(rt: &impl Abort, list: &mut MapPairs, version: Version, rows: &[Row]) {
-    for (at, (name, act, answer, pairs)) in rows.iter().enumerate() {
+    for (row, name, act, answer, pairs) in rows {
         let command = command_for(file_of(rt, *name), *act);
-        assert!(rt;
-            change_few(rt, list, version, &command) == *answer,
-            "act {at}"
-        );
-        has_pairs(rt, list, *pairs);
+        let came = change_few(rt, list, version, &command);
+        assert_eq!(rt; came, *answer, "{row}: the answer");
+        has_pairs(rt, list, *pairs, *row);
     }
 }
 

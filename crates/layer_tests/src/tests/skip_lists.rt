@@ -2,6 +2,7 @@
 
 use super::listed_pages::{RULER, SHA256};
 use super::paths::path;
+use super::short_files::text_of;
 use node_pages::{Page, Pages};
 use ordered_pairs::{MapPairs, OrderedPairs};
 use seeded_draw::AnyDraw;
@@ -60,7 +61,7 @@ fn changed(
 ) -> CountedPages {
     let mut list = SkipList::new(alloc, pages, draw);
     for word in changes.split_whitespace() {
-        assert!(rt; change(rt, &mut list, word) == Ok(true), "{word}");
+        assert_eq!(rt; change(rt, &mut list, word), Ok(true), "the change {word}");
     }
     list.into_pages()
 }
@@ -86,29 +87,39 @@ fn next_label(rt: &impl Abort, words: &mut SplitWhitespace<'_>) -> Label {
     }
 }
 
-/// Looks whether the page has the keys that the words tell, each in turn.
-fn has_keys(rt: &impl Abort, page: &Page, words: &mut SplitWhitespace<'_>) {
+/// Looks whether the page of the row has the keys that the words tell, each in turn.
+fn has_keys(rt: &impl Abort, page: &Page, words: &mut SplitWhitespace<'_>, row: &str) {
     for i in 0..page.len() {
-        let word = words.next().expect(rt, "a key");
-        assert!(rt; page.key(i) == key_of(rt, word), "{word}");
+        let word = words.next().unwrap_or("/");
+        let (came, wanted) = (page.key(i), key_of(rt, word));
+        assert!(rt;
+            came == wanted,
+            "{row}: key {i} of a page is {:?}, wanted {word:?}, or none more where that is the root",
+            text_of(came.as_bytes())
+        );
     }
 }
 
-/// Looks whether a page is as told by its level, what leads it, its index and its keys; with no key it is gone.
-fn is_as_told<P: Pages>(rt: &impl Abort, pages: &mut P, told: &str) {
+/// Looks whether a page of the row is as told by its level, what leads it, its index and its keys; with no key it is
+/// gone.
+fn is_as_told<P: Pages>(rt: &impl Abort, pages: &mut P, told: &str, row: &str) {
     let mut words = told.split_whitespace();
     let label = next_label(rt, &mut words);
     if let Some(page) = pages.look(&label).expect(rt, "a page") {
-        has_keys(rt, page, &mut words);
+        has_keys(rt, page, &mut words, row);
     }
-    assert!(rt; words.next().is_none(), "{told}");
+    assert_eq!(rt;
+        words.next(),
+        None,
+        "{row}: keys that the page {told:?} lacks"
+    );
 }
 
-/// Looks whether the pages are as told, and answers how many are told.
-fn are_as_told<P: Pages>(rt: &impl Abort, pages: &mut P, told: &str) -> usize {
+/// Looks whether the pages of the row are as told, and answers how many are told.
+fn are_as_told<P: Pages>(rt: &impl Abort, pages: &mut P, told: &str, row: &str) -> usize {
     let mut count: usize = 0;
     for page in told.split(',') {
-        is_as_told(rt, pages, page);
+        is_as_told(rt, pages, page, row);
         count = count.saturating_add(1);
     }
     count
@@ -127,13 +138,15 @@ enum Told {
 fn come_to_pages(rt: &impl Abort, alloc: Global, draw: AnyDraw, rows: &str, which: Told) {
     let mut pages = CountedPages::new(alloc);
     for row in rows.split(';') {
-        let (changes, told) = row.split_once('|').expect(rt, "changes and pages");
+        let (row, rest) = row.split_once('|').expect(rt, "a name");
+        let (changes, told) = rest.split_once('|').expect(rt, "changes and pages");
         pages = changed(rt, alloc, pages, draw, changes);
         let count = match which {
             Told::Left => pages.len(),
             Told::Changed => pages.changes() as usize,
         };
-        assert!(rt; are_as_told(rt, &mut pages, told) == count, "{changes}");
+        let wanted = are_as_told(rt, &mut pages, told, row);
+        assert_eq!(rt; count, wanted, "{row}: how many pages");
     }
 }
 
@@ -142,7 +155,7 @@ fn ruler(rt: &impl Abort) -> AnyDraw {
     AnyDraw::new(&Params::new(8, 3, DrawKind::Ruler, [0; 32]).expect(rt, "parameters"))
 }
 
-/// Three directories in each order.
+/// Three directories in each order, each row named by it.
 static ORDERS: [&str; 6] = [
     "+/UU +/Ua +/b",
     "+/UU +/b +/Ua",
@@ -152,15 +165,16 @@ static ORDERS: [&str; 6] = [
     "+/b +/Ua +/UU",
 ];
 
-/// The pages of /UU, /Ua and /b, and what is left when /UU and then /Ua is removed.
+/// The pages of /UU, /Ua and /b, and what is left when /UU and then /Ua is removed: the table of `listed_pages`, whose
+/// first row begins with a name and one of the orders.
 const LEFT: &str = "|0 /UU 0 /UU, 0 /Ua 0 /Ua /b, 1 /UU 0 /UU /Ua, 2 start 0 /UU;\
-    -/UU|0 /Ua 0 /Ua /b, 1 start 0 /Ua;\
-    -/Ua|0 start 0 /b";
+    /UU is removed|-/UU|0 /Ua 0 /Ua /b, 1 start 0 /Ua;\
+    /Ua is removed|-/Ua|0 start 0 /b";
 
 #[test]
 fn lists_in_any_order(rt: HostRuntime) {
     for order in &ORDERS {
-        let rows = format!(in rt.alloc(); "{order}{LEFT}").expect(&rt, "memory");
+        let rows = format!(in rt.alloc(); "{order} are put|{order}{LEFT}").expect(&rt, "memory");
         come_to_pages(&rt, rt.alloc(), ruler(&rt), rows.as_str(), Told::Left);
     }
 }
@@ -194,7 +208,7 @@ fn list_of_three(rt: &impl Abort, alloc: Global) -> SkipList<CountedPages, AnyDr
     SkipList::new(alloc, pages, ruler(rt))
 }
 
-/// Keys, and whether each is there.
+/// The columns are: a key, by which the row is named; and whether it is there.
 static SEARCHES: [(&str, bool); 4] = [("/A", false), ("/UU", true), ("/Ua", true), ("/b", true)];
 
 /// Whether the key is found or not, as is told, and three pages are asked for.

@@ -7,16 +7,21 @@ use std::alloc::Global;
 use std::process::Abort;
 use store_base::Slot;
 
-/// The parameters of a table of four slots; its tree; and how many tables there are, each of whose slots has the
-/// bytes of one of its slots, whichever, that are a tree's. It is one of them. So are free slots alone; and where
-/// pages of two trees make a third, those of each.
+/// The columns are:
+///
+/// - the name of the row;
+/// - the parameters of a table of four slots;
+/// - its tree, with entries parted by blanks;
+/// - how many tables there are, each of whose slots has the bytes of one of its slots, whichever, that are a tree's.
+///
+/// The table itself is one of them. So are free slots alone; and where pages of two trees make a third, those of each.
 static ORDERS: &str = "\
-    4 2 ruler|/0 /AU /U|1#\
-    4 2 ruler|/UU /Ua|2#\
-    4 2 ruler|/UU /Ua /A|1#\
-    4 3 ruler|/A /U=1|4#\
-    4 2 sha256|/a /f=1|4#\
-    4 2 sha256|/a /f=1 /b /c /d /e /g=0 /h /i /j /k /l /m /n|1";
+    each page at its start, and no slot free|4 2 ruler|/0 /AU /U|1#\
+    pages round the end, and a free slot|4 2 ruler|/UU /Ua|2#\
+    pages round the end, and no slot free|4 2 ruler|/UU /Ua /A|1#\
+    height 3|4 3 ruler|/A /U=1|4#\
+    one page under sha256|4 2 sha256|/a /f=1|4#\
+    fourteen entries under sha256|4 2 sha256|/a /f=1 /b /c /d /e /g=0 /h /i /j /k /l /m /n|1";
 
 /// Gives each of four slots the bytes of the good slot that a digit of a number tells it.
 fn arrange(rt: &impl Abort, table: &mut Table, good: &[Slot], mut order: u32) {
@@ -28,12 +33,12 @@ fn arrange(rt: &impl Abort, table: &mut Table, good: &[Slot], mut order: u32) {
 }
 
 /// How many of all such tables are a tree's.
-fn clean_orders(rt: &impl Abort, alloc: Global, table: &mut Table) -> u32 {
+fn clean_orders(rt: &impl Abort, alloc: Global, table: &mut Table, row: &str) -> u32 {
     let good = slots_of(rt, alloc, table);
     let mut clean = 0u32;
     for order in 0..256 {
         arrange(rt, table, &good, order);
-        if table.size(rt).is_some() {
+        if table.size(rt, row).is_some() {
             clean = clean.saturating_add(1);
         }
     }
@@ -44,20 +49,30 @@ fn clean_orders(rt: &impl Abort, alloc: Global, table: &mut Table) -> u32 {
 fn slots_in_each_order(rt: HostRuntime) {
     for row in ORDERS.split('#') {
         let row = fields(row);
-        let mut table = Table::new(&rt, rt.alloc(), params(&rt, row[0]));
-        table.lay(&rt, tree(&rt, rt.alloc(), row[1]));
-        let clean = clean_orders(&rt, rt.alloc(), &mut table);
-        assert!(rt; clean == number(&rt, row[2]), "{}: {clean}", row[1]);
+        let mut table = Table::new(&rt, rt.alloc(), params(&rt, row[1]));
+        table.lay(&rt, tree(&rt, rt.alloc(), row[2]));
+        let clean = clean_orders(&rt, rt.alloc(), &mut table, row[0]);
+        assert_eq!(rt; clean, number(&rt, row[3]), "{}", row[0]);
     }
 }
 
-/// The parameters of a table; pages, of which any may be there and any may be missing; and how many of all such tables
-/// are a tree's. A key above level 0 is there with all pages that it leads, or not at all.
+/// The columns are:
+///
+/// - the name of the row;
+/// - the parameters of a table;
+/// - eight pages, parted by `;`, of which any may be there and any may be missing. A page is its level, what leads it
+///   (`-` for the start), its index and its keys;
+/// - how many of all such tables are a tree's.
+///
+/// A key above level 0 is there with all pages that it leads, or not at all.
 static PARTS: &str = "\
-    8 3 ruler|1 - 0 /U /Ua;0 - 0 /A;0 /U 0 /U;0 /Ua 0 /Ua /b;2 - 0 /UU;1 /UU 0 /UU;0 /UU 0 /UU;0 /U 1 /c|6#\
-    8 3 ruler|2 - 0 /AUU /BUU;1 /AUU 0 /AUU /BU;1 /BUU 0 /BUU;0 - 0 /A;0 /AUU 0 /AUU /B;0 /BU 0 /BU;\
+    keys on three levels|8 3 ruler|\
+        1 - 0 /U /Ua;0 - 0 /A;0 /U 0 /U;0 /Ua 0 /Ua /b;2 - 0 /UU;1 /UU 0 /UU;0 /UU 0 /UU;0 /U 1 /c|6#\
+    two keys on level 2|8 3 ruler|\
+        2 - 0 /AUU /BUU;1 /AUU 0 /AUU /BU;1 /BUU 0 /BUU;0 - 0 /A;0 /AUU 0 /AUU /B;0 /BU 0 /BU;\
         0 /BUU 0 /BUU /C;1 - 0 /AU|4#\
-    8 2 ruler|0 - 0 /a /b /c /d /e /f /g /h /i /j;0 - 1 /k /l /m /n /o /p /q /r /s /t;0 - 2 /u /v=3 /v@1=3;\
+    groups of several runs|8 2 ruler|\
+        0 - 0 /a /b /c /d /e /f /g /h /i /j;0 - 1 /k /l /m /n /o /p /q /r /s /t;0 - 2 /u /v=3 /v@1=3;\
         1 - 0 /vU /wU;0 /vU 0 /vU /w;0 /wU 0 /wU;0 /wU 1 /x;1 - 1 /xU|8";
 
 /// Inserts the pages whose digit in a binary number is 1.
@@ -72,16 +87,16 @@ fn insert_part(rt: &impl Abort, table: &mut Table, pages: &str, mut part: u32) {
 
 /// Looks how many tables of a part of the row's eight pages are a tree's.
 fn expect_parts(rt: &impl Abort, alloc: Global, row: [&str; 7]) {
-    let params = params(rt, row[0]);
+    let params = params(rt, row[1]);
     let mut clean = 0u32;
     for part in 0..256 {
         let mut table = Table::new(rt, alloc, params);
-        insert_part(rt, &mut table, row[1], part);
-        if table.size(rt).is_some() {
+        insert_part(rt, &mut table, row[2], part);
+        if table.size(rt, row[0]).is_some() {
             clean = clean.saturating_add(1);
         }
     }
-    assert!(rt; clean == number(rt, row[2]), "{}: {clean}", row[1]);
+    assert_eq!(rt; clean, number(rt, row[3]), "{}", row[0]);
 }
 
 #[test]

@@ -1,24 +1,33 @@
 //! Slots that no script leaves, each with what is to be said of it, which was worked out by hand, and some slots that
 //! one leaves.
 //!
-//! A row says what it shows; the parameters; a tree whose layout is made; pages that are inserted then, each with its
-//! level, its leader (`-` for the start), its index and its keys; slots that are copied to other places, where from
-//! and where to; bytes that are put in their places, counted from the first slot on; and what is to be said. A path
-//! alone is a directory, `PATH=N` a file of N bytes, in a page its first pair, and `PATH@N` the key of its block N.
+//! Each table has the same columns:
+//!
+//! - the name of the row: what the slots are;
+//! - the parameters;
+//! - a tree whose layout is made, with entries parted by blanks;
+//! - pages that are inserted then, parted by `;`, each with its level, its leader (`-` for the start), its index and
+//!   its keys;
+//! - slots that are copied to other places, `FROM:TO`, parted by blanks;
+//! - bytes that are put in their places, `PLACE:BYTE`, parted by blanks and counted from the first slot on;
+//! - what is to be said.
+//!
+//! A path alone is a directory, `PATH=N` a file of N bytes, in a page its first pair, and `PATH@N` the key of its
+//! block N.
 //!
 //! Under `ruler` a label starts at its bytes' sum, round the table, and a key stands on as many levels above 0 as its
 //! path has letters `U`. Inserted pages are in order, so what is wrong with them is something else.
 
 use super::pages::expect_rows;
 
-/// Slots of the images of `store_tests`, as recovery would leave them.
+/// Slots of the images of `store_tests`, as recovery would leave them. The columns stand at the head of this file.
 static IMAGES: &str = "\
     nothing is written over|1 1 ruler|/a||||clean 1 1 0 0#\
     a byte in a free slot|4 2 ruler|/Ua|||8201:127|damaged#\
     slots in each other's places|4 2 ruler|/Ua /UU||0:3 3:0||damaged#\
     one slot twice|4 2 ruler|/Ua /UU||3:2||damaged#\
     a slot that is missing|4 2 ruler|/Ua /UU||2:1||damaged#\
-    more pages than slots: the page above those of `/Ua` and `/UU` has none|2 2 ruler|/Ua||1:0|4:85 133:85|damaged#\
+    more pages than slots: that of level 1 has none|2 2 ruler|/Ua||1:0|4:85 133:85|damaged#\
     another height, for which a page is missing|4 2 ruler||0 - 0 /U|||damaged#\
     a child without its parent|1 1 ruler|/a|||134:98|damaged#\
     a name that no path has|1 1 ruler|/a|||132:46|damaged#\
@@ -45,14 +54,14 @@ static IMAGES: &str = "\
     a file's byte, which is not noticed|1 1 ruler|/f=1|||640:1|clean 1 0 1 1#\
     the bytes of a shadow that no page has|1 1 ruler||||2:7|damaged";
 
-/// Levels, and the group of the start.
+/// Levels, and the group of the start; with the columns at the head of this file.
 static LEVELS: &str = "\
     four directories, page by page|8 2 ruler||1 - 0 /U /Ua;0 - 0 /A;0 /U 0 /U;0 /Ua 0 /Ua /b|||clean 4 4 0 0#\
     no page|4 2 ruler|||||clean 0 0 0 0#\
     no group of the start on level 0: the first key leads one|8 2 ruler||1 - 0 /U;0 /U 0 /U /a|||clean 2 2 0 0#\
     no group of the start on two levels|8 3 ruler||2 - 0 /UU;1 /UU 0 /UU /Ua;0 /UU 0 /UU;0 /Ua 0 /Ua /b|||\
         clean 4 3 0 0#\
-    no group of the start on the highest level: no key stands there|8 3 ruler||1 - 0 /U;0 - 0 /A;0 /U 0 /U|||\
+    no group of the start on the highest level|8 3 ruler||1 - 0 /U;0 - 0 /A;0 /U 0 /U|||\
         clean 3 2 0 0#\
     no group of the start on level 1 alone|8 3 ruler||2 - 0 /UU;1 /UU 0 /UU;0 - 0 /A;0 /UU 0 /UU|||clean 4 2 0 0#\
     a page of level H|8 1 ruler|/a|1 - 0 /U|||damaged#\
@@ -64,14 +73,14 @@ static LEVELS: &str = "\
     all pages of height 2, under height 3|8 3 ruler||1 - 0 /UU;0 - 0 /A;0 /UU 0 /UU|||damaged#\
     a key that stands higher than drawn|8 2 ruler||1 - 0 /a;0 /a 0 /a /b|||damaged#\
     a key that stands lower than drawn|8 2 ruler||0 - 0 /A /U|||damaged#\
-    a key that stands lower than drawn, in the group of a leader|8 3 ruler||1 - 0 /U /UU;0 /U 0 /U;0 /UU 0 /UU|||\
+    a key lower than drawn, in the group of a leader|8 3 ruler||1 - 0 /U /UU;0 /U 0 /U;0 /UU 0 /UU|||\
         damaged";
 
-/// Leaders, and what they lead to.
+/// Leaders, and what they lead to; with the columns at the head of this file.
 static LEADERS: &str = "\
     a group that is whole and not reachable|8 2 ruler|/A|0 /U 0 /U /b|||damaged#\
     a group of two levels that is whole and not reachable|8 3 ruler|/A|1 /UU 0 /UU;0 /UU 0 /UU|||damaged#\
-    a group of two levels that is not reachable, and two below it|8 3 ruler|/A|1 /UU 0 /UU /Ua;0 /UU 0 /UU;\
+    a group that is not reachable, and two below it|8 3 ruler|/A|1 /UU 0 /UU /Ua;0 /UU 0 /UU;\
         0 /Ua 0 /Ua|||damaged#\
     a later run without the first|8 2 ruler|/A|0 /U 1 /b|||damaged#\
     a key above that leads no group|8 2 ruler|/A|1 - 0 /U|||damaged#\
@@ -84,7 +93,7 @@ static LEADERS: &str = "\
     a key that leads, in the group of another|8 2 ruler||1 - 0 /U;0 - 0 /A;0 /U 0 /U /Ua|||damaged#\
     a leader that is a block's key|8 2 ruler||1 - 0 /U@1;0 /U@1 0 /U@1=5|||damaged";
 
-/// Runs of one group, and groups of one level.
+/// Runs of one group, and groups of one level; with the columns at the head of this file.
 static GROUPS: &str = "\
     full runs, and a last one|8 1 ruler||0 - 0 /a /b /c /d /e /f /g /h /i /j;0 - 1 /k /l /m /n /o /p /q /r /s /t;\
         0 - 2 /u|||clean 3 21 0 0#\
@@ -111,7 +120,7 @@ static GROUPS: &str = "\
         0 /CUU 0 /CUU;0 /DU 0 /DU|||clean 6 3 0 0#\
     keys of level 1 in short runs|8 2 ruler||1 - 0 /U;1 - 1 /Ua;0 /U 0 /U;0 /Ua 0 /Ua|||damaged";
 
-/// Pages of two trees, and pairs that are no tree's.
+/// Pages of two trees, and pairs that are no tree's; with the columns at the head of this file.
 static TREES: &str = "\
     pages of two trees|8 2 ruler|/U /a|0 - 0 /b|||damaged#\
     pages of two trees that are those of a third|8 2 ruler|/U /a|0 - 0 /A|||clean 3 3 0 0#\
@@ -136,25 +145,25 @@ static TREES: &str = "\
         0 - 1 /i@2=1|||clean 2 8 1 257#\
     a file whose second run is missing|4 1 ruler||0 - 0 /a /b /c /d /e /f /g /h /i=257 /i@1=256|||damaged";
 
-/// Pages in slots that are not theirs.
+/// Pages in slots that are not theirs; with the columns at the head of this file.
 static ORDER: &str = "\
     pages round the end of the table|4 2 ruler||1 - 0 /UU /Ua;0 /UU 0 /UU;0 /Ua 0 /Ua|||clean 3 2 0 0#\
     pages round the end, in each other's places|4 2 ruler|/UU /Ua||3:0 0:3||damaged#\
-    a page before its start, with free slots on its way round the end|4 2 ruler|/UU /Ua||0:2 2:0||damaged#\
+    a page before its start, behind free slots round the end|4 2 ruler|/UU /Ua||0:2 2:0||damaged#\
     a free slot on the way round the end|4 2 ruler|/UU /Ua||0:1 1:2 2:0||damaged#\
     a greater label on the way round the end|4 2 ruler|/UU /Ua||0:1 1:0||damaged#\
     pages round the end of a full table|4 2 ruler|/A /UU /Ua||||clean 4 3 0 0#\
     two pages of a full table in each other's places|4 2 ruler|/A /UU /Ua||1:2 2:1||damaged#\
     each page at its start, and no slot free|4 2 ruler|/0 /AU /U||||clean 4 3 0 0#\
     a cycle of probe distances in two slots|2 2 ruler|/U||0:1 1:0||damaged#\
-    a cycle of probe distances: each page one slot behind its start|4 2 ruler|/0 /AU /U||0:1 1:2 2:3 3:0||damaged#\
-    a cycle of probe distances: each page two slots behind its start|4 2 ruler|/0 /AU /U||0:2 1:3 2:0 3:1||damaged#\
-    a cycle of probe distances: each page three slots behind its start|4 2 ruler|/0 /AU /U||0:3 1:0 2:1 3:2||damaged#\
+    each page one slot behind its start|4 2 ruler|/0 /AU /U||0:1 1:2 2:3 3:0||damaged#\
+    each page two slots behind its start|4 2 ruler|/0 /AU /U||0:2 1:3 2:0 3:1||damaged#\
+    each page three slots behind its start|4 2 ruler|/0 /AU /U||0:3 1:0 2:1 3:2||damaged#\
     a page twice|4 2 ruler|/UU /Ua||3:2||damaged#\
     a page twice, and one missing|4 2 ruler|/UU /Ua||3:0||damaged#\
     a page in the one slot of another|1 1 ruler||0 - 1 /a|||damaged";
 
-/// Bytes that no slot has.
+/// Bytes that no slot has; with the columns at the head of this file.
 static BYTES: &str = "\
     a free slot whose last byte is not 0|4 2 ruler|/A|||12287:1|damaged#\
     a free slot whose second byte is not 0|4 2 ruler|/A|||4097:1|damaged#\
@@ -167,7 +176,8 @@ static BYTES: &str = "\
     a value of 257 bytes|1 1 ruler|/a|||256:1 257:1|damaged#\
     a byte behind a value|1 1 ruler|/a|||259:1|damaged";
 
-/// Short files under each version: `PATH:N` is a file of N bytes in one pair.
+/// Short files under each version, with the columns at the head of this file: `PATH:N` is a file of N bytes in one
+/// pair.
 static VERSIONS: &str = "\
     a directory's byte as that of an empty file|1 1 ruler two|/a|||258:3|clean 1 0 1 0#\
     files of 0, 1 and 200 bytes in one pair each|1 1 ruler two|/a:0 /b:1 /f:200||||clean 1 0 3 201#\
@@ -180,9 +190,10 @@ static VERSIONS: &str = "\
     a child of a file in one pair|1 1 ruler two||0 - 0 /f:1 /f/g|||damaged#\
     a directory, a file in one pair and one in blocks|1 1 ruler two|/a /a/f:2 /a/g=257||||clean 1 1 2 259";
 
-/// Attributes, under version 2 unless it is said: `PATH~NAME:N` is an attribute of N bytes.
+/// Attributes, under version 2 unless it is said, with the columns at the head of this file: `PATH~NAME:N` is an
+/// attribute of N bytes.
 static ATTRIBUTES: &str = "\
-    attributes of a file in blocks, of a directory and of a file in one pair|3 1 ruler two|/d=300 /d~K!:255 /d~U:0 /d~k:1 \
+    attributes of entries of each kind|3 1 ruler two|/d=300 /d~K!:255 /d~U:0 /d~k:1 \
         /d! /e /e~~:1 /e/f:0 /e/f~nnnnnnnnnnnnnnnnnnnnnnnnnnnnnnnn:2||||clean 2 2 2 300#\
     an attribute|1 1 ruler two|/d /d~k:1||||clean 1 1 0 0#\
     an attribute under version 1|1 1 ruler|/d /d~k:1||||damaged#\
@@ -190,16 +201,16 @@ static ATTRIBUTES: &str = "\
     an attribute of another path than the last one|1 1 ruler two||0 - 0 /d /e~k:1 /f|||damaged#\
     an attribute of another path|1 1 ruler two|/d /d~k:1|||514:101|damaged#\
     an attribute of the root|1 1 ruler two|/d /d~k:1|||132:1 133:107|damaged#\
-    another name|1 1 ruler two|/d /d~k:1|||517:126|clean 1 1 0 0#\
+    another name of an attribute|1 1 ruler two|/d /d~k:1|||517:126|clean 1 1 0 0#\
     the name `.`|1 1 ruler two|/d /d~k:1|||517:46|damaged#\
     the name `..`|1 1 ruler two|/d /d~k:1|||517:46 518:46|damaged#\
     a name with a space|1 1 ruler two|/d /d~k:1|||517:32|damaged#\
     a name with the byte 7F|1 1 ruler two|/d /d~k:1|||517:127|damaged#\
     a name of 33 bytes|1 1 ruler two|/d /d~nnnnnnnnnnnnnnnnnnnnnnnnnnnnnnnn:1|||549:110|damaged#\
     another byte than 01|1 1 ruler two|/d /d~k:1|||516:2|damaged#\
-    two names|1 1 ruler two|/d /d~k:1|||519:107|damaged#\
-    a block number|1 1 ruler two|/d /d~k:1|||637:1|damaged#\
-    a value of another kind|1 1 ruler two|/d /d~k:1|||640:3|damaged#\
+    two names behind the 01|1 1 ruler two|/d /d~k:1|||519:107|damaged#\
+    an attribute with a block number|1 1 ruler two|/d /d~k:1|||637:1|damaged#\
+    an attribute with a value of another kind|1 1 ruler two|/d /d~k:1|||640:3|damaged#\
     an attribute's value in a first pair|1 1 ruler two|/d|||258:4|damaged#\
     a file that lacks its block|1 1 ruler two||0 - 0 /d=300 /d~k:1|||damaged";
 

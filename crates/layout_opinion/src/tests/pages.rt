@@ -57,7 +57,7 @@ fn table_of(rt: &impl Abort, alloc: Global, row: [&str; 7]) -> Table {
 pub fn expect_rows(rt: &impl Abort, alloc: Global, rows: &str) {
     for row in rows.split('#') {
         let row = fields(row);
-        let said = table_of(rt, alloc, row).size(rt);
-        assert!(rt; said == size(rt, row[6]), "{}", row[0]);
+        let said = table_of(rt, alloc, row).size(rt, row[0]);
+        assert_eq!(rt; said, size(rt, row[6]), "{}", row[0]);
     }
 }

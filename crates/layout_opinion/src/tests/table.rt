@@ -120,12 +120,16 @@ impl Table {
     }
 
     /// How much the tree has whose layout the slots are, if they are one, as both opinions say. Where they differ the
-    /// test ends.
-    pub fn size(&mut self, rt: &impl Abort) -> Option<TreeSize> {
+    /// test ends, and names the row.
+    pub fn size(&mut self, rt: &impl Abort, row: &str) -> Option<TreeSize> {
         assert!(rt; self.slots.slots().len() == self.params.slots() as usize);
         let size = judge_slots(self.alloc, &mut self.slots, &self.params).expect(rt, "memory");
         let checked = check_slots(&mut self.slots, &self.params);
-        assert!(rt; checked == Ok(verdict_on(size)));
+        assert_eq!(rt;
+            checked,
+            Ok(verdict_on(size)),
+            "the check and the opinion of {row}"
+        );
         size
     }
 }

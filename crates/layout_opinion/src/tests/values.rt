@@ -5,7 +5,8 @@ use super::table::Table;
 use std::alloc::Global;
 use std::process::Abort;
 
-/// The parameters of a table; the tree that a long script left in it, whose files had other bytes; and what is said.
+/// The columns are: the parameters of a table, by which the row is named; the tree that a long script left in it, whose
+/// files had other bytes, with entries parted by blanks; and what is said.
 static LEFT: &str = "\
     4 1 ruler|/U /U/g /U/long-name-7 /UU=856 /h=4096 /long-name-7 /long-name-7/b=2498|clean 4 4 3 7450#\
     8 2 ruler|/a /a/UU /a/g /a/g/b=600 /a/g/g=255 /a/g/iU=257 /a/x1=1 /b /f=255 /g=2048 /iU=257|clean 6 4 7 3673#\
@@ -34,11 +35,13 @@ static LEFT: &str = "\
         /z/h/b/a/iU/UU/a=257 /z/h/b/a/iU/UU/x1=4000 /z/h/b/a/iU/z=256 /z/h/b/a/z /z/h/b/a/z/f|clean 16 19 12 10659#\
     400 8 sha256 counting|/U=1369 /b /b/UU=262 /b/f=0 /b/g=8000 /f=4000 /g /g/g /g/g/a=128 /g/long-name-7 \
         /g/long-name-7/x1=2048 \
-        /yyyyyyyyyyyyyyyyyyyyyyyyyyyyyyyyyyyyyyyyyyyyyyyyyyyyyyyyyyyyyyyyyyyyyyyyyyyyyyyyyyyyyyyyyyyyyyyyyyyyyyyyyyyyyyyyyyyyyyy|clean \
+        /yyyyyyyyyyyyyyyyyyyyyyyyyyyyyyyyyyyyyyyyyyyyyyyyyyyyyyyyyyyyyyyyyyyyyyyyyyyyyyyyyyyyyyyyyyyyyyyyyyyyy\
+        yyyyyyyyyyyyyyyyyy|clean \
         10 5 7 15807";
 
-/// What a line of a script adds to a tree and takes out of it, entry by entry, and what is said of its table then,
-/// which has seven slots and height 3 under `sha256`, with a seed that counts.
+/// The columns are: what a line of a script adds (`+`) to a tree and takes out of it (`-`), entry by entry, by which
+/// the row is named; and what is said of its table then, which has seven slots and height 3 under `sha256`, with a seed
+/// that counts. The tree of a row is that of the row before, with what its line changes.
 static LINES: &str = "\
     +/a|clean 1 1 0 0#\
     +/b|clean 1 2 0 0#\
@@ -68,18 +71,19 @@ static LINES: &str = "\
     -/q -/q/x=0 -/q/y=3000 +/A +/A/x=0 +/A/y=3000|clean 5 15 2 3000#\
     -/s|clean 5 14 2 3000";
 
-/// Looks whether both opinions say this of the layout of a tree.
-fn expect_tree(rt: &impl Abort, alloc: Global, format: &str, entries: &str, said: &str) {
+/// Looks whether both opinions say of the layout of a tree what the row says last.
+fn expect_tree(rt: &impl Abort, alloc: Global, format: &str, entries: &str, row: [&str; 2]) {
+    let [name, said] = row;
     let mut table = Table::new(rt, alloc, params(rt, format));
     table.lay(rt, tree(rt, alloc, entries));
-    assert!(rt; table.size(rt) == size(rt, said), "{said}");
+    assert_eq!(rt; table.size(rt, name), size(rt, said), "{name}");
 }
 
 #[test]
 fn trees_that_scripts_left(rt: HostRuntime) {
     for row in LEFT.split('#') {
         let row = fields(row);
-        expect_tree(&rt, rt.alloc(), row[0], row[1], row[2]);
+        expect_tree(&rt, rt.alloc(), row[0], row[1], [row[0], row[2]]);
     }
 }
 
@@ -114,6 +118,7 @@ fn trees_line_by_line(rt: HostRuntime) {
     for row in LINES.split('#') {
         let row = fields(row);
         entries = entries_behind(&rt, rt.alloc(), &entries, row[0]);
-        expect_tree(&rt, rt.alloc(), "7 3 sha256 counting", &entries, row[1]);
+        let named = [row[0], row[1]];
+        expect_tree(&rt, rt.alloc(), "7 3 sha256 counting", &entries, named);
     }
 }

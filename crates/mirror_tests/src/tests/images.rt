@@ -1,12 +1,18 @@
 //! The images that are mirrored, each by a name.
 
-use super::support::{Machine, expect, fields, has_digest, number};
+use super::support::{Machine, expect, expect_digest, fields, number};
 use std::process::Abort;
 
-/// A name; the SHA-256 of the image; the words for the image of the empty tree, or how many zeros there are in its
-/// place; a script; bytes that are written over, one at its place or in so many places from one on; and the name of
-/// another image with blocks that are copied from it, where from and where to, both counted in blocks. `names`,
-/// `file` and what is made of these have three slots that differ: 1, 2 and 4.
+/// The columns are:
+///
+/// - the name of the image, by which other tables call it;
+/// - its SHA-256;
+/// - the words for the image of the empty tree, or how many zeros there are in its place;
+/// - a script;
+/// - bytes that are written over, `PLACE:BYTE`, or `PLACE+COUNT:BYTE` for one byte in so many places;
+/// - the name of another image, and the blocks that are copied from it, `FROM:TO`, counted in blocks, in two columns.
+///
+/// `names`, `file` and what is made of these have three slots that differ: 1, 2 and 4.
 static IMAGES: &str = "\
     one|c5f79e5e0daaa71b3e8435c05e875f639453faaadde46980a1d0d07116539273|format 1 1 ruler zeros|#\
     a|07e0cdb4c3d486096eca0e1d5feb2e62eab398ebc34af630a3e3b06a0e6fe95f|format 1 1 ruler zeros|make /a\n#\
@@ -14,7 +20,8 @@ static IMAGES: &str = "\
     seeded|80ad715f81dc40983e6f04659b9cc72ea6433aceb1def75dbc1776de4addbe5f|format 4 2 sha256 counting|#\
     unseeded|d5e5aad38f8d100adfeb32a70b438030efa3dbcb0a71c395cd7ee55d3bbe6c81|format 4 2 sha256 zeros|#\
     eight|1f590e71b11434583ffe83423c4da5fcbaf2b4173b1572e8094006fe060982a0|format 8 2 ruler zeros|#\
-    eight lifted|61e63fc23a880fffb342f276084fbe4ae0b24ba58aa9d92af110d91141d24925|format 8 2 ruler zeros||4096:1 8200:1#\
+    eight lifted|61e63fc23a880fffb342f276084fbe4ae0b24ba58aa9d92af110d91141d24925|format 8 2 \
+        ruler zeros||4096:1 8200:1#\
     eight2|2e5ec67c982015635c4a5c81a8bfe2510516d0da8fa27e3b91a502f89bde51ff|format2 8 2 ruler zeros|#\
     eight2 a|0738d095065a949caafdc3bbadf3ab4cd788be7e7f4ceae8110fc0f8f870d265|format2 8 2 ruler zeros|make /a\n#\
     eight2 f|033e88a82a94905787cb79ea50c377d29f1e7ac36329384cd71d9b52fead2e97|format2 8 2 ruler zeros|write /f 0 41\n#\
@@ -93,12 +100,13 @@ pub fn make(rt: &impl Abort, machine: &mut Machine, name: &str) {
     let other = machine.copy(rt);
     make_alone(rt, machine, row);
     copy_blocks(rt, machine, &other, row[6]);
-    expect(rt, is_named(rt, machine, name), "an image", name);
+    expect_named(rt, machine, name, name);
 }
 
-/// Whether the second image is the one with this name, by its digest.
-pub fn is_named(rt: &impl Abort, machine: &Machine, name: &str) -> bool {
-    has_digest(rt, machine.second(), row_of(rt, name)[1])
+/// Looks whether the second image is the one with this name, by its digest.
+pub fn expect_named(rt: &impl Abort, machine: &Machine, name: &str, row: &str) {
+    let digest = row_of(rt, name)[1];
+    expect_digest(rt, machine.second(), digest, "the second image", row);
 }
 
 /// Makes both images those with these names.

@@ -1,7 +1,7 @@
 //! Mirrors whose sink takes a part of the line, or nothing.
 
-use super::images::{is_named, make_both};
-use super::support::{CALM, Machine, Outside, expect};
+use super::images::{expect_named, make_both};
+use super::support::{CALM, Machine, Outside};
 use std::process::Abort;
 
 /// The line of a mirror of the directory `/a` onto the empty tree.
@@ -18,9 +18,9 @@ fn expect_part(rt: &impl Abort, machine: &mut Machine, part: &[u8]) {
             ..CALM
         },
     );
-    let is_ended = machine.is_ended(status, 1, part);
-    let is_done = (machine.ended.calls == [7, 6]) & is_named(rt, machine, "a");
-    expect(rt, is_ended & is_done, "a sink", "a part");
+    machine.expect_end(rt, status, 1, part, "a sink", "a part");
+    machine.expect_calls(rt, [7, 6], "a sink", "a part");
+    expect_named(rt, machine, "a", "a part");
 }
 
 #[test]

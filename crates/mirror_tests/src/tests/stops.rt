@@ -61,7 +61,12 @@ fn is_new(rt: &impl Abort, machine: &mut Machine, row: [&str; 9], images: &Image
         "-" => (machine.ended.status == 8) & (image == left.as_slice()),
         _ => (machine.ended.status == 0) & (image == images.old),
     };
-    expect(rt, is_new | is_old, "what is left", row[0]);
+    expect(
+        rt,
+        is_new | is_old,
+        "the new image or the old one behind a stop",
+        row[0],
+    );
     machine.load(rt, &left);
     is_new & !is_old
 }
@@ -71,9 +76,8 @@ fn expect_next(rt: &impl Abort, machine: &mut Machine, row: [&str; 9], images: &
     let is_new = is_new(rt, machine, row, images);
     machine.mirror(rt, &CALM);
     let line = if is_new { "mirror 0\n" } else { row[4] };
-    let is_ended = machine.is_ended(0, 1, line.as_bytes());
-    let holds = is_ended & (machine.second() == images.new);
-    expect(rt, holds, "the next mirror", row[0]);
+    machine.expect_end(rt, 0, 1, line.as_bytes(), "the next mirror", row[0]);
+    machine.expect_second(rt, images.new, "the next mirror", row[0]);
 }
 
 /// Looks whether a mirror that was stopped says so. Where the first disk failed, or the images are no pair, nothing was
@@ -85,11 +89,10 @@ fn expect_stopped(
     stop: Stop,
     images: &Images<'_>,
 ) {
-    expect(rt, machine.is_ended(5, 0, b""), "a fault", row[0]);
+    machine.expect_end(rt, 5, 0, b"", "a fault", row[0]);
     if matches!(stop, Stop::First) | (row[3] != "0") {
-        let is_untouched = machine.ended.calls == [0, 0];
-        let holds = is_untouched & (machine.second() == images.found);
-        expect(rt, holds, "the second image", row[0]);
+        machine.expect_calls(rt, [0, 0], "a fault", row[0]);
+        machine.expect_second(rt, images.found, "a fault", row[0]);
     } else {
         expect_next(rt, machine, row, images);
     }
@@ -113,7 +116,7 @@ fn expect_stops(
         }
         expect_stopped(rt, machine, row, stop, images);
     }
-    expect(rt, false, "the end", row[0]);
+    expect(rt, false, "an end before the most calls", row[0]);
 }
 
 /// The bytes of the image with this name.

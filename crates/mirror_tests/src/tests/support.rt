@@ -1,8 +1,11 @@
 //! What the tests share: a machine in memory, on which one image is mirrored onto another, and the fields of a row of a
 //! table.
 //!
-//! Tables are texts, each with rows parted by `#` and fields parted by `|`. What a call comes to stays in the
-//! machine, so that nothing is handed out that owns memory.
+//! Tables are texts, each with rows parted by `#` and fields parted by `|`. The first field of a row is its name, which
+//! stands once in its table; what the others are is said above the table. A failure names the row, and prints what
+//! came, as `left`, and what was wanted, as `right`. Of images it prints the first byte that differs, or the digest.
+//!
+//! What a call comes to stays in the machine, so that nothing is handed out that owns memory.
 
 use disk_model::{FailingDisk, MemDisk, StopChoice};
 use hex::FromHex;
@@ -92,6 +95,47 @@ fn words_of(rt: &impl Abort, alloc: Global, text: &str) -> Words {
 /// Whether the words of a text ask for a mirror.
 pub fn is_pair(rt: &impl Abort, machine: &Machine, text: &str) -> bool {
     pair_words(&words_of(rt, machine.alloc, text))
+}
+
+/// The text that these bytes are: all that a call writes is one.
+fn text_of(bytes: &[u8]) -> &str {
+    str::from_utf8(bytes).unwrap_or("bytes that are no text")
+}
+
+/// How many bytes at their front are the same.
+fn same_bytes(came: &[u8], wanted: &[u8]) -> usize {
+    let mut count: usize = 0;
+    for (byte, other) in came.iter().zip(wanted) {
+        if byte != other {
+            return count;
+        }
+        count = count.saturating_add(1);
+    }
+    count
+}
+
+/// Looks whether the text that came is this one.
+fn expect_text(rt: &impl Abort, came: &[u8], wanted: &[u8], what: &str, row: &str) {
+    assert!(rt;
+        came == wanted,
+        "{what} of {row}\n  left: {:?}\n right: {:?}",
+        text_of(came),
+        text_of(wanted)
+    );
+}
+
+/// Looks whether the image that came is this one.
+fn expect_bytes(rt: &impl Abort, came: &[u8], wanted: &[u8], what: &str, row: &str) {
+    if came != wanted {
+        let at = same_bytes(came, wanted);
+        panic!(rt;
+            "{what} of {row}: byte {at} of the image is {:?}, wanted {:?}; it has {} bytes, wanted {}",
+            came.get(at),
+            wanted.get(at),
+            came.len(),
+            wanted.len()
+        );
+    }
 }
 
 /// A copy of the bytes.
@@ -252,21 +296,50 @@ impl Machine {
         self.keep_second(rt, left.to.into_disk(), outside.crash);
     }
 
-    /// Whether the last mirror ended with this status and so much done, wrote this, and only read the first disk.
-    pub fn is_ended(&self, status: u8, done: u64, written: &[u8]) -> bool {
+    /// Looks whether the last mirror ended with this status and so much done, wrote this, and only read the first disk.
+    pub fn expect_end(
+        &self,
+        rt: &impl Abort,
+        status: u8,
+        done: u64,
+        written: &[u8],
+        what: &str,
+        row: &str,
+    ) {
         let ended = self.ended;
-        let is_written = self.written.as_slice() == written;
-        (ended.status == status) & (ended.done == done) & is_written & ended.is_spared
+        expect_text(rt, &self.written, written, what, row);
+        assert_eq!(rt; ended.status, status, "{what} of {row}: the status");
+        assert_eq!(rt; ended.done, done, "{what} of {row}: images made equal");
+        assert!(rt;
+            ended.is_spared,
+            "{what} of {row}: the first disk is only read"
+        );
+    }
+
+    /// Looks whether the last mirror made so many writes and syncs.
+    pub fn expect_calls(&self, rt: &impl Abort, calls: [u64; 2], what: &str, row: &str) {
+        assert_eq!(rt;
+            self.ended.calls,
+            calls,
+            "{what} of {row}: writes and syncs"
+        );
+    }
+
+    /// Looks whether this is the second image.
+    pub fn expect_second(&self, rt: &impl Abort, wanted: &[u8], what: &str, row: &str) {
+        expect_bytes(rt, &self.second, wanted, what, row);
     }
 }
 
-/// Whether the bytes have this digest.
-pub fn has_digest(rt: &impl Abort, bytes: &[u8], digest: &str) -> bool {
+/// Looks whether the bytes have this digest.
+pub fn expect_digest(rt: &impl Abort, bytes: &[u8], digest: &str, what: &str, row: &str) {
     let digest = <[u8; 32] as FromHex>::from_hex(digest).ok();
-    Sha256::digest(bytes) == digest.expect(rt, "a digest")
+    let wanted = digest.expect(rt, "a digest");
+    let came: [u8; 32] = Sha256::digest(bytes);
+    assert_eq!(rt; came, wanted, "the bytes of the SHA-256, {what} of {row}");
 }
 
-/// Ends the test where this does not hold, and says of which row.
+/// Ends the test where this does not hold, and says of which row. What was wanted is said by `what`.
 pub fn expect(rt: &impl Abort, holds: bool, what: &str, row: &str) {
     assert!(rt; holds, "{what} of {row}");
 }

@@ -1,10 +1,10 @@
 //! The words that ask for a mirror, which a call on one disk does not serve.
 
 use super::images::make;
-use super::support::{Machine, expect, fields, is_pair};
+use super::support::{Machine, fields, is_pair};
 use std::process::Abort;
 
-/// Words, parted by blanks, and `yes` where they ask for a mirror.
+/// The columns are: words, parted by blanks, by which the row is named; and `yes` where they ask for a mirror.
 static WORDS: &str = "\
     mirror other|yes#\
     mirror check|yes#\
@@ -20,14 +20,10 @@ static WORDS: &str = "\
 /// that are not served.
 fn expect_row(rt: &impl Abort, machine: &mut Machine, row: [&str; 9]) {
     let is_asked = row[1] == "yes";
-    expect(
-        rt,
-        is_pair(rt, machine, row[0]) == is_asked,
-        "a pair",
-        row[0],
-    );
+    let found = is_pair(rt, machine, row[0]);
+    assert_eq!(rt; found, is_asked, "a mirror is asked for by {}", row[0]);
     machine.serve(rt, row[0], "make /a\n");
-    expect(rt, machine.ended.status == 2, "the status", row[0]);
+    assert_eq!(rt; machine.ended.status, 2, "the status of {}", row[0]);
 }
 
 #[test]

@@ -21,8 +21,9 @@ pub fn pair_of_an_attribute()
           key = 0x64 ∷ 0 ∷ 1 ∷ 0x6b ∷ zeros 120;
           value = Some (4 ∷ 0x41 ∷ []);
         } ∷ []))) ≡
-        1 ∷ zeros 130 ++ 2 ∷ 0x64 ∷ zeros 123 ++ 0 ∷ 1 ∷ 1 ∷ zeros 255 ++ 0x64 ∷ 0 ∷ 1 ∷ 0x6b
-        ∷ zeros 120 ++ 0 ∷ 2 ∷ 4 ∷ 0x41 ∷ zeros 3454 }
+        1 ∷ zeros 130 ++ 2 ∷ 0x64 ∷ zeros 123 ++ 0 ∷ 1 ∷ 1 ∷ zeros 255 ++ 0x64 ∷ 0 ∷ 1
+        ∷ 0x6b ∷ zeros 120 ++ 0 ∷ 2
+        ∷ 4 ∷ 0x41 ∷ zeros 3454 }
 {}
 
 /// Attributes stand behind the blocks of their file and before all paths behind it, also before those below it, in
@@ -32,7 +33,8 @@ pub fn order_of_attributes()
         (write_line "write /d 0 " (zeros 300) ++ text ("set /d k 41" ∷ "set /d U -" ∷ [])
         ++ write_line "set /d K! " (zeros 255)
         ++ text ("make /d!" ∷ "make /e" ∷ "write /e/f 0 -" ∷ "set /e ~ 01" ∷ [])
-        ++ codes "set /e/f " ++ replicate 32 0x6e ++ codes " 7879") ≡
+        ++ codes "set /e/f "
+        ++ replicate 32 0x6e ++ codes " 7879") ≡
         (key_of (codes "d"), 2 ∷ 0 ∷ 0 ∷ 1 ∷ 0x2c ∷ []) ∷ (block_key (codes "d") 1, zeros 256)
         ∷ (block_key (codes "d") 2, zeros 44)
         ∷ (key_of (0x64 ∷ 0 ∷ 1 ∷ 0x4b ∷ 0x21 ∷ []), 4 ∷ zeros 255)
@@ -48,12 +50,15 @@ pub fn order_of_attributes()
 /// Names that attributes may have, and that they may not.
 pub fn fields_of_attributes()
     ensures shortest_name { map (λ n. fits_attribute (replicate n 0x78 ∷ []) (codes "k"))
-        (116 ∷ 117 ∷ 119 ∷ []) ≡ true ∷ false ∷ false ∷ [] }
+        (116 ∷ 117 ∷ 119 ∷ [])
+        ≡ true ∷ false ∷ false ∷ [] }
     ensures longest_name { map (λ n. fits_attribute (replicate n 0x78 ∷ []) (replicate 32 0x6e))
-        (1 ∷ 85 ∷ 86 ∷ []) ≡ true ∷ true ∷ false ∷ [] }
+        (1 ∷ 85 ∷ 86 ∷ [])
+        ≡ true ∷ true ∷ false ∷ [] }
     ensures names { map (λ name. is_attribute_name name)
         (codes "k" ∷ replicate 32 0x7e ∷ replicate 33 0x7e ∷ [] ∷ codes "." ∷ codes ".."
-        ∷ codes "a/b" ∷ (1 ∷ []) ∷ []) ≡
+        ∷ codes "a/b" ∷ (1 ∷ []) ∷ [])
+        ≡
         true ∷ true ∷ false ∷ false ∷ false ∷ false ∷ false ∷ false ∷ [] }
 {}
 
@@ -86,9 +91,11 @@ pub fn attribute_taken_away()
 pub fn listed_attributes()
     ensures { output (ruler_two 4 1)
         (text ("make /d" ∷ "set /d k 41" ∷ "set /d K -" ∷ "set /d k! 0102" ∷ "set /d k 43AAbb"
-        ∷ "attrs /d" ∷ "get /d K" ∷ "get /d k" ∷ "list /d" ∷ "remove /d" ∷ "attrs /d" ∷ [])) ≡
-        text ("ok" ∷ "ok" ∷ "ok" ∷ "ok" ∷ "ok" ∷ "a K 0" ∷ "a k 3" ∷ "a k! 2" ∷ "end" ∷ "ok -"
-        ∷ "ok 43aabb" ∷ "end" ∷ "ok" ∷ "no missing" ∷ []) }
+        ∷ "attrs /d" ∷ "get /d K"
+        ∷ "get /d k" ∷ "list /d" ∷ "remove /d" ∷ "attrs /d" ∷ [])) ≡
+        text ("ok" ∷ "ok" ∷ "ok" ∷ "ok" ∷ "ok" ∷ "a K 0" ∷ "a k 3" ∷ "a k! 2" ∷ "end"
+        ∷ "ok -" ∷ "ok 43aabb" ∷ "end"
+        ∷ "ok" ∷ "no missing" ∷ []) }
 {}
 
 /// A file keeps its attributes when it is written and cut, and a directory with a child and an attribute is not empty.
@@ -98,8 +105,9 @@ pub fn attributes_beside_contents()
         ∷ "read /f 0 9" ∷ "attrs /f" ∷ [])) ≡
         text ("ok" ∷ "ok" ∷ "ok" ∷ "ok" ∷ "ok 01" ∷ "a k 1" ∷ "end" ∷ []) }
     ensures child { output (ruler_two 4 1)
-        (text ("make /d" ∷ "set /d k 41" ∷ "make /d/c" ∷ "set /d/c k 42" ∷ "remove /d" ∷ "list /d"
-        ∷ "get /d/c k" ∷ "prune /d" ∷ "space" ∷ [])) ≡
+        (text ("make /d" ∷ "set /d k 41" ∷ "make /d/c" ∷ "set /d/c k 42" ∷ "remove /d"
+        ∷ "list /d" ∷ "get /d/c k"
+        ∷ "prune /d" ∷ "space" ∷ [])) ≡
         text ("ok" ∷ "ok" ∷ "ok" ∷ "ok" ∷ "no notempty" ∷ "d c" ∷ "end" ∷ "ok 42"
         ∷ "ok" ∷ "space 0 4" ∷ []) }
 {}
@@ -126,21 +134,26 @@ pub fn first_refusals_on_attributes()
         text ("no root" ∷ "no missing" ∷ "ok" ∷ "no big" ∷ "ok" ∷ []) }
     ensures field { output (ruler_two 4 1)
         (codes "make /" ++ replicate 117 0x78 ++ 10 ∷ codes "set /" ++ replicate 117 0x78
-        ++ write_line " k " (zeros 256) ++ codes "set /" ++ replicate 117 0x78 ++ codes " k 41"
-        ++ 10 ∷ codes "get /" ++ replicate 117 0x78 ++ codes " k") ≡
+        ++ write_line " k " (zeros 256) ++ codes "set /" ++ replicate 117 0x78
+        ++ codes " k 41" ++ 10 ∷ codes "get /"
+        ++ replicate 117 0x78 ++ codes " k") ≡
         text ("ok" ∷ "no big" ∷ "no path" ∷ "no none" ∷ []) }
     ensures longest { output (ruler_two 4 1)
-        (codes "make /" ++ replicate 116 0x78 ++ 10 ∷ codes "set /" ++ replicate 116 0x78
-        ++ codes " k 41") ≡ text ("ok" ∷ "ok" ∷ []) }
+        (codes "make /" ++ replicate 116 0x78 ++ 10 ∷ codes "set /"
+        ++ replicate 116 0x78 ++ codes " k 41")
+        ≡ text ("ok" ∷ "ok" ∷ []) }
     ensures others { output (ruler_two 4 1)
-        (text ("unset / k" ∷ "get / k" ∷ "attrs /" ∷ "unset /x k" ∷ "get /x k" ∷ "attrs /x"
-        ∷ "make /d" ∷ "unset /d k" ∷ "get /d k" ∷ [])) ≡
+        (text ("unset / k" ∷ "get / k" ∷ "attrs /" ∷ "unset /x k" ∷ "get /x k"
+        ∷ "attrs /x" ∷ "make /d"
+        ∷ "unset /d k" ∷ "get /d k" ∷ [])) ≡
         text ("no root" ∷ "no root" ∷ "no root" ∷ "no missing" ∷ "no missing" ∷ "no missing" ∷ "ok"
         ∷ "no none" ∷ "no none" ∷ []) }
     ensures full { output (ruler_two 1 1)
-        (text ("make /a" ∷ "set /a b -" ∷ "set /a c -" ∷ "set /a d -" ∷ "set /a e -" ∷ "set /a f -"
-        ∷ "set /a g -" ∷ "set /a h -" ∷ "set /a i -" ∷ "set /a j -" ∷ "set /a k -" ∷ "set /a j 41"
-        ∷ "unset /a b" ∷ "set /a k -" ∷ [])) ≡
+        (text ("make /a" ∷ "set /a b -" ∷ "set /a c -" ∷ "set /a d -" ∷ "set /a e -"
+        ∷ "set /a f -" ∷ "set /a g -"
+        ∷ "set /a h -" ∷ "set /a i -" ∷ "set /a j -" ∷ "set /a k -" ∷ "set /a j 41"
+        ∷ "unset /a b" ∷ "set /a k -" ∷ []))
+        ≡
         text ("ok" ∷ "ok" ∷ "ok" ∷ "ok" ∷ "ok" ∷ "ok" ∷ "ok" ∷ "ok" ∷ "ok" ∷ "ok" ∷ "no full 2 1"
         ∷ "ok" ∷ "ok" ∷ "ok" ∷ []) }
 {}
@@ -149,8 +162,8 @@ pub fn first_refusals_on_attributes()
 /// is not.
 pub fn outgrown_attributes()
     ensures own { output (ruler_two 4 1)
-        (text ("make /d" ∷ "set /d k 41" ∷ []) ++ codes "rename /d /" ++ replicate 117 0x78 ++ 10
-        ∷ codes "rename /d /" ++ replicate 116 0x78) ≡
+        (text ("make /d" ∷ "set /d k 41" ∷ []) ++ codes "rename /d /"
+        ++ replicate 117 0x78 ++ 10 ∷ codes "rename /d /" ++ replicate 116 0x78) ≡
         text ("ok" ∷ "ok" ∷ "no path" ∷ "ok" ∷ []) }
     ensures below { output (ruler_two 4 1)
         (text ("make /d" ∷ "make /d/c" ∷ "set /d/c k 41" ∷ []) ++ codes "rename /d /"
@@ -165,10 +178,12 @@ pub fn outgrown_attributes()
 /// Lines that nearly ask for an attribute.
 pub fn lines_on_attributes()
     ensures { map (λ row. parse (codes row))
-        ("set /d k" ∷ "set /d  41" ∷ "set /d . 41" ∷ "set /d .. 41" ∷ "set /d a/b 41" ∷ "set /d k 4"
-        ∷ "set /d k 41 42" ∷ "set d k 41" ∷ "Set /d k 41"
+        ("set /d k" ∷ "set /d  41" ∷ "set /d . 41" ∷ "set /d .. 41" ∷ "set /d a/b 41"
+        ∷ "set /d k 4" ∷ "set /d k 41 42"
+        ∷ "set d k 41" ∷ "Set /d k 41"
         ∷ "unset /d" ∷ "unset /d k 41" ∷ "unset /d " ∷ "get /d" ∷ "get /d .." ∷ "get /d k k"
-        ∷ "attrs" ∷ "attrs /d k" ∷ "attrs d" ∷ "attr /d"
+        ∷ "attrs" ∷ "attrs /d k"
+        ∷ "attrs d" ∷ "attr /d"
         ∷ "get /d nnnnnnnnnnnnnnnnnnnnnnnnnnnnnnnnn" ∷ [])
         ≡ replicate 20 (Err refusals.Syntax) }
 {}

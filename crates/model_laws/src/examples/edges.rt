@@ -73,7 +73,8 @@ pub fn blocks_and_keys()
 /// page is without a cell or holds more. A table has as many slots as the draw says, and pages in them.
 pub fn runs_of_groups()
     ensures eleven { pages_of_pairs (draw_of (ruler 9 2))
-        (map (λ n. (key_of (n ∷ []), 1 ∷ [])) (numbers_from 0x54 12)) ≡
+        (map (λ n. (key_of (n ∷ []), 1 ∷ [])) (numbers_from 0x54 12))
+        ≡
         page (start_label 0 0) (directory_cell (codes "T") ∷ [])
         ∷ page (led_label 0 (codes "U")) (map (λ n. directory_cell (n ∷ [])) (numbers_from 0x55 10))
         ∷ page (record { level = 0; lead = Leader (key_of (codes "U")); index = 1 })
@@ -96,7 +97,8 @@ pub fn runs_of_groups()
       level = λ k. slice_index k 1;
     })
         (map (λ k. (key_of k, 1 ∷ []))
-        ((1 ∷ 0 ∷ []) ∷ (2 ∷ 1 ∷ []) ∷ (3 ∷ 2 ∷ []) ∷ (4 ∷ 0 ∷ []) ∷ (5 ∷ 1 ∷ []) ∷ [])) ≡
+        ((1 ∷ 0 ∷ []) ∷ (2 ∷ 1 ∷ []) ∷ (3 ∷ 2 ∷ []) ∷ (4 ∷ 0 ∷ []) ∷ (5 ∷ 1 ∷ []) ∷ []))
+        ≡
         page (start_label 0 0) (directory_cell (1 ∷ 0 ∷ []) ∷ [])
         ∷ page (led_label 0 (2 ∷ 1 ∷ [])) (directory_cell (2 ∷ 1 ∷ []) ∷ [])
         ∷ page (led_label 0 (3 ∷ 2 ∷ []))
@@ -112,7 +114,8 @@ pub fn runs_of_groups()
         ++ page (start_label 7 0) (key_cell (codes "UUUUUUUUU") ∷ []) ∷ [] }
     ensures no_cell { IsPage (page (start_label 0 0) []) → ⊥ }
     ensures too_many_cells { IsPage
-        (page (start_label 0 0) (map (λ n. directory_cell (n ∷ [])) (codes "abcdefghijk"))) → ⊥ }
+        (page (start_label 0 0) (map (λ n. directory_cell (n ∷ [])) (codes "abcdefghijk")))
+        → ⊥ }
     ensures no_page_in_a_table { IsOrderedTable (draw_of (ruler 1 1))
         (Some (page (start_label 0 0) []) ∷ []) → ⊥ }
     ensures table_too_long { IsOrderedTable (draw_of (ruler 1 1)) (None ∷ None ∷ []) → ⊥ }
@@ -120,10 +123,14 @@ pub fn runs_of_groups()
 
 /// Starts and levels by SHA-256. The digests were computed by another program.
 pub fn draws_by_digest()
-    ensures start { sha256_start (numbers_below 32) 16384
-        (record { level = 1; lead = Leader (key_of (codes "a")); index = 5 }) ≡ 15002 }
+    ensures start { sha256_start (numbers_below 32) 16384 (record {
+      level = 1;
+      lead = Leader (key_of (codes "a"));
+      index = 5;
+    }) ≡ 15002 }
     ensures levels { map (λ name. sha256_level (numbers_below 32) 8 (key_of (codes name)))
-        ("a" ∷ "L" ∷ "i" ∷ []) ≡ 0 ∷ 1 ∷ 2 ∷ [] }
+        ("a" ∷ "L" ∷ "i" ∷ [])
+        ≡ 0 ∷ 1 ∷ 2 ∷ [] }
 {}
 
 /// A marked slot takes its shadow where the gate is set, by any byte other than 0, and only there.
@@ -136,8 +143,8 @@ pub fn recovery_of_one_slot()
         (zeros 4096 ++ 0 ∷ replicate 4095 7 ++ 1 ∷ zeros 4095 ++ replicate 4096 5
         ++ replicate 4096 6) 0 ≡ replicate 4096 6 }
     ensures not_marked { recovered_slot 1
-        (zeros 4096 ++ 1 ∷ zeros 4095 ++ 0 ∷ 1 ∷ zeros 4094 ++ replicate 4096 5 ++ replicate 4096 6)
-        0 ≡ replicate 4096 6 }
+        (zeros 4096 ++ 1 ∷ zeros 4095 ++ 0 ∷ 1 ∷ zeros 4094 ++ replicate 4096 5
+        ++ replicate 4096 6) 0 ≡ replicate 4096 6 }
 {}
 
 /// Lines that nearly say something; the longest name and the longest line, and what is one byte longer;
@@ -147,13 +154,14 @@ pub fn fields_of_lines()
         (" " ∷ "make" ∷ " make /a" ∷ "make  /a" ∷ "space " ∷ "space /" ∷ "Space" ∷ "rename /a"
         ∷ "write /f 0" ∷ "write /f 0 41 41"
         ∷ "make //" ∷ "make //a" ∷ "make /a//b" ∷ "make /." ∷ "make /a/../b" ∷ "cut /f "
-        ∷ "cut /f 00" ∷ "cut /f 01" ∷ "cut /f +1" ∷ "cut /f 1:" ∷ "cut /f 1/"
+        ∷ "cut /f 00" ∷ "cut /f 01"
+        ∷ "cut /f +1" ∷ "cut /f 1:" ∷ "cut /f 1/"
         ∷ "write /f 0 " ∷ "write /f 0 4" ∷ "write /f 0 --" ∷ "write /f 0 41-1" ∷ "write /f 0 4g"
         ∷ "write /f 0 @1" ∷ [])
         ≡ replicate 27 (Err refusals.Syntax) }
-    ensures other_bytes { map parse
-        ((codes "space" ++ 13 ∷ []) ∷ (codes "make /a" ++ 13 ∷ []) ∷ (codes "make /" ++ 0x7f ∷ [])
-        ∷ (codes "make /" ++ 0 ∷ []) ∷ (codes "make" ++ 9 ∷ codes "/a") ∷ [])
+    ensures other_bytes { map parse ((codes "space" ++ 13 ∷ []) ∷ (codes "make /a" ++ 13 ∷ [])
+        ∷ (codes "make /" ++ 0x7f ∷ []) ∷ (codes "make /" ++ 0 ∷ [])
+        ∷ (codes "make" ++ 9 ∷ codes "/a") ∷ [])
         ≡ replicate 5 (Err refusals.Syntax) }
     ensures names { parse (codes "make /.../.a/!~")
         ≡ Ok (Make (codes "..." ∷ codes ".a" ∷ codes "!~" ∷ [])) }
@@ -161,15 +169,16 @@ pub fn fields_of_lines()
         ≡ Ok (Write (codes "f" ∷ []) 4294967295 (0xab ∷ 0xff ∷ 9 ∷ [])) }
     ensures longest_path { parse (codes "make /" ++ replicate 119 0x78)
         ≡ Ok (Make (replicate 119 0x78 ∷ [])) }
-    ensures long_paths { map parse
-        ((codes "rename /a /" ++ replicate 120 0x78)
+    ensures long_paths { map parse ((codes "rename /a /" ++ replicate 120 0x78)
         ∷ (codes "rename /" ++ replicate 120 0x78 ++ codes " /a")
         ∷ (codes "write /" ++ replicate 120 0x78 ++ codes " 0 4") ∷ []) ≡
         Err refusals.Path ∷ Err refusals.Path ∷ Err refusals.Syntax ∷ [] }
-    ensures longest_line { (answer empty_tree (codes "make /" ++ replicate 8186 0x61)
-        (ruler 4 1)).reply ≡ Refused refusals.Path }
-    ensures line_too_long { (answer empty_tree (codes "make /" ++ replicate 8187 0x61)
-        (ruler 4 1)).reply ≡ Refused refusals.Long }
+    ensures longest_line { (answer empty_tree
+        (codes "make /" ++ replicate 8186 0x61) (ruler 4 1)).reply
+        ≡ Refused refusals.Path }
+    ensures line_too_long { (answer empty_tree
+        (codes "make /" ++ replicate 8187 0x61) (ruler 4 1)).reply
+        ≡ Refused refusals.Long }
     ensures cut_at_line_feeds { lines (10 ∷ codes "a" ++ 10 ∷ 10 ∷ codes "b" ++ 13 ∷ 10 ∷ 13 ∷ [])
         ≡ codes "a" ∷ (codes "b" ++ 13 ∷ []) ∷ (13 ∷ []) ∷ [] }
 {}
@@ -178,27 +187,33 @@ pub fn fields_of_lines()
 pub fn first_refusals()
     ensures make_remove_prune { output (ruler 1 1)
         (text ("make /" ∷ "remove /" ∷ "prune /" ∷ "remove /x" ∷ "prune /x" ∷ "make /x/y"
-        ∷ "make /a" ∷ "make /a/b" ∷ "make /ab" ∷ "remove /" ∷ "remove /a"
-        ∷ "prune /a" ∷ "list /" ∷ [])) ≡
-        text ("no root" ∷ "no root" ∷ "no root" ∷ "no missing" ∷ "no missing" ∷ "no parent" ∷ "ok"
-        ∷ "ok" ∷ "ok" ∷ "no root" ∷ "no notempty" ∷ "ok" ∷ "d ab" ∷ "end" ∷ []) }
+        ∷ "make /a" ∷ "make /a/b"
+        ∷ "make /ab" ∷ "remove /" ∷ "remove /a" ∷ "prune /a" ∷ "list /" ∷ [])) ≡
+        text ("no root" ∷ "no root" ∷ "no root" ∷ "no missing" ∷ "no missing"
+        ∷ "no parent" ∷ "ok" ∷ "ok" ∷ "ok"
+        ∷ "no root" ∷ "no notempty" ∷ "ok" ∷ "d ab" ∷ "end" ∷ []) }
     ensures write { output (ruler 2 2)
         (text ("write / 9 -" ∷ "write /x/y 9 -" ∷ "make /Ua" ∷ "write /Ua 1 -"
-        ∷ "write /UU 4294967295 00" ∷ "write /UU 1 00" ∷ "write /UU 0 00" ∷ [])) ≡
+        ∷ "write /UU 4294967295 00"
+        ∷ "write /UU 1 00" ∷ "write /UU 0 00" ∷ [])) ≡
         text ("no kind" ∷ "no parent" ∷ "ok" ∷ "no kind" ∷ "no gap" ∷ "no gap"
         ∷ "no full 3 2" ∷ []) }
     ensures cut_read_list { output (ruler 2 1)
-        (text ("cut / 1" ∷ "cut /x 1" ∷ "read / 1 4097" ∷ "read /x 1 4097" ∷ "write /f 0 00"
-        ∷ "read /f 2 4097" ∷ "read /f 1 4097" ∷ "read /f 1 4096" ∷ "list /f" ∷ "list /f/x" ∷ [])) ≡
-        text ("no kind" ∷ "no missing" ∷ "no kind" ∷ "no missing" ∷ "ok" ∷ "no gap" ∷ "no big"
-        ∷ "ok -" ∷ "no kind" ∷ "no missing" ∷ []) }
+        (text ("cut / 1" ∷ "cut /x 1" ∷ "read / 1 4097" ∷ "read /x 1 4097"
+        ∷ "write /f 0 00" ∷ "read /f 2 4097"
+        ∷ "read /f 1 4097" ∷ "read /f 1 4096" ∷ "list /f" ∷ "list /f/x" ∷ [])) ≡
+        text ("no kind" ∷ "no missing" ∷ "no kind" ∷ "no missing" ∷ "ok"
+        ∷ "no gap" ∷ "no big" ∷ "ok -"
+        ∷ "no kind" ∷ "no missing" ∷ []) }
     ensures rename { output (ruler 2 1)
-        (text ("rename /x /" ∷ "rename / /x" ∷ "rename /x /x/y" ∷ "rename /x /q/y" ∷ "make /a"
-        ∷ "make /a/b" ∷ "rename /x /a" ∷ "rename /a /a/b" ∷ "rename /a /a/y/z" ∷ "rename /a /q/y"
-        ∷ "write /f 0 -" ∷ "rename /a /f/y" ∷ "rename /f /f/g" ∷ "rename /a /f" ∷ [])) ≡
-        text ("no root" ∷ "no root" ∷ "no missing" ∷ "no missing" ∷ "ok" ∷ "ok" ∷ "no missing"
-        ∷ "no inside" ∷ "no inside" ∷ "no parent" ∷ "ok" ∷ "no parent"
-        ∷ "no inside" ∷ "no exists" ∷ []) }
+        (text ("rename /x /" ∷ "rename / /x" ∷ "rename /x /x/y" ∷ "rename /x /q/y"
+        ∷ "make /a" ∷ "make /a/b"
+        ∷ "rename /x /a" ∷ "rename /a /a/b" ∷ "rename /a /a/y/z" ∷ "rename /a /q/y"
+        ∷ "write /f 0 -" ∷ "rename /a /f/y"
+        ∷ "rename /f /f/g" ∷ "rename /a /f" ∷ [])) ≡
+        text ("no root" ∷ "no root" ∷ "no missing" ∷ "no missing" ∷ "ok" ∷ "ok"
+        ∷ "no missing" ∷ "no inside"
+        ∷ "no inside" ∷ "no parent" ∷ "ok" ∷ "no parent" ∷ "no inside" ∷ "no exists" ∷ []) }
     ensures rename_of_a_deep_path { output (ruler 1 1)
         (text ("make /d" ∷ "make /dd" ∷ []) ++ codes "make /d/" ++ replicate 117 0x78 ++ 10
         ∷ text ("rename /d /dd" ∷ "rename /d /q/e" ∷ "rename /d /ee" ∷ [])) ≡
@@ -209,7 +224,8 @@ pub fn first_refusals()
 pub fn full_file()
     ensures one_byte_more { (old : List ℕ) → length old ≡ 16777216
         → refusal_of ((codes "f" ∷ [], bare (File old)) ∷ [])
-        (Write (codes "f" ∷ []) 16777216 (7 ∷ [])) ≡ Some refusals.Big }
+        (Write (codes "f" ∷ []) 16777216 (7 ∷ []))
+        ≡ Some refusals.Big }
     ensures last_byte { (old : List ℕ) → length old ≡ 16777216
         → refusal_of ((codes "f" ∷ [], bare (File old)) ∷ [])
         (Write (codes "f" ∷ []) 16777215 (7 ∷ [])) ≡ None }
@@ -218,7 +234,8 @@ pub fn full_file()
         ≡ None }
     ensures past_the_end { (old : List ℕ) → length old ≡ 16777216
         → refusal_of ((codes "f" ∷ [], bare (File old)) ∷ [])
-        (Write (codes "f" ∷ []) 16777217 (7 ∷ [])) ≡ Some refusals.Gap }
+        (Write (codes "f" ∷ []) 16777217 (7 ∷ []))
+        ≡ Some refusals.Gap }
 {}
 
 /// Command lines at the ends of their ranges and past them.
@@ -233,16 +250,18 @@ pub fn ranges_of_words()
           version = One;
         })) }
     ensures past_slots { map (λ slots.
-        request_of (codes "format" ∷ codes slots ∷ codes "1" ∷ codes "ruler" ∷ replicate 64 0x30
-        ∷ [])) ("01" ∷ "65537" ∷ []) ≡ None ∷ None ∷ [] }
+        request_of (codes "format" ∷ codes slots ∷ codes "1" ∷ codes "ruler"
+        ∷ replicate 64 0x30 ∷ []))
+        ("01" ∷ "65537" ∷ []) ≡ None ∷ None ∷ [] }
     ensures past_seed { map (λ digits.
-        request_of (codes "format" ∷ codes "1" ∷ codes "1" ∷ codes "ruler" ∷ replicate digits 0x30
-        ∷ [])) (62 ∷ 63 ∷ 65 ∷ 66 ∷ []) ≡ replicate 4 None }
+        request_of (codes "format" ∷ codes "1" ∷ codes "1" ∷ codes "ruler"
+        ∷ replicate digits 0x30 ∷ []))
+        (62 ∷ 63 ∷ 65 ∷ 66 ∷ []) ≡ replicate 4 None }
     ensures big { request_of (codes "big" ∷ codes "4294967295" ∷ codes "1000000" ∷ [])
         ≡ Some (Big 4294967295 1000000) }
     ensures past_big { map (λ count. request_of (codes "big" ∷ codes "0" ∷ codes count ∷ []))
         ("0" ∷ "1000001" ∷ "1 " ∷ []) ≡ replicate 3 None }
-    ensures other_words { map request_of
-        (([] ∷ []) ∷ (codes "--help" ∷ []) ∷ (codes "RUN" ∷ []) ∷ (codes "big" ∷ codes "1" ∷ [])
-        ∷ (codes "big" ∷ codes "4294967296" ∷ codes "1" ∷ []) ∷ []) ≡ replicate 5 None }
+    ensures other_words { map request_of (([] ∷ []) ∷ (codes "--help" ∷ []) ∷ (codes "RUN" ∷ [])
+        ∷ (codes "big" ∷ codes "1" ∷ []) ∷ (codes "big" ∷ codes "4294967296" ∷ codes "1" ∷ []) ∷ [])
+        ≡ replicate 5 None }
 {}

@@ -29,11 +29,11 @@ pub fn areas_of_the_second_slot()
     ensures shadow { shadow_at 2 1 ≡ 16384 }
     ensures slot { table_at 2 1 ≡ 24576 }
     ensures redone { recovered_slot 2
-        (zeros 4096 ++ 1 ∷ zeros 4095 ++ 0 ∷ 1 ∷ zeros 4094 ++ replicate 4096 5 ++ replicate 4096 6
-        ++ replicate 4096 7 ++ replicate 4096 8) 1 ≡ replicate 4096 6 }
+        (zeros 4096 ++ 1 ∷ zeros 4095 ++ 0 ∷ 1 ∷ zeros 4094 ++ replicate 4096 5
+        ++ replicate 4096 6 ++ replicate 4096 7 ++ replicate 4096 8) 1 ≡ replicate 4096 6 }
     ensures not_redone { recovered_slot 2
-        (zeros 4096 ++ 1 ∷ zeros 4095 ++ 1 ∷ zeros 4095 ++ replicate 4096 5 ++ replicate 4096 6
-        ++ replicate 4096 7 ++ replicate 4096 8) 1 ≡ replicate 4096 8 }
+        (zeros 4096 ++ 1 ∷ zeros 4095 ++ 1 ∷ zeros 4095 ++ replicate 4096 5
+        ++ replicate 4096 6 ++ replicate 4096 7 ++ replicate 4096 8) 1 ≡ replicate 4096 8 }
 {}
 
 /// The header of `format 1 1 ruler` with a seed of zeros.

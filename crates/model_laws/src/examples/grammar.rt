@@ -19,7 +19,8 @@ ghost use Rattle.model_laws.specs.Examples.{ruler, text, output};
 pub fn refused_lines()
     ensures syntax { output (ruler 4 1)
         (text ("make a" ∷ "MAKE /a" ∷ "make /a " ∷ "make /.." ∷ "make /a/" ∷ "write /a 00 -"
-        ∷ "read /a 0 4294967296" ∷ "write /a 0 123" ∷ [])) ≡
+        ∷ "read /a 0 4294967296"
+        ∷ "write /a 0 123" ∷ [])) ≡
         text ("no syntax" ∷ "no syntax" ∷ "no syntax" ∷ "no syntax" ∷ "no syntax" ∷ "no syntax"
         ∷ "no syntax" ∷ "no syntax" ∷ []) }
     ensures path { output (ruler 4 1) (codes "make /" ++ replicate 120 0x61 ++ 10 ∷ [])
@@ -45,8 +46,9 @@ pub fn command_lines()
     ensures one_word { map (λ word. request_of (codes word ∷ []))
         ("run" ∷ "session" ∷ "check" ∷ "scrub" ∷ "wipe" ∷ "upgrade" ∷ "dump" ∷ "load" ∷ "format"
         ∷ "format2" ∷ "big" ∷ []) ≡
-        Some Run ∷ Some Session ∷ Some Check ∷ Some Scrub ∷ Some Wipe ∷ Some Upgrade ∷ Some Dump
-        ∷ Some Load ∷ None ∷ None ∷ None ∷ [] }
+        Some Run ∷ Some Session ∷ Some Check ∷ Some Scrub ∷ Some Wipe ∷ Some Upgrade
+        ∷ Some Dump ∷ Some Load
+        ∷ None ∷ None ∷ None ∷ [] }
     ensures format { request_of (codes "format" ∷ codes "4" ∷ codes "2" ∷ codes "ruler"
         ∷ replicate 64 0x30 ∷ []) ≡
         Some (Format (ruler 4 2)) }
@@ -60,10 +62,12 @@ pub fn command_lines()
         request_of (codes "format" ∷ codes "4" ∷ codes "2" ∷ codes draw ∷ replicate 64 0x30 ∷ []))
         ("Ruler" ∷ "sha-256" ∷ "sha" ∷ "" ∷ []) ≡ replicate 4 None }
     ensures no_levels { map (λ height.
-        request_of (codes "format" ∷ codes "4" ∷ codes height ∷ codes "ruler" ∷ replicate 64 0x30
-        ∷ [])) ("0" ∷ "9" ∷ []) ≡ None ∷ None ∷ [] }
+        request_of (codes "format" ∷ codes "4" ∷ codes height ∷ codes "ruler"
+        ∷ replicate 64 0x30 ∷ []))
+        ("0" ∷ "9" ∷ []) ≡ None ∷ None ∷ [] }
     ensures no_slots { request_of (codes "format" ∷ codes "0" ∷ codes "1" ∷ codes "ruler"
-        ∷ replicate 64 0x30 ∷ []) ≡ None }
+        ∷ replicate 64 0x30 ∷ [])
+        ≡ None }
     ensures big { request_of (codes "big" ∷ codes "0" ∷ codes "1" ∷ []) ≡ Some (Big 0 1) }
     ensures extra_word { map (λ word. request_of (codes word ∷ codes "x" ∷ []))
         ("run" ∷ "session" ∷ "check" ∷ "scrub" ∷ "wipe" ∷ "upgrade" ∷ "dump" ∷ "load" ∷ [])

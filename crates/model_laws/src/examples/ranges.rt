@@ -16,8 +16,8 @@ ghost use Rattle.model_laws.specs.Examples.{ruler, start_label, led_label, page,
 /// No name has a space, a `/` or a byte past 7E, is empty, or is `.` or `..`.
 pub fn no_names()
     ensures { map (λ name. is_name name)
-        (codes "a b" ∷ codes "a/b" ∷ (0x61 ∷ 0x7f ∷ []) ∷ [] ∷ codes "." ∷ codes ".." ∷ [])
-        ≡ replicate 6 false }
+        (codes "a b" ∷ codes "a/b" ∷ (0x61 ∷ 0x7f ∷ []) ∷ [] ∷ codes "." ∷ codes ".."
+        ∷ []) ≡ replicate 6 false }
 {}
 
 /// A file has at most 16,777,216 bytes, a value 1 to 256, a label a level of one byte, a leader of 124 bytes and an
@@ -35,7 +35,8 @@ pub fn ranges_of_parts()
 /// The keys of a page strictly rise, and its cells have values at level 0 alone.
 pub fn no_pages()
     ensures falling { IsPage (page (start_label 0 0)
-        (directory_cell (codes "b") ∷ directory_cell (codes "a") ∷ [])) → ⊥ }
+        (directory_cell (codes "b") ∷ directory_cell (codes "a") ∷ []))
+        → ⊥ }
     ensures twice { IsPage (page (start_label 0 0)
         (directory_cell (codes "a") ∷ directory_cell (codes "a") ∷ [])) → ⊥ }
     ensures no_value { IsPage (page (start_label 0 0) (key_cell (codes "a") ∷ [])) → ⊥ }

@@ -69,13 +69,15 @@ pub fn backward_shift()
 pub fn two_runs()
     ensures eleven { table (ruler 4 1)
         (text ("make /a" ∷ "make /b" ∷ "make /c" ∷ "make /d" ∷ "make /e" ∷ "make /f" ∷ "make /g"
-        ∷ "make /h" ∷ "make /i" ∷ "make /j" ∷ "make /k" ∷ [])) ≡
+        ∷ "make /h" ∷ "make /i"
+        ∷ "make /j" ∷ "make /k" ∷ [])) ≡
         Some (page (start_label 0 0) (map (λ c. directory_cell (c ∷ [])) (codes "abcdefghij")))
         ∷ Some (page (start_label 0 1) (directory_cell (codes "k") ∷ []))
         ∷ None ∷ None ∷ [] }
     ensures ten { table (ruler 4 1)
         (text ("make /a" ∷ "make /b" ∷ "make /c" ∷ "make /d" ∷ "make /e" ∷ "make /f" ∷ "make /g"
-        ∷ "make /h" ∷ "make /i" ∷ "make /j" ∷ "make /k" ∷ "remove /a" ∷ [])) ≡
+        ∷ "make /h" ∷ "make /i"
+        ∷ "make /j" ∷ "make /k" ∷ "remove /a" ∷ [])) ≡
         Some (page (start_label 0 0) (map (λ c. directory_cell (c ∷ [])) (codes "bcdefghijk")))
         ∷ None ∷ None ∷ None ∷ [] }
 {}

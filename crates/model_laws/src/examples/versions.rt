@@ -26,20 +26,22 @@ pub fn headers_by_the_version_mark()
     ensures raised { viewed_header 1 (header (ruler 1 1) ++ 1 ∷ zeros 4095 ++ 0 ∷ 1 ∷ zeros 12286)
         ≡ header (ruler_two 1 1) }
     ensures any_version { viewed_header 1
-        (slice_set (header (ruler 1 1)) 14 0x7f ++ 1 ∷ zeros 4095 ++ 0 ∷ 1 ∷ zeros 12286)
-        ≡ header (ruler_two 1 1) }
+        (slice_set (header (ruler 1 1)) 14 0x7f ++ 1 ∷ zeros 4095 ++ 0 ∷ 1
+        ∷ zeros 12286) ≡ header (ruler_two 1 1) }
     ensures any_bytes { viewed_header 1
-        (slice_set (header (ruler 1 1)) 14 0 ++ 0x80 ∷ zeros 4095 ++ 0 ∷ 0xff ∷ zeros 12286)
-        ≡ header (ruler_two 1 1) }
+        (slice_set (header (ruler 1 1)) 14 0 ++ 0x80 ∷ zeros 4095 ++ 0 ∷ 0xff
+        ∷ zeros 12286) ≡ header (ruler_two 1 1) }
     ensures already { viewed_header 1
-        (header (ruler_two 1 1) ++ 1 ∷ zeros 4095 ++ 0 ∷ 1 ∷ zeros 12286) ≡ header (ruler_two 1 1) }
+        (header (ruler_two 1 1) ++ 1 ∷ zeros 4095 ++ 0 ∷ 1 ∷ zeros 12286)
+        ≡ header (ruler_two 1 1) }
     ensures not_raised { viewed_header 1
         (slice_set (header (ruler 1 1)) 14 0x7f ++ zeros 4096 ++ 0 ∷ 1 ∷ zeros 12286)
         ≡ slice_set (header (ruler 1 1)) 14 0x7f }
     ensures clear { viewed_header 1 (header (ruler 1 1) ++ zeros 4096 ++ 0 ∷ 1 ∷ zeros 12286)
         ≡ header (ruler 1 1) }
     ensures mark_behind { viewed_header 1
-        (header (ruler 1 1) ++ 1 ∷ zeros 4095 ++ 0 ∷ 0 ∷ 1 ∷ zeros 12285) ≡ header (ruler 1 1) }
+        (header (ruler 1 1) ++ 1 ∷ zeros 4095 ++ 0 ∷ 0 ∷ 1 ∷ zeros 12285)
+        ≡ header (ruler 1 1) }
     ensures mark_before { viewed_header 1 (header (ruler 1 1) ++ 1 ∷ zeros 4095 ++ 1 ∷ zeros 12287)
         ≡ header (ruler 1 1) }
     ensures other_byte { viewed_header 1
@@ -52,14 +54,14 @@ pub fn headers_by_the_version_mark()
 pub fn empty_images_of_version_two()
     ensures layout { header (ruler_two 1 1) ++ zeros 16384 ≡ layout empty_tree (ruler_two 1 1) }
     ensures recovered_any { recovered 1
-        (slice_set (header (ruler 1 1)) 14 0x7f ++ 1 ∷ zeros 4095 ++ 0 ∷ 1 ∷ zeros 12286)
-        ≡ layout empty_tree (ruler_two 1 1) }
+        (slice_set (header (ruler 1 1)) 14 0x7f ++ 1 ∷ zeros 4095 ++ 0 ∷ 1
+        ∷ zeros 12286) ≡ layout empty_tree (ruler_two 1 1) }
     ensures recovered_one { recovered 1
         (header (ruler 1 1) ++ 1 ∷ zeros 4095 ++ 0 ∷ 1 ∷ zeros 12286)
         ≡ layout empty_tree (ruler_two 1 1) }
     ensures recovered_high { recovered 1
-        (slice_set (header (ruler 1 1)) 14 0 ++ 0x80 ∷ zeros 4095 ++ 0 ∷ 0xff ∷ zeros 12286)
-        ≡ layout empty_tree (ruler_two 1 1) }
+        (slice_set (header (ruler 1 1)) 14 0 ++ 0x80 ∷ zeros 4095 ++ 0 ∷ 0xff
+        ∷ zeros 12286) ≡ layout empty_tree (ruler_two 1 1) }
     ensures unmarked { recovered 1 (header (ruler 1 1) ++ 1 ∷ zeros 4095 ++ zeros 12288)
         ≡ layout empty_tree (ruler 1 1) }
 {}
@@ -73,13 +75,11 @@ pub fn version_marks()
 /// where the version's mark and the flag are set, and as it was where the flag is clear.
 pub fn recovery_to_version_two()
     ensures raised { recovered 1 (header (ruler 1 1) ++ 1 ∷ zeros 4095 ++ 1 ∷ 1 ∷ zeros 4094
-        ++ slot_bytes
-        (Some (page (start_label 0 0) (record {
+        ++ slot_bytes (Some (page (start_label 0 0) (record {
           key = key_of (codes "f");
           value = Some (3 ∷ 0x41 ∷ []);
         } ∷ [])))
-        ++ slot_bytes
-        (Some (page (start_label 0 0) (record {
+        ++ slot_bytes (Some (page (start_label 0 0) (record {
           key = key_of (codes "f");
           value = Some (2 ∷ 0 ∷ 0 ∷ 0 ∷ 1 ∷ []);
         } ∷ record {
@@ -88,13 +88,11 @@ pub fn recovery_to_version_two()
         } ∷ [])))) ≡
         layout (tree (ruler_two 1 1) (text ("write /f 0 41" ∷ []))) (ruler_two 1 1) }
     ensures not_raised { recovered 1 (header (ruler 1 1) ++ zeros 4096 ++ 1 ∷ 1 ∷ zeros 4094
-        ++ slot_bytes
-        (Some (page (start_label 0 0) (record {
+        ++ slot_bytes (Some (page (start_label 0 0) (record {
           key = key_of (codes "f");
           value = Some (3 ∷ 0x41 ∷ []);
         } ∷ [])))
-        ++ slot_bytes
-        (Some (page (start_label 0 0) (record {
+        ++ slot_bytes (Some (page (start_label 0 0) (record {
           key = key_of (codes "f");
           value = Some (2 ∷ 0 ∷ 0 ∷ 0 ∷ 1 ∷ []);
         } ∷ record {
@@ -192,21 +190,25 @@ pub fn slots_of_short_and_long_files()
 /// slots under the one, and one under the other.
 pub fn more_short_files_fit()
     ensures one { output (ruler 1 1)
-        (text ("write /a 0 41" ∷ "write /b 0 41" ∷ "write /c 0 41" ∷ "write /d 0 41"
-        ∷ "write /e 0 41" ∷ "write /f 0 41" ∷ [])) ≡
+        (text ("write /a 0 41" ∷ "write /b 0 41" ∷ "write /c 0 41"
+        ∷ "write /d 0 41" ∷ "write /e 0 41"
+        ∷ "write /f 0 41" ∷ [])) ≡
         text ("ok" ∷ "ok" ∷ "ok" ∷ "ok" ∷ "ok" ∷ "no full 2 1" ∷ []) }
     ensures two { output (ruler_two 1 1)
         (text ("write /a 0 41" ∷ "write /b 0 41" ∷ "write /c 0 41" ∷ "write /d 0 41"
-        ∷ "write /e 0 41" ∷ "write /f 0 41" ∷ "write /g 0 41" ∷ "write /h 0 41" ∷ "write /i 0 41"
-        ∷ "write /j 0 41" ∷ "write /k 0 41" ∷ [])) ≡
+        ∷ "write /e 0 41" ∷ "write /f 0 41"
+        ∷ "write /g 0 41" ∷ "write /h 0 41" ∷ "write /i 0 41" ∷ "write /j 0 41"
+        ∷ "write /k 0 41" ∷ [])) ≡
         text ("ok" ∷ "ok" ∷ "ok" ∷ "ok" ∷ "ok" ∷ "ok" ∷ "ok" ∷ "ok" ∷ "ok" ∷ "ok"
         ∷ "no full 2 1" ∷ []) }
     ensures space_of_one { output (ruler 4 1)
-        (text ("write /a 0 41" ∷ "write /b 0 41" ∷ "write /c 0 41" ∷ "write /d 0 41"
-        ∷ "write /e 0 41" ∷ "write /f 0 41" ∷ "space" ∷ [])) ≡
+        (text ("write /a 0 41" ∷ "write /b 0 41" ∷ "write /c 0 41"
+        ∷ "write /d 0 41" ∷ "write /e 0 41"
+        ∷ "write /f 0 41" ∷ "space" ∷ [])) ≡
         text ("ok" ∷ "ok" ∷ "ok" ∷ "ok" ∷ "ok" ∷ "ok" ∷ "space 2 4" ∷ []) }
     ensures space_of_two { output (ruler_two 4 1)
-        (text ("write /a 0 41" ∷ "write /b 0 41" ∷ "write /c 0 41" ∷ "write /d 0 41"
-        ∷ "write /e 0 41" ∷ "write /f 0 41" ∷ "space" ∷ [])) ≡
+        (text ("write /a 0 41" ∷ "write /b 0 41" ∷ "write /c 0 41"
+        ∷ "write /d 0 41" ∷ "write /e 0 41"
+        ∷ "write /f 0 41" ∷ "space" ∷ [])) ≡
         text ("ok" ∷ "ok" ∷ "ok" ∷ "ok" ∷ "ok" ∷ "ok" ∷ "space 1 4" ∷ []) }
 {}

@@ -81,7 +81,8 @@ pub fn headers_say_their_version()
 /// has their length.
 pub fn headers_are_read_by_their_own_slots()
     ensures alike { (image : List ℕ) (p : Parameters) → IsParameters p
-        → length image ≡ image_len p.slots → named_slots image ≡ p.slots →
+        → length image ≡ image_len p.slots
+        → named_slots image ≡ p.slots →
         header_of image ≡ viewed_header p.slots image }
     ensures same { (image : List ℕ) (p : Parameters) → IsParameters p
         → length image ≡ image_len p.slots →

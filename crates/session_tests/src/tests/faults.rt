@@ -1,6 +1,6 @@
 //! What a fault of the disk leaves of sessions, and which calls a commit makes no more.
 
-use super::support::{Failure, MOST_CALLS, Machine, disk_of, expect, fields, number, sessions_on};
+use super::support::{Failure, MOST_CALLS, Machine, disk_of, fields, number, sessions_on};
 use disk_model::{FailingDisk, MemDisk, StopChoice};
 use script_lines::{Change, Question, SessionLine, parse_session};
 use session_core::{Committed, SessionFault, Sessions, every_history_is_serial};
@@ -8,8 +8,13 @@ use std::alloc::Global;
 use std::process::Abort;
 use store_core::Store;
 
-/// What a row shows; lines, and the line of a commit behind them, whose second question reads the whole image; the
-/// status where each call of the disk fails from that commit on; how many lines are done; and their replies.
+/// The columns are:
+///
+/// - the name of the row: what it shows;
+/// - lines, and the line of a commit behind them, in two columns; its second question reads the whole image;
+/// - the status where each call of the disk fails from that commit on;
+/// - how many lines are done;
+/// - their replies.
 static COMMITS: &str = "\
     behind a question that has another answer none is asked|\
         begin\nbegin\nask 0 list /\nask 0 digest\nstage 1 make /a\ncommit 1\n|commit 0\n|0|7|\
@@ -44,8 +49,8 @@ fn expect_commit(rt: &impl Abort, alloc: Global, machine: &mut Machine, row: [&s
     machine.load(rt, &found);
     machine.call(rt, "session", lines.as_bytes(), Failure { call, crash });
     let status = row[3].parse::<u8>().expect(rt, "a status");
-    let is_ended = machine.is_ended(status, number(rt, row[4]), row[5].as_bytes());
-    expect(rt, is_ended, "the end", row[0]);
+    let done = number(rt, row[4]);
+    machine.expect_end(rt, status, done, row[5].as_bytes(), "the end", row[0]);
 }
 
 #[test]

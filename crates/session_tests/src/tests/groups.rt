@@ -1,6 +1,6 @@
 //! Groups of changes on a store, without a session.
 
-use super::support::{Machine, expect, fields, memory_of, numbers, sink_of};
+use super::support::{Machine, expect_bytes, expect_text, fields, memory_of, numbers, sink_of};
 use disk_model::MemDisk;
 use script_lines::{
     Change, MAX_LINE, SessionLine, SessionReply, parse_session, write_session_reply,
@@ -9,9 +9,14 @@ use std::alloc::Global;
 use std::process::Abort;
 use store_core::{GroupAnswer, Store};
 
-/// What a row shows; the format and the script of the image that is found; the changes, each as a line that stages it;
-/// the reply that a commit of them has; the writes and syncs, two syncs of opening the image among them; and a script
-/// that leaves the same image.
+/// The columns are:
+///
+/// - the name of the row: what it shows;
+/// - the format and the script of the image that is found, in two columns;
+/// - the changes, each as a line that stages it;
+/// - the reply that a commit of them has;
+/// - the writes and syncs, two numbers, with the two syncs of opening the image;
+/// - a script that leaves the same image.
 static GROUPS: &str = "\
     three slots change in one commit|format 4 2 ruler zeros||stage 0 make /Ua\nstage 0 make /UU\n|ok\n|17 7|\
         make /UU\nmake /Ua\n#\
@@ -57,7 +62,7 @@ fn expect_answer(
     write_session_reply(&mut sink, &reply)
         .ok()
         .expect(rt, "room");
-    expect(rt, sink.written() == row[4].as_bytes(), "answer", row[0]);
+    expect_text(rt, sink.written(), row[4].as_bytes(), "answer", row[0]);
 }
 
 /// Looks whether the changes of the row lead to what it says.
@@ -70,9 +75,9 @@ fn expect_row(rt: &impl Abort, alloc: Global, machine: &mut Machine, row: [&str;
     let [writes, syncs, _] = numbers(rt, row[5]);
     let disk = store.into_disk();
     let calls = [disk.write_count(), disk.sync_count()];
-    expect(rt, calls == [writes, syncs], "calls", row[0]);
+    assert_eq!(rt; calls, [writes, syncs], "writes and syncs of {}", row[0]);
     machine.make(rt, row[1], row[6]);
-    expect(rt, disk.bytes() == machine.image(), "image", row[0]);
+    expect_bytes(rt, disk.bytes(), machine.image(), "image", row[0]);
 }
 
 #[test]

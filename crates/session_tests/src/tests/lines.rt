@@ -3,18 +3,24 @@
 
 use super::calls::answer_all;
 use super::support::{
-    CALM, Machine, expect, fields, memory_of, numbers, sessions_on, sink_of, text_of,
+    CALM, Machine, expect, expect_bytes, expect_text, fields, memory_of, numbers, sessions_on,
+    sink_of, text_of,
 };
 use std::alloc::Global;
 use std::process::Abort;
 use store_core::Store;
 
-/// What a row shows; the format and the script of the image that is found; the lines, and their replies, as texts that
-/// each stand there so many times; how many lines are answered, and the writes and syncs, two syncs of opening the
-/// image among them; what `check` prints of the image that is left; and a script that leaves the same image, or `-`
-/// where none is tried.
+/// The columns are:
+///
+/// - the name of the row: what it shows;
+/// - the format and the script of the image that is found, in two columns;
+/// - the lines, and their replies, in two columns, as texts that `;` parts: before each stands how many times it comes,
+///   and a blank;
+/// - three numbers: lines that are answered, writes and syncs, two syncs of opening the image among them;
+/// - what `check` prints of the image that is left;
+/// - a script that leaves the same image, or `-` where none is tried.
 static ROWS: &str = "\
-    a group is committed, and the question of another has another answer|format 4 1 ruler zeros||\
+    a group is committed, and another one conflicts|format 4 1 ruler zeros||\
         1 begin\nbegin\nask 0 list /\nstage 0 make /a\nstage 1 make /b\ncommit 1\ncommit 0\n|\
         1 ok 0\nok 1\nend\nok\nok\nok\nconflict 0\nend\nd b\nend\n|\
         7 7 7|clean 1 1 0 0\n|make /b\n#\
@@ -22,7 +28,7 @@ static ROWS: &str = "\
         1 begin\nstage 0 make /a\nstage 0 make /a\ncommit 0\ncommit 0\nbegin\ndrop 0\ndrop 0\n|\
         1 ok 0\nok\nok\nrefused 1 exists\nno session\nok 0\nok\nno session\n|\
         8 0 2|clean 0 0 0 0\n|#\
-    a group that is full in the middle, and would fit at its end|format 2 2 ruler zeros||\
+    a group that is full in its middle|format 2 2 ruler zeros||\
         1 begin\nstage 0 make /Ua\nstage 0 make /UU\nstage 0 remove /Ua\ncommit 0\n|\
         1 ok 0\nok\nok\nok\nrefused 1 full 3 2\n|\
         5 0 2|clean 0 0 0 0\n|#\
@@ -35,7 +41,7 @@ static ROWS: &str = "\
         1 begin\nstage 0 make /a\nask 0 list /\ncommit 0\nbegin\nask 0 list /\n|\
         1 ok 0\nok\nend\nok\nok 0\nd a\nend\n|\
         6 7 7|clean 1 1 0 0\n|make /a\n#\
-    of questions that have another answer the first is told, and a refusal is an answer|format 4 1 ruler zeros||\
+    the first of the questions that have another answer is told|format 4 1 ruler zeros||\
         1 begin\nbegin\nask 0 list /q\nask 0 read /f 0 1\nask 0 list /\nask 0 digest\nstage 0 make /a\n\
         stage 1 write /f 0 41\ncommit 1\ncommit 0\ncommit 0\n|\
         1 ok 0\nok 1\nno missing\nno missing\nend\n\
@@ -66,10 +72,18 @@ static ROWS: &str = "\
         ask +1 space\nask 4294967296 space\nask 4294967295 space\nstage 0 list /\nstage 0 get /a k\n\
         stage 0  make /a\nstage 4294967296 make /a\nstage 4294967295 make /a\ncommit\ncommit 0 0\ncommit 4294967296\n\
         commit 4294967295\ndrop\ndrop 4294967296\ndrop 64\nleave 0\nmake /a\n\n\
-        ask 1 list /xxxxxxxxxxxxxxxxxxxxxxxxxxxxxxxxxxxxxxxxxxxxxxxxxxxxxxxxxxxxxxxxxxxxxxxxxxxxxxxxxxxxxxxxxxxxxxxxxxxxxxxxxxxxxxxxxxxxxxxx\n\
-        stage 1 list /xxxxxxxxxxxxxxxxxxxxxxxxxxxxxxxxxxxxxxxxxxxxxxxxxxxxxxxxxxxxxxxxxxxxxxxxxxxxxxxxxxxxxxxxxxxxxxxxxxxxxxxxxxxxxxxxxxxxxxxx\n\
-        stage 1 rename /a /xxxxxxxxxxxxxxxxxxxxxxxxxxxxxxxxxxxxxxxxxxxxxxxxxxxxxxxxxxxxxxxxxxxxxxxxxxxxxxxxxxxxxxxxxxxxxxxxxxxxxxxxxxxxxxxxxxxxxxxx\n\
-        ask 0 make /xxxxxxxxxxxxxxxxxxxxxxxxxxxxxxxxxxxxxxxxxxxxxxxxxxxxxxxxxxxxxxxxxxxxxxxxxxxxxxxxxxxxxxxxxxxxxxxxxxxxxxxxxxxxxxxxxxxxxxxx\n\
+        ask 1 list \
+            /xxxxxxxxxxxxxxxxxxxxxxxxxxxxxxxxxxxxxxxxxxxxxxxxxxxxxxxxxxxxxxxxxxxxxxxxxxxxxxxxxxxxxxxxxxxxxxxxx\
+        xxxxxxxxxxxxxxxxxxxxxxx\n\
+        stage 1 list \
+            /xxxxxxxxxxxxxxxxxxxxxxxxxxxxxxxxxxxxxxxxxxxxxxxxxxxxxxxxxxxxxxxxxxxxxxxxxxxxxxxxxxxxxxxxxxxxxxxxx\
+        xxxxxxxxxxxxxxxxxxxxxxx\n\
+        stage 1 rename /a \
+            /xxxxxxxxxxxxxxxxxxxxxxxxxxxxxxxxxxxxxxxxxxxxxxxxxxxxxxxxxxxxxxxxxxxxxxxxxxxxxxxxxxxxxxxxxxxxxxxxx\
+        xxxxxxxxxxxxxxxxxxxxxxx\n\
+        ask 0 make \
+            /xxxxxxxxxxxxxxxxxxxxxxxxxxxxxxxxxxxxxxxxxxxxxxxxxxxxxxxxxxxxxxxxxxxxxxxxxxxxxxxxxxxxxxxxxxxxxxxxx\
+        xxxxxxxxxxxxxxxxxxxxxxx\n\
         commit 0\n|\
         1 ok 0\nno syntax\nno syntax\nno syntax\nno syntax\nno syntax\nno syntax\nno syntax\nno syntax\nno syntax\n\
         no syntax\nno syntax\nno session\nno syntax\nno syntax\nno syntax\nno syntax\nno session\nno syntax\n\
@@ -90,7 +104,7 @@ static ROWS: &str = "\
         ok 61\nok 62\nok 63\nno crowded\n;64 space 0 4\n;1 no many\n;64 ok\n;1 no many\nok\nok 7\nno crowded\nok\n\
         f f 1\nend\n;64 ok\n;1 refused 1 exists\n|\
         265 7 7|clean 1 0 1 1\n|write /f 0 41\n#\
-    lines of 8,192 bytes, and of one more; the last line has no LF|format 4 1 ruler zeros||\
+    lines of 8,192 bytes, and of one more|format 4 1 ruler zeros||\
         8192 x;1 \n;8193 x;1 \nbegin\nstage 0 write /ff 0 ;4086 c3;1 \nstage 0 write /fff 0 ;4086 c3;1 \ncommit 0|\
         1 no syntax\nno long\nok 0\nok\nno long\nok\n|\
         6 12 7|clean 2 0 1 4086\n|-#\
@@ -98,7 +112,7 @@ static ROWS: &str = "\
         1 begin\nstage 0 make /a\n|\
         1 ok 0\nok\n|\
         2 0 2|clean 0 0 0 0\n|#\
-    groups in the order of their commits, and changes in the order in which they came|format 4 1 ruler zeros||\
+    groups and changes come in their order|format 4 1 ruler zeros||\
         1 begin\nbegin\nstage 0 rename /a /b\nstage 0 write /b/f 0 41\nstage 1 make /a\nstage 0 write /b/f 1 42\n\
         stage 1 make /c\ncommit 1\ncommit 0\n|\
         1 ok 0\nok 1\nok\nok\nok\nok\nok\nok\nok\n|\
@@ -122,8 +136,8 @@ fn expect_lines(
 ) {
     let [done, writes, syncs] = numbers(rt, row[5]);
     machine.call(rt, "session", lines, CALM);
-    expect(rt, machine.is_ended(0, done, replies), "replies", row[0]);
-    expect(rt, machine.ended.calls == [writes, syncs], "calls", row[0]);
+    machine.expect_end(rt, 0, done, replies, "replies", row[0]);
+    machine.expect_calls(rt, [writes, syncs], "calls", row[0]);
 }
 
 /// Looks whether calls of sessions over these bytes answer the lines so, and lead to this image.
@@ -140,10 +154,10 @@ fn expect_calls(
     let mut sessions = sessions_on(rt, alloc, store.ok().expect(rt, "a store"));
     let mut sink = sink_of(rt, alloc);
     answer_all(rt, &mut sessions, &mut sink, lines);
-    expect(rt, sink.written() == replies, "replies of calls", row[0]);
+    expect_text(rt, sink.written(), replies, "replies of calls", row[0]);
     expect(rt, !sessions.store().is_stopped(), "a store", row[0]);
     let disk = sessions.into_store().into_disk();
-    expect(rt, disk.bytes() == left, "image of calls", row[0]);
+    expect_bytes(rt, disk.bytes(), left, "image of calls", row[0]);
 }
 
 /// Looks at both, and whether the image that is left is the one that the row says.
@@ -155,15 +169,10 @@ fn expect_row(rt: &impl Abort, alloc: Global, machine: &mut Machine, row: [&str;
     let left = machine.copy(rt);
     expect_calls(rt, alloc, &found, &left, &lines, &replies, row);
     machine.call(rt, "check", b"", CALM);
-    expect(
-        rt,
-        machine.is_ended(0, 1, row[6].as_bytes()),
-        "report",
-        row[0],
-    );
+    machine.expect_end(rt, 0, 1, row[6].as_bytes(), "report", row[0]);
     if row[7] != "-" {
         machine.make(rt, row[1], row[7]);
-        expect(rt, machine.image() == left.as_slice(), "image", row[0]);
+        expect_bytes(rt, &left, machine.image(), "image", row[0]);
     }
 }
 

@@ -2,7 +2,7 @@
 //! of the source fails, or a crash comes.
 
 use super::support::{
-    CALM, Failure, MOST_CALLS, Machine, disk_of, expect, fields, number, numbers, sink_of, words_of,
+    CALM, Failure, MOST_CALLS, Machine, disk_of, fields, number, numbers, sink_of, words_of,
 };
 use disk_model::{Disk, StopChoice};
 use script_lines::MemSource;
@@ -10,14 +10,22 @@ use std::alloc::Global;
 use std::process::Abort;
 use store_top::top;
 
-/// What a row shows; the format and the script of the image that is found; the listing; the status, what is done and
-/// what is printed; the writes and the syncs; and a script for the tree then.
+/// The columns are:
+///
+/// - the name of the row: what it shows;
+/// - the format and the script of the image that is found, in two columns;
+/// - the listing;
+/// - two numbers: the status, and how many lines are done;
+/// - what is printed;
+/// - two numbers: the writes and the syncs;
+/// - a script for the tree then.
 static LOADS: &str = "\
     a directory and a file|format 4 1 ruler zeros||make /b\nwrite /b/f 0 41\n|0 1||7 7|\
         make /a\nwrite /a/f 0 41\nrename /a /b\n#\
     several pages|format 4 2 ruler zeros||make /UU\nmake /UU/d\nmake /Ua\n|0 1||22 7|\
         make /Ua\nmake /UU\nmake /UU/d\n#\
-    attributes and a short file|format2 4 1 ruler zeros||make /d\nset /d k 41\nset /d l -\nwrite /d/f 0 4142\n|0 1||7 7|\
+    attributes and a short file|format2 4 1 ruler zeros||make /d\nset /d k 41\nset /d l -\nwrite \
+        /d/f 0 4142\n|0 1||7 7|\
         make /d\nwrite /d/f 0 4142\nset /d l -\nset /d k 41\n#\
     no line|format 4 1 ruler zeros|||0 1||0 2||#\
     a file that does not stand behind its directory|format 4 1 ruler zeros||write /b/f 0 41\n|15 0||0 2||#\
@@ -59,15 +67,19 @@ fn expect_stops(rt: &impl Abort, machine: &mut Machine, row: [&str; 8], old: &[u
             };
             machine.call(rt, "load", row[3].as_bytes(), failure);
             if machine.ended.status != 5 {
-                let is_done = machine.is_ended(0, 1, b"") & (machine.image() == new);
-                expect(rt, is_done, "the end", row[0]);
+                machine.expect_end(rt, 0, 1, b"", "the end", row[0]);
+                machine.expect_image(rt, new, "the end", row[0]);
                 break;
             }
-            expect(rt, machine.is_ended(5, 0, b""), "a fault", row[0]);
+            machine.expect_end(rt, 5, 0, b"", "a fault", row[0]);
             machine.call(rt, "load", row[3].as_bytes(), CALM);
-            let is_next = machine.is_ended(0, 1, b"") | machine.is_ended(14, 0, b"");
-            let is_left = machine.image() == new;
-            expect(rt, is_next & is_left, "the next load", row[0]);
+            // It loads the listing, or is refused where the image has the tree already.
+            if machine.ended.status == 14 {
+                machine.expect_end(rt, 14, 0, b"", "the next load", row[0]);
+            } else {
+                machine.expect_end(rt, 0, 1, b"", "the next load", row[0]);
+            }
+            machine.expect_image(rt, new, "the next load", row[0]);
         }
     }
 }
@@ -82,14 +94,14 @@ fn expect_load(rt: &impl Abort, machine: &mut Machine, row: [&str; 8]) {
     machine.call(rt, "load", row[3].as_bytes(), CALM);
     let (status, done) = ending(rt, row[4]);
     let [writes, syncs, _] = numbers(rt, row[6]);
-    let is_ended = machine.is_ended(status, done, row[5].as_bytes());
-    let is_left = (machine.image() == new.as_slice()) & (machine.ended.calls == [writes, syncs]);
-    expect(rt, is_ended & is_left, "the end", row[0]);
+    machine.expect_end(rt, status, done, row[5].as_bytes(), "the end", row[0]);
+    machine.expect_image(rt, &new, "the end", row[0]);
+    machine.expect_calls(rt, [writes, syncs], "the end", row[0]);
     if status == 0 {
         machine.call(rt, "dump", b"", CALM);
-        let is_dumped = machine.is_ended(0, 1, row[3].as_bytes());
-        let is_kept = (machine.image() == new.as_slice()) & (machine.ended.calls == [0, 2]);
-        expect(rt, is_dumped & is_kept, "the dump", row[0]);
+        machine.expect_end(rt, 0, 1, row[3].as_bytes(), "the dump", row[0]);
+        machine.expect_image(rt, &new, "the dump", row[0]);
+        machine.expect_calls(rt, [0, 2], "the dump", row[0]);
         expect_stops(rt, machine, row, &old, &new);
     }
 }
@@ -134,7 +146,11 @@ fn a_take_that_fails_is_told_of_a_bad_listing_too(rt: HostRuntime) {
     ] {
         for take in 0..16 {
             let ended = failing_load(&rt, rt.alloc(), machine.image(), lines.as_bytes(), take);
-            expect(&rt, ended == (3, true), "the end", lines);
+            assert_eq!(rt;
+                ended,
+                (3, true),
+                "status, and whether the image is kept, of {lines:?} at take {take}"
+            );
         }
     }
 }

@@ -4,9 +4,14 @@ use super::support::{CALM, Failure, MOST_CALLS, Machine, expect, fields, numbers
 use disk_model::StopChoice;
 use std::process::Abort;
 
-/// What a row shows; the format and the script of the image that is found; the lines; their replies, each of one line
-/// but for the last one; how many lines there are, and how many are done once the group is committed that changes the
-/// tree; and a script for the tree then.
+/// The columns are:
+///
+/// - the name of the row: what it shows;
+/// - the format and the script of the image that is found, in two columns;
+/// - the lines;
+/// - their replies, each of one line but for the last one;
+/// - two numbers: how many lines there are, and how many are done once the group is committed that changes the tree;
+/// - a script for the tree then.
 static SESSIONS: &str = "\
     two groups, of which one is committed|format 4 1 ruler zeros||\
         begin\nbegin\nask 0 list /\nstage 0 make /a\nstage 1 make /b\ncommit 1\ncommit 0\n|\
@@ -44,18 +49,25 @@ fn are_first(written: &[u8], replies: &[u8], count: u64) -> bool {
 fn expect_stopped(rt: &impl Abort, machine: &mut Machine, row: [&str; 8], images: &Images<'_>) {
     let [_, commit, _] = numbers(rt, row[5]);
     let (done, is_written) = (machine.ended.done, machine.ended.calls[0] != 0);
+    assert_eq!(rt; machine.ended.status, 5, "the status of {}", row[0]);
     let are_written = are_first(machine.written(), row[4].as_bytes(), done);
     expect(
         rt,
-        (machine.ended.status == 5) & are_written,
-        "replies",
+        are_written,
+        "the first replies, one for each line done,",
         row[0],
     );
     machine.call(rt, "session", b"begin\ncommit 1\n", CALM);
-    let is_ended = machine.is_ended(0, 2, b"ok 0\nno session\n");
+    let replies = b"ok 0\nno session\n";
+    machine.expect_end(rt, 0, 2, replies, "the next session", row[0]);
     let is_old = (done < commit) & (machine.image() == images.old);
     let is_new = is_written & (machine.image() == images.new);
-    expect(rt, is_ended & (is_old | is_new), "the next session", row[0]);
+    expect(
+        rt,
+        is_old | is_new,
+        "the old image or the new one behind",
+        row[0],
+    );
 }
 
 /// Looks whether the session of the row, cut short at each of its calls of the disk, leaves what the next one may find,
@@ -72,9 +84,8 @@ fn calls_of(
         machine.load(rt, images.old);
         machine.call(rt, "session", row[3].as_bytes(), Failure { call, crash });
         if machine.ended.status != 5 {
-            let is_ended = machine.is_ended(0, lines, row[4].as_bytes());
-            let is_left = machine.image() == images.new;
-            expect(rt, is_ended & is_left, "the end", row[0]);
+            machine.expect_end(rt, 0, lines, row[4].as_bytes(), "the end", row[0]);
+            machine.expect_image(rt, images.new, "the end", row[0]);
             return call;
         }
         expect_stopped(rt, machine, row, images);
@@ -94,10 +105,15 @@ fn expect_row(rt: &impl Abort, machine: &mut Machine, row: [&str; 8]) {
         new: &new,
     };
     let calls = calls_of(rt, machine, None, row, &images);
-    expect(rt, calls < MOST_CALLS, "the end", row[0]);
+    expect(
+        rt,
+        calls < MOST_CALLS,
+        "an end before the most calls",
+        row[0],
+    );
     for crash in &CRASHES {
         let same = calls_of(rt, machine, *crash, row, &images);
-        expect(rt, same == calls, "the calls", row[0]);
+        assert_eq!(rt; same, calls, "the calls of {}", row[0]);
     }
 }
 

@@ -1,7 +1,10 @@
 //! What the tests share: a machine in memory, on which `top` is called, and the fields of a row of a table.
 //!
-//! Tables are texts, each with rows parted by `#` and fields parted by `|`. What a call comes to stays in the machine,
-//! so that nothing is handed out that owns memory.
+//! Tables are texts, each with rows parted by `#` and fields parted by `|`. The first field of a row is its name, which
+//! stands once in its table; what the others are is said above the table. A failure names the row, and prints what
+//! came, as `left`, and what was wanted, as `right`. Of images it prints the first byte that differs.
+//!
+//! What a call comes to stays in the machine, so that nothing is handed out that owns memory.
 
 use disk_model::{Disk, FailingDisk, MemDisk, StopChoice};
 use script_lines::{MemSink, MemSource};
@@ -67,6 +70,47 @@ pub fn words_of(rt: &impl Abort, alloc: Global, text: &str) -> Words {
         words.push(word).expect(rt, "memory");
     }
     words
+}
+
+/// The text that these bytes are: all that a call writes is one.
+fn spelled_text(bytes: &[u8]) -> &str {
+    str::from_utf8(bytes).unwrap_or("bytes that are no text")
+}
+
+/// How many bytes at their front are the same.
+fn same_bytes(came: &[u8], wanted: &[u8]) -> usize {
+    let mut count: usize = 0;
+    for (byte, other) in came.iter().zip(wanted) {
+        if byte != other {
+            return count;
+        }
+        count = count.saturating_add(1);
+    }
+    count
+}
+
+/// Looks whether the text that came is this one.
+pub fn expect_text(rt: &impl Abort, came: &[u8], wanted: &[u8], what: &str, row: &str) {
+    assert!(rt;
+        came == wanted,
+        "{what} of {row}\n  left: {:?}\n right: {:?}",
+        spelled_text(came),
+        spelled_text(wanted)
+    );
+}
+
+/// Looks whether the image that came is this one.
+pub fn expect_bytes(rt: &impl Abort, came: &[u8], wanted: &[u8], what: &str, row: &str) {
+    if came != wanted {
+        let at = same_bytes(came, wanted);
+        panic!(rt;
+            "{what} of {row}: byte {at} of the image is {:?}, wanted {:?}; it has {} bytes, wanted {}",
+            came.get(at),
+            wanted.get(at),
+            came.len(),
+            wanted.len()
+        );
+    }
 }
 
 /// A copy of the bytes.
@@ -190,14 +234,43 @@ impl Machine {
         self.call(rt, "run", script.as_bytes(), CALM);
     }
 
-    /// Whether the last call ended with this status behind so many lines, and wrote this.
-    pub fn is_ended(&self, status: u8, done: u64, written: &[u8]) -> bool {
-        let is_written = self.written.as_slice() == written;
-        (self.ended.status == status) & (self.ended.done == done) & is_written
+    /// Looks whether the last call ended with this status behind so many lines, and wrote this.
+    pub fn expect_end(
+        &self,
+        rt: &impl Abort,
+        status: u8,
+        done: u64,
+        written: &[u8],
+        what: &str,
+        row: &str,
+    ) {
+        let ended = self.ended;
+        self.expect_written(rt, written, what, row);
+        assert_eq!(rt; ended.status, status, "{what} of {row}: the status");
+        assert_eq!(rt; ended.done, done, "{what} of {row}: lines done");
+    }
+
+    /// Looks whether the last call wrote this.
+    pub fn expect_written(&self, rt: &impl Abort, written: &[u8], what: &str, row: &str) {
+        expect_text(rt, &self.written, written, what, row);
+    }
+
+    /// Looks whether the last call made so many writes and syncs.
+    pub fn expect_calls(&self, rt: &impl Abort, calls: [u64; 2], what: &str, row: &str) {
+        assert_eq!(rt;
+            self.ended.calls,
+            calls,
+            "{what} of {row}: writes and syncs"
+        );
+    }
+
+    /// Looks whether this is the image.
+    pub fn expect_image(&self, rt: &impl Abort, wanted: &[u8], what: &str, row: &str) {
+        expect_bytes(rt, &self.image, wanted, what, row);
     }
 }
 
-/// Ends the test where this does not hold, and says of which row.
+/// Ends the test where this does not hold, and says of which row. What was wanted is said by `what`.
 pub fn expect(rt: &impl Abort, holds: bool, what: &str, row: &str) {
     assert!(rt; holds, "{what} of {row}");
 }

@@ -5,7 +5,8 @@ use super::failures::expect_failures;
 use super::support::{Machine, fields};
 use super::{images, scripts};
 
-/// Scripts, in the form of those of every command.
+/// Scripts, with the columns of the table of scripts in `scripts`: the name of the row, the format, the script, its
+/// replies, lines and writes and syncs, what `check` prints, and another script or `-`.
 static ROWS: &str = "\
     an attribute is set, read, moved and removed|format2 4 1 ruler zeros|\
         make /d\nset /d k 41\nget /d k\nrename /d /e\nattrs /e\nspace\nremove /e\nspace\n|\
@@ -57,14 +58,16 @@ fn scripts_with_attributes_are_answered(rt: HostRuntime) {
     }
 }
 
-/// Images, in the form of those that no script leaves. In most of them the slot has two cells: `/a` at byte 16,516,
-/// and its attribute `k` at byte 16,898.
+/// Images, with the columns of the table of images in `images`: the name of the row, the format, the script, blocks
+/// that are copied, bytes that are written over, what `check` prints, and a script for the tree or `-`. In most of them
+/// the slot has two cells: `/a` at byte 16,516, and its attribute `k` at byte 16,898.
 static IMAGES: &str = "\
-    `/d` and its attribute `k` in the first slot, byte for byte|format2 4 1 ruler zeros|||\
+    a directory and its attribute, byte for byte|format2 4 1 ruler zeros|||\
         28672:1 28803:2 28804:100 28929:1 28930:1 29186:100 29188:1 29189:107 29311:2 29312:4 29313:65|\
         clean 1 1 0 0\n|make /d\nset /d k 41\n#\
-    another name|format2 1 1 ruler zeros|make /a\nset /a k 41\n||16901:106|clean 1 1 0 0\n|make /a\nset /a j 41\n#\
-    another byte, which is not noticed|format2 1 1 ruler zeros|make /a\nset /a k 41\n||17025:66|\
+    another name of an attribute|format2 1 1 ruler zeros|make /a\nset /a k 41\n||16901:106|clean 1 1 0 0\n|make /a\n\
+        set /a j 41\n#\
+    another byte of a value, which is not noticed|format2 1 1 ruler zeros|make /a\nset /a k 41\n||17025:66|\
         clean 1 1 0 0\n|make /a\nset /a k 42\n#\
     an attribute without its path|format2 1 1 ruler zeros|make /a\n||\
         16517:0 16518:1 16519:107 16641:2 16642:4 16643:65|damaged\n|-#\
@@ -100,7 +103,9 @@ fn images_with_attributes_are_found_clean_or_not(rt: HostRuntime) {
     }
 }
 
-/// Calls that are cut short, in the form of the others.
+/// Calls that are cut short, with the columns of the table of calls in `failures`: the name of the row, the format, the
+/// script, blocks that are copied, bytes that are written over, the words of the call, its script, what it prints, and
+/// a script for the tree that it leaves.
 static CALLS: &str = "\
     an attribute is set|format2 1 1 ruler zeros|make /d\n|||run|set /d k 41\n|ok\n|make /d\nset /d k 41\n#\
     a directory is moved with its attributes|format2 1 1 ruler zeros|\

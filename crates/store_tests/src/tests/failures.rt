@@ -8,10 +8,16 @@ use std::process::Abort;
 /// More calls of the disk than any call here makes.
 const MOST_CALLS: u64 = 200;
 
-/// What a row shows; the image, as in the tables of images that no script leaves, of which the first block is zeros
-/// where one is to be made; the words and the script of the call that is cut short; what it prints where nothing
-/// fails; and a script for the tree whose layout it leaves then, of version 2 where it is an upgrade. A wipe leaves
-/// zeros. What comes next behind a load is a run. Behind the first three of them the next call is cut short in turn.
+/// The columns are:
+///
+/// - the name of the row: what it shows;
+/// - four columns for the image that is found, as in the table of images that no script leaves: format, script, blocks
+///   that are copied, bytes that are written over. The first block is zeros where an image is to be made;
+/// - the words of the call that is cut short, and its script;
+/// - what it prints where nothing fails;
+/// - a script for the tree whose layout it leaves then, of version 2 where it is an upgrade. A wipe leaves zeros.
+///
+/// What comes next behind a load is a run. Behind the first three rows the next call is cut short in turn.
 static CALLS: &str = "\
     a page displaces another one round the end|format 4 2 ruler zeros|make /Ua\n|||run|make /UU\n|ok\n|\
         make /UU\nmake /Ua\n#\
@@ -30,8 +36,8 @@ static CALLS: &str = "\
         make /b\nmake /c\nmake /d\nmake /e\nmake /f\nmake /g\nmake /h\nmake /i\nmake /j\nmake /k\n#\
     the journal behind a flag is carried out|format 1 1 ruler zeros|make /a\n|4:3 1:4|4096:127 8192:1|\
         run|list /\n|d a\nend\n|make /a\n#\
-    an image is made|format 1 1 ruler zeros||1:0||format 1 1 ruler zeros|||#\
-    one of version 2 is made|format2 1 1 ruler zeros||1:0||format2 1 1 ruler zeros|||#\
+    an image of version 1 is made|format 1 1 ruler zeros||1:0||format 1 1 ruler zeros|||#\
+    an image of version 2 is made|format2 1 1 ruler zeros||1:0||format2 1 1 ruler zeros|||#\
     a byte in a free slot is scrubbed|format 4 2 ruler zeros|make /Ua\n||36873:127|scrub||clean 2 1 0 0\n|make /Ua\n#\
     an image is wiped|format 1 1 ruler zeros|make /a\n|||wipe|||";
 
@@ -65,20 +71,20 @@ fn next_status(machine: &Machine, row: [&str; 9]) -> u8 {
     }
 }
 
-/// Makes the next call with no script, where nothing fails, and answers whether that ends with its status. A scrub
-/// prints what the row says, and all else nothing.
-fn is_next_ended(rt: &impl Abort, machine: &mut Machine, row: [&str; 9]) -> bool {
+/// Makes the next call with no script, where nothing fails, and looks whether that ends with its status. A scrub prints
+/// what the row says, and all else nothing.
+fn expect_next_end(rt: &impl Abort, machine: &mut Machine, row: [&str; 9]) {
     let status = next_status(machine, row);
     let written = if row[5] == "scrub" { row[7] } else { "" };
     machine.call(rt, next_words(row), "");
-    (machine.ended.status == status) & (machine.written() == written.as_bytes())
+    let done = machine.ended.done;
+    machine.expect_end(rt, status, done, written, "the next call", row[0]);
 }
 
 /// Looks whether a call with the words of the row, where nothing fails, leaves this image.
 fn expect_image(rt: &impl Abort, machine: &mut Machine, row: [&str; 9], image: &[u8]) {
-    let is_ended = is_next_ended(rt, machine, row);
-    let holds = is_ended & (machine.image() == image);
-    expect(rt, holds, "the next call", row[0]);
+    expect_next_end(rt, machine, row);
+    machine.expect_bytes(rt, image, "the next call", row[0]);
 }
 
 /// Looks whether a call with the words of the row on what is left, cut short at each call of the disk, leaves what one
@@ -105,7 +111,7 @@ fn expect_image_at_each_call(
         }
         behind = ended.calls;
     }
-    expect(rt, false, "the end", row[0]);
+    expect(rt, false, "an end before the most calls", row[0]);
 }
 
 /// Looks whether what is left is no image, or the whole of this one: its first byte is zero, or only that may be
@@ -114,9 +120,11 @@ fn expect_whole_or_none(rt: &impl Abort, machine: &mut Machine, whole: &[u8], ro
     let left = machine.image();
     let is_whole = left == whole;
     let is_rest = !whole.is_empty() && left.ends_with(&whole[1..]);
-    expect(rt, is_rest || left.starts_with(&[0]), "what is left", row);
-    let is_none = is_whole || machine.is_reported(rt, NOT_IMAGE);
-    expect(rt, is_none, "the report", row);
+    let holds = is_rest || left.starts_with(&[0]);
+    expect(rt, holds, "no image, or the whole of the new one,", row);
+    if !is_whole {
+        machine.expect_report(rt, NOT_IMAGE, "the report", row);
+    }
 }
 
 /// Looks whether a run of no line opens what is left of a scrub as the scrubbed image, or refuses it and leaves it.
@@ -132,13 +140,18 @@ fn expect_opened_or_refused(
     let left = machine.copy(rt);
     machine.call(rt, "run", "");
     let image = machine.image();
-    let holds = match (row[5], machine.ended.status) {
+    let status = machine.ended.status;
+    let holds = match (row[5], status) {
         ("upgrade", 0) => (image == images.found) | (is_written & (image == images.new)),
         ("scrub", 0) => image == images.new,
         ("scrub", 7 | 8) => image == left.as_slice(),
         _ => false,
     };
-    expect(rt, holds, "a run", row[0]);
+    assert!(rt;
+        holds,
+        "a run of what is left of {}: status {status}, and not the image that this one leaves",
+        row[0]
+    );
     machine.load(rt, &left);
 }
 
@@ -161,11 +174,10 @@ fn next_image<'a>(
     images: &Images<'a>,
     may_be_new: bool,
 ) -> &'a [u8] {
-    let is_ended = is_next_ended(rt, machine, row);
+    expect_next_end(rt, machine, row);
     let is_new = may_be_new & (machine.image() == images.new);
     let image = if is_new { images.new } else { images.old };
-    let holds = is_ended & (machine.image() == image);
-    expect(rt, holds, "the next call", row[0]);
+    machine.expect_bytes(rt, image, "the next call", row[0]);
     image
 }
 
@@ -180,7 +192,7 @@ fn expect_cut_short(
     again: bool,
 ) {
     let is_written = machine.ended.calls[0] != 0;
-    expect(rt, machine.is_ended(5, 0, ""), "a fault", row[0]);
+    machine.expect_end(rt, 5, 0, "", "a fault", row[0]);
     expect_no_part(rt, machine, row, images);
     let left = machine.copy(rt);
     let image = next_image(rt, machine, row, images, is_written);
@@ -197,9 +209,8 @@ fn expect_done(
     row: [&str; 9],
     images: &Images<'_>,
 ) {
-    let is_ended = machine.is_ended(status_of(row[7]), 1, row[7]);
-    let is_left = machine.image() == images.new;
-    expect(rt, is_ended & is_left, "the end", row[0]);
+    machine.expect_end(rt, status_of(row[7]), 1, row[7], "the end", row[0]);
+    machine.expect_bytes(rt, images.new, "the end", row[0]);
     if images.again {
         expect_image_at_each_call(rt, machine, images.new, crash, row, images.new);
     } else {
@@ -237,10 +248,15 @@ fn calls_of(
 /// first fault ends the call, so that each of its calls of the disk is one that fails in each of these.
 fn expect_each_way(rt: &impl Abort, machine: &mut Machine, row: [&str; 9], images: &Images<'_>) {
     let calls = calls_of(rt, machine, None, row, images);
-    expect(rt, calls < MOST_CALLS, "the end", row[0]);
+    expect(
+        rt,
+        calls < MOST_CALLS,
+        "an end before the most calls",
+        row[0],
+    );
     for choice in &CHOICES {
         let same = calls_of(rt, machine, Some(*choice), row, images);
-        expect(rt, same == calls, "the calls", row[0]);
+        assert_eq!(rt; same, calls, "the calls of {}", row[0]);
     }
 }
 

@@ -1,7 +1,7 @@
 //! The word `big`: the four lines that sum up the commands of a number, and what is left where the disk or the sink
 //! fails.
 
-use super::support::{CALM, LEAST, Machine, Outside, expect, fields, number};
+use super::support::{CALM, LEAST, Machine, Outside, fields, number};
 use std::process::Abort;
 
 /// There is room for two thousand commands, and nothing fails.
@@ -16,12 +16,14 @@ const SHORT: Outside = Outside {
     ..CALM
 };
 
-/// The format; the words, and how many commands, which are all carried out; the summary; and what `check` prints of the
-/// image that is left. The one command of the first row writes into a directory that is not there.
+/// The columns are: the name of the row; the format; the words; how many commands they ask for, which are all carried
+/// out; the summary; and what `check` prints of the image that is left. The one command of the first row writes into a
+/// directory that is not there.
 static ROWS: &str = "\
-    format 1 1 ruler zeros|big 0 1|1|\
-        ok 0\nno 1\nspace 0 1\ndigest c5f79e5e0daaa71b3e8435c05e875f639453faaadde46980a1d0d07116539273\n|clean 0 0 0 0\n#\
-    format 256 3 sha256 zeros|big 7 2000|2000|\
+    one command of number 0|format 1 1 ruler zeros|big 0 1|1|\
+        ok 0\nno 1\nspace 0 1\ndigest c5f79e5e0daaa71b3e8435c05e875f639453faaadde46980a1d0d07116539273\n|clean 0 0 0 \
+            0\n#\
+    two thousand commands of number 7|format 256 3 sha256 zeros|big 7 2000|2000|\
         ok 1280\nno 720\nspace 30 256\n\
         digest 85abbd4902bfcd42f9e732cda3d1343acf2bc237260cf683ebbd9992ee06f3d9\n|clean 30 8 105 376\n";
 
@@ -33,14 +35,9 @@ fn generate(rt: &impl Abort, machine: &mut Machine, format: &str, words: &str, o
 
 /// Looks whether the commands of the row come to what it says.
 fn expect_row(rt: &impl Abort, machine: &mut Machine, row: [&str; 9]) {
-    generate(rt, machine, row[0], row[1], &LONG);
-    expect(
-        rt,
-        machine.is_ended(0, number(rt, row[2]), row[3]),
-        "summary",
-        row[0],
-    );
-    expect(rt, machine.is_reported(rt, row[4]), "report", row[0]);
+    generate(rt, machine, row[1], row[2], &LONG);
+    machine.expect_end(rt, 0, number(rt, row[3]), row[4], "summary", row[0]);
+    machine.expect_report(rt, row[5], "report", row[0]);
 }
 
 #[test]
@@ -54,21 +51,25 @@ fn commands_of_a_number_are_summed_up(rt: HostRuntime) {
     }
 }
 
-/// What is written of a summary before its first put, which fails, before its second one, and before its third one.
-static CUT_OFF: &str = "#ok 0\nno 1\n#ok 0\nno 1\nspace 0 1\n";
+/// The columns are: the name of the row; the put that fails; and what is written of a summary before it.
+static CUT_OFF: &str = "\
+    no line|0|#\
+    two lines|1|ok 0\nno 1\n#\
+    three lines|2|ok 0\nno 1\nspace 0 1\n";
 
-/// Looks whether a summary is cut off behind these lines where this put fails.
-fn expect_cut_off(rt: &impl Abort, machine: &mut Machine, put: u64, written: &str) {
+/// Looks whether a summary is cut off behind the lines of the row where its put fails.
+fn expect_cut_off(rt: &impl Abort, machine: &mut Machine, row: [&str; 9]) {
+    let put = number(rt, row[1]);
     let outside = Outside { put, ..SHORT };
     generate(rt, machine, LEAST, "big 0 1", &outside);
-    expect(rt, machine.is_ended(4, 1, written), "summary", written);
+    machine.expect_end(rt, 4, 1, row[2], "summary", row[0]);
 }
 
 #[test]
 fn a_summary_is_cut_off_where_the_sink_fails(rt: HostRuntime) {
     let mut machine = Machine::new(rt.alloc());
-    for (put, written) in CUT_OFF.split('#').enumerate() {
-        expect_cut_off(&rt, &mut machine, put as u64, written);
+    for row in CUT_OFF.split('#') {
+        expect_cut_off(&rt, &mut machine, fields(row));
     }
 }
 
@@ -94,7 +95,10 @@ fn is_after(rt: &impl Abort, machine: &mut Machine, image: &[u8], done: u64) -> 
 fn expect_after(rt: &impl Abort, machine: &mut Machine, image: &[u8], done: u64) {
     let is_found = is_after(rt, machine, image, done)
         || is_after(rt, machine, image, done.saturating_add(1));
-    expect(rt, is_found, "tree", "a fault");
+    assert!(rt;
+        is_found,
+        "the tree behind a fault: neither that after {done} commands nor that after one more"
+    );
 }
 
 /// Looks whether the commands of number 7 end where the disk fails from this call on, and whether the next run finds
@@ -102,7 +106,7 @@ fn expect_after(rt: &impl Abort, machine: &mut Machine, image: &[u8], done: u64)
 fn expect_fault(rt: &impl Abort, machine: &mut Machine, from: u64) {
     generate_seven(rt, machine, "big 7 10", &Outside { from, ..SHORT });
     let done = machine.ended.done;
-    expect(rt, machine.is_ended(5, done, ""), "end", "a fault");
+    machine.expect_end(rt, 5, done, "", "end", "a fault");
     machine.call(rt, "run", "");
     let found = machine.copy(rt);
     expect_after(rt, machine, &found, done);

@@ -4,20 +4,28 @@
 use super::support::{CALM, LEAST, Machine, expect, fields, number, status_of};
 use std::process::Abort;
 
-/// What a row shows; the format and the script of an image; what is written over: blocks that are copied to another
-/// place, where from and where to, both counted in blocks, and bytes at their places, or one byte in so many places
-/// from one on; what `check` prints; a script for the tree that the image represents, or `-` where it represents none;
-/// `-` where a free slot is not zero, so that a scrub comes to something else; and the word that makes such an image,
-/// where it is of another version than the format says. Elsewhere a scrub prints the same as `check`.
+/// The columns are:
+///
+/// - the name of the row: what the image is;
+/// - the format and the script of an image, in two columns;
+/// - blocks of it that are copied over others, `FROM:TO`, both counted in blocks and parted by blanks;
+/// - bytes that are written over it then, `PLACE:BYTE`, or `PLACE+COUNT:BYTE` for one byte in so many places;
+/// - what `check` prints;
+/// - a script for the tree that the image represents, or `-` where it represents none;
+/// - `-` where a free slot is not zero, so that a scrub comes to something else. Elsewhere a scrub prints what `check`
+///   prints;
+/// - the word that makes such an image, where it is of another version than the format says.
 static IMAGES: &str = "\
     nothing is written over|format 1 1 ruler zeros|make /a\n|||clean 1 1 0 0\n|make /a\n#\
-    nor over a short file|format 1 1 ruler zeros|write /f 0 41\n|||clean 1 0 1 1\n|write /f 0 41\n#\
-    nor over one of version 2|format2 1 1 ruler zeros|write /f 0 41\n|||clean 1 0 1 1\n|write /f 0 41\n#\
+    nothing is written over, with a short file|format 1 1 ruler zeros|write /f 0 41\n|||clean 1 0 1 1\n|\
+        write /f 0 41\n#\
+    nothing is written over, with a short file under version 2|format2 1 1 ruler zeros|write /f 0 41\n|||\
+        clean 1 0 1 1\n|write /f 0 41\n#\
     a byte in a free slot|format 4 2 ruler zeros|make /Ua\n||36873:127|damaged\n|-|-#\
     slots in each other's places|format 4 2 ruler zeros|make /Ua\nmake /UU\n|7:10 10:7||damaged\n|-#\
     one slot twice|format 4 2 ruler zeros|make /Ua\nmake /UU\n|10:9||damaged\n|-#\
     a slot that is missing|format 4 2 ruler zeros|make /Ua\nmake /UU\n|9:8||damaged\n|-#\
-    more pages than slots: the page above those of `/Ua` and `/UU` has none|format 2 2 ruler zeros|make /Ua\n|6:5|\
+    more pages than slots: that of level 1 has none|format 2 2 ruler zeros|make /Ua\n|6:5|\
         20484:85 20613:85|damaged\n|-#\
     the header's first byte|format 1 1 ruler zeros|make /a\n||0:0|not-image\n|-#\
     the header's slots|format 1 1 ruler zeros|make /a\n||11:2|not-image\n|-#\
@@ -31,25 +39,28 @@ static IMAGES: &str = "\
     version 2 of a tree without a file|format 1 1 ruler zeros|make /a\n||14:2|clean 1 1 0 0\n|make /a\n||format2#\
     version 1 of a tree without a file|format2 1 1 ruler zeros|make /a\n||14:1|clean 1 1 0 0\n|make /a\n||format#\
     version 2 of no tree but the root|format 1 1 ruler zeros|||14:2|clean 0 0 0 0\n|||format2#\
-    the mark of version 2, behind its flag|format 1 1 ruler zeros|make /a\n||4096:1 8193:127|clean 1 1 0 0\n|\
+    the flag and the mark of version 2|format 1 1 ruler zeros|make /a\n||4096:1 8193:127|clean 1 1 0 0\n|\
         make /a\n||format2#\
-    another value of the mark|format 1 1 ruler zeros|||4096:1 8193:1|clean 0 0 0 0\n|||format2#\
-    others over version 0|format 1 1 ruler zeros|||14:0 4096:128 8193:255|clean 0 0 0 0\n|||format2#\
-    over version 2|format2 1 1 ruler zeros|||4096:1 8193:1|clean 0 0 0 0\n|#\
-    over version 3|format 1 1 ruler zeros|make /a\n||14:3 4096:255 8193:2|clean 1 1 0 0\n|make /a\n||format2#\
-    over version 127|format 1 1 ruler zeros|||14:127 4096:1 8193:1|clean 0 0 0 0\n|||format2#\
-    over version 255|format 1 1 ruler zeros|make /a\n||14:255 4096:1 8193:128|clean 1 1 0 0\n|make /a\n||format2#\
-    with four slots|format 4 2 ruler zeros|make /Ua\n||4096:1 8196:1|clean 2 1 0 0\n|make /Ua\n||format2#\
-    over version 127, without the flag|format 1 1 ruler zeros|||14:127 8193:1|not-image\n|-#\
-    over version 0, without the flag|format 1 1 ruler zeros|make /a\n||14:0 8193:255|not-image\n|-#\
+    the flag and another value of the mark|format 1 1 ruler zeros|||4096:1 8193:1|clean 0 0 0 0\n|||format2#\
+    flag and mark over version 0|format 1 1 ruler zeros|||14:0 4096:128 8193:255|clean 0 0 0 0\n|||format2#\
+    flag and mark over version 2|format2 1 1 ruler zeros|||4096:1 8193:1|clean 0 0 0 0\n|#\
+    flag and mark over version 3|format 1 1 ruler zeros|make /a\n||14:3 4096:255 8193:2|clean 1 1 0 0\n|make /a\n||\
+        format2#\
+    flag and mark over version 127|format 1 1 ruler zeros|||14:127 4096:1 8193:1|clean 0 0 0 0\n|||format2#\
+    flag and mark over version 255|format 1 1 ruler zeros|make /a\n||14:255 4096:1 8193:128|clean 1 1 0 0\n|make /a\n|\
+        |format2#\
+    flag and mark of four slots|format 4 2 ruler zeros|make /Ua\n||4096:1 8196:1|clean 2 1 0 0\n|make /Ua\n||format2#\
+    the mark over version 127, without the flag|format 1 1 ruler zeros|||14:127 8193:1|not-image\n|-#\
+    the mark over version 0, without the flag|format 1 1 ruler zeros|make /a\n||14:0 8193:255|not-image\n|-#\
     the mark of version 2, without the flag|format 1 1 ruler zeros|||8193:1|clean 0 0 0 0\n|#\
     another value of the mark, without the flag|format 1 1 ruler zeros|make /a\n||8193:127|clean 1 1 0 0\n|make /a\n#\
-    the largest, without the flag|format 1 1 ruler zeros|make /a\n||8193:255|clean 1 1 0 0\n|make /a\n#\
-    the mark, where the header has version 2|format2 1 1 ruler zeros|make /a\n||8193:1|clean 1 1 0 0\n|make /a\n#\
+    the largest value of the mark, without the flag|format 1 1 ruler zeros|make /a\n||8193:255|clean 1 1 0 0\n|\
+        make /a\n#\
+    the mark over version 2, without the flag|format2 1 1 ruler zeros|make /a\n||8193:1|clean 1 1 0 0\n|make /a\n#\
     the flag without a mark|format 1 1 ruler zeros|make /a\n||4096:255|clean 1 1 0 0\n|make /a\n#\
     the flag without a mark, over version 0|format 1 1 ruler zeros|make /a\n||14:0 4096:1|not-image\n|-#\
     the flag without a mark, over version 2|format2 1 1 ruler zeros|make /a\n||4096:1|clean 1 1 0 0\n|make /a\n#\
-    a mark behind that of the version|format 1 1 ruler zeros|||4096:1 8194:1|clean 0 0 0 0\n|#\
+    the flag, and a mark behind that of the version|format 1 1 ruler zeros|||4096:1 8194:1|clean 0 0 0 0\n|#\
     flag and mark, and the header's byte behind the version|format 1 1 ruler zeros|||15:1 4096:1 8193:1|not-image\n|-#\
     flag and mark of two slots, on the length of one|format 1 1 ruler zeros|||11:2 14:0 4096:1 8194:1|not-image\n|-#\
     the header's byte behind the version|format 1 1 ruler zeros|make /a\n||15:1|not-image\n|-#\
@@ -79,7 +90,8 @@ static IMAGES: &str = "\
     a file that is longer than its block|format 1 1 ruler zeros|write /f 0 00\n||16646:2|damaged\n|-#\
     a file that is shorter than its block|format 1 1 ruler zeros|write /f 0 00\n||16646:0|damaged\n|-#\
     a block with another number|format 1 1 ruler zeros|write /f 0 00\n||17021:2|damaged\n|-#\
-    a file's byte, which is not noticed|format 1 1 ruler zeros|write /f 0 00\n||17024:1|clean 1 0 1 1\n|write /f 0 01\n#\
+    a file's byte, which is not noticed|format 1 1 ruler zeros|write /f 0 00\n||17024:1|clean 1 0 \
+        1 1\n|write /f 0 01\n#\
     a directory that becomes a short file of no byte|format 1 1 ruler zeros|make /a\n||14:2 16642:3|\
         clean 1 0 1 0\n|write /a 0 -\n||format2#\
     a short file as version 2 has it, under version 1|format2 1 1 ruler zeros|write /f 0 41\n||14:1|damaged\n|-#\
@@ -107,15 +119,15 @@ static IMAGES: &str = "\
         414141414141414141414141414141414141414141414141414141414141414141414141414141414141\n||format2#\
     a journal with the slot of version 2, and without its mark|format 1 1 ruler zeros|write /f 0 41\n||\
         4096:1 8192:1 12288:1 12419:1 12420:102 12545:2 12546:3 12547:65|damaged\n|-#\
-    the same journal with the mark|format 1 1 ruler zeros|write /f 0 41\n||\
+    a journal with the slot of version 2, and with its mark|format 1 1 ruler zeros|write /f 0 41\n||\
         4096:1 8192+2:1 12288:1 12419:1 12420:102 12545:2 12546:3 12547:65|clean 1 0 1 1\n|write /f 0 41\n||format2#\
-    without the flag|format 1 1 ruler zeros|write /f 0 41\n||\
+    that journal with its mark, and without the flag|format 1 1 ruler zeros|write /f 0 41\n||\
         8192+2:1 12288:1 12419:1 12420:102 12545:2 12546:3 12547:65|clean 1 0 1 1\n|write /f 0 41\n#\
-    where header and table have version 2|format2 1 1 ruler zeros|write /f 0 41\n||\
+    that journal where header and table have version 2|format2 1 1 ruler zeros|write /f 0 41\n||\
         4096:1 8192+2:1 12288:1 12419:1 12420:102 12545:2 12546:3 12547:65|clean 1 0 1 1\n|write /f 0 41\n#\
-    where the slot alone has version 2|format2 1 1 ruler zeros|write /f 0 41\n||\
+    that journal where the slot alone has version 2|format2 1 1 ruler zeros|write /f 0 41\n||\
         14:1 4096:1 8192+2:1 12288:1 12419:1 12420:102 12545:2 12546:3 12547:65|clean 1 0 1 1\n|write /f 0 41\n#\
-    where the header alone has version 2|format 1 1 ruler zeros|write /f 0 41\n||\
+    that journal where the header alone has version 2|format 1 1 ruler zeros|write /f 0 41\n||\
         14:2 4096:1 8192+2:1 12288:1 12419:1 12420:102 12545:2 12546:3 12547:65|clean 1 0 1 1\n|\
         write /f 0 41\n||format2#\
     a journal behind its flag|format 1 1 ruler zeros|make /a\n|4:3 1:4|4096:127 8192:1|clean 1 1 0 0\n|make /a\n#\
@@ -211,10 +223,16 @@ fn expect_call(
 ) {
     machine.load(rt, found);
     machine.call(rt, call.word, call.script);
-    let is_ended = machine.is_ended(status_of(row[5]), call.done, call.written);
-    let is_left = machine.image() == call.left;
+    let status = status_of(row[5]);
+    machine.expect_end(rt, status, call.done, call.written, call.word, row[0]);
+    machine.expect_bytes(rt, call.left, call.word, row[0]);
     let is_quiet = (call.left != found) | (machine.ended.calls[0] == 0);
-    expect(rt, is_ended & is_left & is_quiet, call.word, row[0]);
+    expect(
+        rt,
+        is_quiet,
+        "no write by a call that leaves the image",
+        row[0],
+    );
 }
 
 /// Looks whether a check and a scrub print what the row says. The check leaves the image as it is.
@@ -275,18 +293,18 @@ fn expect_dumped(rt: &impl Abort, machine: &mut Machine, row: [&str; 9], images:
     machine.load(rt, images.found);
     machine.call(rt, "dump", "make /b\n");
     let has_tree = row[6] != "-";
-    let is_ended = (machine.ended.status == status_of(row[5]))
-        & (machine.ended.done == u64::from(has_tree));
-    let is_left = machine.image() == images.left;
-    expect(rt, is_ended & is_left, "dump", row[0]);
+    let ended = (machine.ended.status, machine.ended.done);
+    let wanted = (status_of(row[5]), u64::from(has_tree));
+    assert_eq!(rt; ended, wanted, "status and lines done, dump of {}", row[0]);
+    machine.expect_bytes(rt, images.left, "dump", row[0]);
     let listing = machine.copy_written(rt);
     if has_tree {
         make_empty(rt, machine, row);
         machine.call_in(rt, "load", &listing, &CALM);
-        let is_loaded = machine.is_ended(0, 1, "") & (machine.image() == images.left);
-        expect(rt, is_loaded, "load", row[0]);
+        machine.expect_end(rt, 0, 1, "", "load of its dump", row[0]);
+        machine.expect_bytes(rt, images.left, "load of its dump", row[0]);
     } else {
-        expect(rt, listing.is_empty(), "dump", row[0]);
+        expect(rt, listing.is_empty(), "no line of a dump", row[0]);
     }
 }
 
@@ -300,13 +318,8 @@ fn expect_unloaded(rt: &impl Abort, machine: &mut Machine, row: [&str; 9], image
         "" => 0,
         _ => 14,
     };
-    let is_ended = machine.is_ended(status, u64::from(status == 0), "");
-    expect(
-        rt,
-        is_ended & (machine.image() == images.left),
-        "load",
-        row[0],
-    );
+    machine.expect_end(rt, status, u64::from(status == 0), "", "load", row[0]);
+    machine.expect_bytes(rt, images.left, "load", row[0]);
 }
 
 /// Has the image of the empty tree that is of the parameters of the row's image.
@@ -357,8 +370,8 @@ fn images_are_found_clean_or_not(rt: HostRuntime) {
 /// Lengths that no number of slots has: no byte, a byte less than one slot asks for, a byte more, and a block more.
 static LENGTHS: [usize; 4] = [0, 20_479, 20_481, 24_576];
 
-/// Calls on a disk of such a length that begins as an image of one slot does: the words, the status, what is done and
-/// what is printed.
+/// Calls on a disk of such a length that begins as an image of one slot does. The columns are: the words, by which the
+/// row is named; the status; how many lines are done; and what is printed.
 static REFUSED: &str = "\
     check|7|1|not-image\n#\
     scrub|7|1|not-image\n#\
@@ -376,9 +389,14 @@ fn expect_refused(rt: &impl Abort, machine: &mut Machine, image: &[u8], row: [&s
     machine.load(rt, image);
     machine.call(rt, row[0], "make /b\n");
     let status = row[1].parse::<u8>().expect(rt, "a status");
-    let is_ended = machine.is_ended(status, number(rt, row[2]), row[3]);
-    let is_kept = (machine.ended.calls[0] == 0) & (machine.image() == image);
-    expect(rt, is_ended & is_kept, "refusal", row[0]);
+    machine.expect_end(rt, status, number(rt, row[2]), row[3], "refusal", row[0]);
+    machine.expect_bytes(rt, image, "refusal", row[0]);
+    expect(
+        rt,
+        machine.ended.calls[0] == 0,
+        "no write by a refusal",
+        row[0],
+    );
 }
 
 /// Looks at that for each call on the image of a directory, cut to this length or with zeros behind it.

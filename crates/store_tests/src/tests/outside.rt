@@ -1,6 +1,6 @@
 //! Calls whose disk, source or sink fails.
 
-use super::support::{CALM, LEAST, Machine, Outside, expect};
+use super::support::{CALM, LEAST, Machine, Outside};
 use disk_model::{FailingDisk, MemDisk};
 use script_lines::{Reply, parse_command};
 use std::alloc::Global;
@@ -11,19 +11,22 @@ use store_core::{ApplyFault, Store};
 /// commit flag: two syncs of opening the image, a block and its mark, a sync, the flag and a sync.
 const TILL_THE_SLOT: u64 = 2 * 16 + (4096 + 16) + (1 + 16) + 16 + (1 + 16) + 16;
 
-/// A call on the least image with the script `make /a`, `list /`, where something of the outside fails.
+/// A call on the least image with the script `make /a`, `list /`, where something of the outside fails: the name of the
+/// row; the word; what fails; the status, how many lines are done and what is printed; and a script for the tree that
+/// is left.
 struct Failing {
+    row: &'static str,
     word: &'static str,
     outside: Outside,
     status: u8,
     done: u64,
     written: &'static str,
-    /// A script for the tree that is left.
     tree: &'static str,
 }
 
 /// A call where nothing fails.
 const NOTHING: Failing = Failing {
+    row: "nothing fails",
     word: "run",
     outside: CALM,
     status: 0,
@@ -32,65 +35,76 @@ const NOTHING: Failing = Failing {
     tree: "make /a\n",
 };
 
-/// Each take and each put in turn, one behind the last of each, which no call makes; and calls of the disk.
+/// Each take and each put in turn, one behind the last of each, which no call makes; and calls of the disk. A row has
+/// what it says, and elsewhere what that has in which nothing fails.
 #[rattlefmt::skip]
 static FAILURES: [Failing; 28] = [
     NOTHING,
-    Failing { outside: Outside { take: 0, ..CALM }, status: 3, done: 0, written: "", tree: "", ..NOTHING },
+    Failing { row: "take 0 of a run", outside: Outside { take: 0, ..CALM }, status: 3, done: 0,
+        written: "", tree: "", ..NOTHING },
     // The first line and the beginning of the second one have come.
-    Failing { outside: Outside { piece: 10, take: 1, ..CALM }, status: 3, done: 1, written: "ok\n", ..NOTHING },
-    Failing { outside: Outside { piece: 10, take: 2, ..CALM }, status: 3, ..NOTHING },
-    Failing { outside: Outside { piece: 10, take: 3, ..CALM }, ..NOTHING },
-    Failing { outside: Outside { put: 0, ..CALM }, status: 4, done: 1, written: "", ..NOTHING },
-    Failing { outside: Outside { put: 1, ..CALM }, status: 4, written: "ok\n", ..NOTHING },
-    Failing { outside: Outside { put: 2, ..CALM }, ..NOTHING },
-    Failing { outside: Outside { sink_room: 5, ..CALM }, status: 4, written: "ok\n", ..NOTHING },
-    Failing { outside: Outside { from: 0, ..CALM }, status: 5, done: 0, written: "", tree: "", ..NOTHING },
+    Failing { row: "take 1 of a run, in a line", outside: Outside { piece: 10, take: 1, ..CALM }, status: 3, done: 1,
+        written: "ok\n", ..NOTHING },
+    Failing { row: "take 2 of a run", outside: Outside { piece: 10, take: 2, ..CALM }, status: 3, ..NOTHING },
+    Failing { row: "take 3 of a run, which it does not make", outside: Outside { piece: 10, take: 3, ..CALM },
+        ..NOTHING },
+    Failing { row: "put 0 of a run", outside: Outside { put: 0, ..CALM }, status: 4, done: 1,
+        written: "", ..NOTHING },
+    Failing { row: "put 1 of a run", outside: Outside { put: 1, ..CALM }, status: 4, written: "ok\n", ..NOTHING },
+    Failing { row: "put 2 of a run, which it does not make", outside: Outside { put: 2, ..CALM }, ..NOTHING },
+    Failing { row: "a sink with room for one reply", outside: Outside { sink_room: 5, ..CALM }, status: 4,
+        written: "ok\n", ..NOTHING },
+    Failing { row: "call 0 of the disk of a run", outside: Outside { from: 0, ..CALM }, status: 5, done: 0,
+        written: "", tree: "", ..NOTHING },
     // The second sync of opening the image, the first write, and the write behind the commit flag.
-    Failing { outside: Outside { disk_room: 16, ..CALM }, status: 5, done: 0, written: "", tree: "", ..NOTHING },
-    Failing { outside: Outside { disk_room: 32, ..CALM }, status: 5, done: 0, written: "", tree: "", ..NOTHING },
-    Failing { outside: Outside { disk_room: TILL_THE_SLOT, ..CALM }, status: 5, done: 0, written: "", ..NOTHING },
-    Failing { word: "check", done: 1, written: "clean 0 0 0 0\n", tree: "", ..NOTHING },
-    Failing { word: "check", outside: Outside { put: 0, ..CALM }, status: 4, done: 1,
+    Failing { row: "the second sync of a run", outside: Outside { disk_room: 16, ..CALM }, status: 5, done: 0,
         written: "", tree: "", ..NOTHING },
-    Failing { word: "check", outside: Outside { from: 3, ..CALM }, status: 5, done: 0,
+    Failing { row: "the first write of a run", outside: Outside { disk_room: 32, ..CALM }, status: 5, done: 0,
         written: "", tree: "", ..NOTHING },
-    Failing { word: "scrub", outside: Outside { put: 0, ..CALM }, status: 4, done: 1,
+    Failing { row: "the write of a slot by a run", outside: Outside { disk_room: TILL_THE_SLOT, ..CALM }, status: 5,
+        done: 0, written: "", ..NOTHING },
+    Failing { row: "nothing fails of a check", word: "check", done: 1, written: "clean 0 0 0 0\n", tree: "",
+        ..NOTHING },
+    Failing { row: "put 0 of a check", word: "check", outside: Outside { put: 0, ..CALM }, status: 4, done: 1,
         written: "", tree: "", ..NOTHING },
-    Failing { word: "upgrade", outside: Outside { from: 0, ..CALM }, status: 5, done: 0,
+    Failing { row: "call 3 of the disk of a check", word: "check", outside: Outside { from: 3, ..CALM }, status: 5,
+        done: 0, written: "", tree: "", ..NOTHING },
+    Failing { row: "put 0 of a scrub", word: "scrub", outside: Outside { put: 0, ..CALM }, status: 4, done: 1,
         written: "", tree: "", ..NOTHING },
-    Failing { word: "dump", outside: Outside { from: 0, ..CALM }, status: 5, done: 0,
-        written: "", tree: "", ..NOTHING },
+    Failing { row: "call 0 of the disk of an upgrade", word: "upgrade", outside: Outside { from: 0, ..CALM }, status: 5,
+        done: 0, written: "", tree: "", ..NOTHING },
+    Failing { row: "call 0 of the disk of a dump", word: "dump", outside: Outside { from: 0, ..CALM }, status: 5,
+        done: 0, written: "", tree: "", ..NOTHING },
     // The empty tree has no line, so that nothing is put.
-    Failing { word: "dump", outside: Outside { take: 0, put: 0, ..CALM }, done: 1, written: "", tree: "", ..NOTHING },
+    Failing { row: "take 0 and put 0 of a dump, which it does not make", word: "dump",
+        outside: Outside { take: 0, put: 0, ..CALM }, done: 1, written: "", tree: "", ..NOTHING },
     // `list /` is no line of a listing, which is told at the end of the source.
-    Failing { word: "load", status: 15, done: 0, written: "", tree: "", ..NOTHING },
-    Failing { word: "load", outside: Outside { put: 0, ..CALM }, status: 15, done: 0,
+    Failing { row: "nothing fails of a load", word: "load", status: 15, done: 0, written: "", tree: "", ..NOTHING },
+    Failing { row: "put 0 of a load, which it does not make", word: "load", outside: Outside { put: 0, ..CALM },
+        status: 15, done: 0, written: "", tree: "", ..NOTHING },
+    Failing { row: "take 0 of a load", word: "load", outside: Outside { take: 0, ..CALM }, status: 3, done: 0,
         written: "", tree: "", ..NOTHING },
-    Failing { word: "load", outside: Outside { take: 0, ..CALM }, status: 3, done: 0,
-        written: "", tree: "", ..NOTHING },
-    Failing { word: "load", outside: Outside { piece: 10, take: 1, ..CALM }, status: 3, done: 0,
-        written: "", tree: "", ..NOTHING },
+    Failing { row: "take 1 of a load, in a line", word: "load", outside: Outside { piece: 10, take: 1, ..CALM },
+        status: 3, done: 0, written: "", tree: "", ..NOTHING },
     // The whole of the listing has come, and not the end behind it.
-    Failing { word: "load", outside: Outside { piece: 10, take: 2, ..CALM }, status: 3, done: 0,
-        written: "", tree: "", ..NOTHING },
-    Failing { word: "load", outside: Outside { piece: 10, take: 3, ..CALM }, status: 15, done: 0,
-        written: "", tree: "", ..NOTHING },
-    Failing { word: "load", outside: Outside { from: 0, ..CALM }, status: 5, done: 0,
-        written: "", tree: "", ..NOTHING },
-    Failing { word: "wipe", outside: Outside { from: 0, ..CALM }, status: 5, done: 0,
-        written: "", tree: "", ..NOTHING },
+    Failing { row: "take 2 of a load", word: "load", outside: Outside { piece: 10, take: 2, ..CALM }, status: 3,
+        done: 0, written: "", tree: "", ..NOTHING },
+    Failing { row: "take 3 of a load, which it does not make", word: "load",
+        outside: Outside { piece: 10, take: 3, ..CALM }, status: 15, done: 0, written: "", tree: "", ..NOTHING },
+    Failing { row: "call 0 of the disk of a load", word: "load", outside: Outside { from: 0, ..CALM }, status: 5,
+        done: 0, written: "", tree: "", ..NOTHING },
+    Failing { row: "call 0 of the disk of a wipe", word: "wipe", outside: Outside { from: 0, ..CALM }, status: 5,
+        done: 0, written: "", tree: "", ..NOTHING },
 ];
 
 /// Looks whether the call of the row ends as it says, and the next run finds its tree.
 fn expect_row(rt: &impl Abort, machine: &mut Machine, other: &mut Machine, row: &Failing) {
     machine.format(rt, LEAST);
     machine.call_in(rt, row.word, b"make /a\nlist /\n", &row.outside);
-    let is_ended = machine.is_ended(row.status, row.done, row.written);
+    machine.expect_end(rt, row.status, row.done, row.written, "the end", row.row);
     machine.call(rt, "run", "");
     other.make(rt, LEAST, row.tree);
-    let is_left = machine.image() == other.image();
-    expect(rt, is_ended & is_left, row.word, row.written);
+    machine.expect_bytes(rt, other.image(), "the next run", row.row);
 }
 
 #[test]

@@ -1,6 +1,6 @@
 //! How much of the image commands read.
 
-use super::support::{Machine, expect};
+use super::support::Machine;
 use std::process::Abort;
 
 /// Four commands that change the tree.
@@ -11,7 +11,7 @@ fn read_by(rt: &impl Abort, machine: &mut Machine, image: &[u8], script: &str, d
     machine.load(rt, image);
     machine.call(rt, "run", script);
     let replies = if done == 0 { "" } else { "ok\nok\nok\nok\n" };
-    expect(rt, machine.is_ended(0, done, replies), "replies", script);
+    machine.expect_end(rt, 0, done, replies, "replies", script);
     machine.ended.fetched
 }
 

@@ -1,12 +1,17 @@
 //! Scripts on the image of the empty tree: the replies, the calls of the disk, and the image that is left.
 
-use super::support::{CALM, Machine, expect, fields, number, numbers};
+use super::support::{CALM, Machine, fields, number, numbers};
 use std::alloc::Global;
 use std::process::Abort;
 
-/// What a row shows, by which a test names it; the format; the script and its replies; the lines that are answered, and
-/// the writes and syncs, two syncs of opening the image among them; what `check` prints of the image that is left; and
-/// another script that leaves the same image, or `-` where none is tried.
+/// The columns are:
+///
+/// - the name of the row: what it shows;
+/// - the format;
+/// - the script, and its replies, in two columns;
+/// - three numbers: lines that are answered, writes and syncs, two syncs of opening the image among them;
+/// - what `check` prints of the image that is left;
+/// - another script that leaves the same image, or `-` where none is tried.
 static ROWS: &str = "\
     the least image with a directory|format 1 1 ruler zeros|\
         make /a\nlist /\ndigest\n|\
@@ -24,11 +29,11 @@ static ROWS: &str = "\
         make /Ua\nmake /UU\ndigest\n|\
         ok\nok\ndigest 6ea198fbc585bd8b52d7deaf09a133ff43ae63be96172c38d1564b4fabd3fb55\n|\
         3 29 12|clean 3 2 0 0\n|make /UU\nmake /Ua\n#\
-    the page of `/UU`, which displaced that of `/Ua`, leaves no trace when it goes|format 4 2 ruler zeros|\
+    the page of `/UU` leaves no trace when it goes|format 4 2 ruler zeros|\
         make /Ua\nmake /UU\nremove /UU\ndigest\n|\
         ok\nok\nok\ndigest e0eca01441d60b26cfaacd420894a311570cf27c6ccfd9ee4ea36f547e61270f\n|\
         4 46 17|clean 2 1 0 0\n|make /Ua\n#\
-    a page of its own and one more on the level above have no room; a page for both has|format 2 2 ruler zeros|\
+    two pages more have no room, and one has|format 2 2 ruler zeros|\
         make /Ua\nmake /UU\nmake /a\nrename /a /A\nspace\n|\
         ok\nno full 3 2\nok\nno full 3 2\nspace 2 2\n|\
         5 19 12|clean 2 2 0 0\n|-#\
@@ -37,7 +42,8 @@ static ROWS: &str = "\
         ok\nok\n|\
         2 24 12|clean 0 0 0 0\n|#\
     ten pairs to a page, and no room for an eleventh|format 1 1 ruler zeros|\
-        make /a\nmake /b\nmake /c\nmake /d\nmake /e\nmake /f\nmake /g\nmake /h\nmake /i\nmake /j\nmake /k\nread /z 0 1\n\
+        make /a\nmake /b\nmake /c\nmake /d\nmake /e\nmake /f\nmake /g\nmake /h\nmake /i\nmake \
+            /j\nmake /k\nread /z 0 1\n\
         |\
         ok\nok\nok\nok\nok\nok\nok\nok\nok\nok\nno full 2 1\nno missing\n|\
         12 70 52|clean 1 10 0 0\n|-#\
@@ -45,10 +51,11 @@ static ROWS: &str = "\
         make /Ua\nmake /Ub\nmake /Uc\nmake /Ud\nmake /Ue\nmake /Uf\nmake /Ug\nmake /Uh\nmake /Ui\nmake /Uj\nmake /Uk\n\
         make /Ul\nmake /Um\nmake /Un\nmake /Uo\nmake /Up\nmake /Uq\nmake /Ur\nmake /Us\nmake /Ut\nmake /Uu\nmake /Uv\n\
         make /Uw\nmake /Ux\nmake /Uy\nmake /Uz\nmake /UA\nmake /UB\nmake /UC\nmake /UD\nmake /UE\nmake /UF\nspace\n|\
-        ok\nok\nok\nok\nok\nok\nok\nok\nok\nok\nok\nok\nok\nok\nok\nok\nok\nok\nok\nok\nok\nok\nok\nok\nok\nok\nok\nok\n\
+        ok\nok\nok\nok\nok\nok\nok\nok\nok\nok\nok\nok\nok\nok\nok\nok\nok\nok\nok\nok\nok\nok\nok\nok\nok\nok\nok\n\
+        ok\n\
         ok\nok\nok\nno full 34 33\nspace 32 33\n|\
         33 997 157|clean 32 31 0 0\n|-#\
-    an eleventh pair on a page of its own, which goes when the first is removed|format 4 1 ruler zeros|\
+    an eleventh pair on a page of its own, which goes|format 4 1 ruler zeros|\
         make /a\nmake /b\nmake /c\nmake /d\nmake /e\nmake /f\nmake /g\nmake /h\nmake /i\nmake /j\nmake /k\nspace\n\
         remove /a\nspace\ndigest\n|\
         ok\nok\nok\nok\nok\nok\nok\nok\nok\nok\nok\nspace 2 4\nok\nspace 1 4\n\
@@ -59,7 +66,7 @@ static ROWS: &str = "\
         make /UD\nmake /UE\nmake /Ud\ndigest\n|\
         ok\nok\nok\ndigest 3c39e4e87e454c7db07da53e0704d8615bb942b538d92e6fda18eb98c4c0629f\n|\
         4 36 17|clean 4 3 0 0\n|-#\
-    a removal shifts one page back, and leaves the one that starts behind the hole|format 8 2 ruler zeros|\
+    a removal shifts one page back, and leaves another|format 8 2 ruler zeros|\
         make /UD\nmake /UE\nmake /Ud\nremove /UD\ndigest\n|\
         ok\nok\nok\nok\ndigest 13fe738acbd22788fbb6ab57591fec005e680904e7a216c6269e1c40959994b0\n|\
         5 53 22|clean 3 2 0 0\n|make /Ud\nmake /UE\n#\
@@ -95,12 +102,12 @@ static ROWS: &str = "\
         digest efbbb7369c4e41399dfee002e9f297b43993d7371eb5ddc9475a789573732c71\nok\n\
         digest c821e612321ef0f20216c7a5d0772b8e11db05c9c5f31ccecb915f8c1b676eda\n|\
         3 7 7|clean 1 0 1 1\n|-#\
-    the same file under version 1|format 1 1 ruler zeros|\
+    the least image of version 1|format 1 1 ruler zeros|\
         digest\nwrite /f 0 41\ndigest\n|\
         digest c5f79e5e0daaa71b3e8435c05e875f639453faaadde46980a1d0d07116539273\nok\n\
         digest 054c2953710bf9bfacd3ba3fe6973e4523a4b8709198058b29c874be8443f32f\n|\
         3 7 7|clean 1 0 1 1\n|-#\
-    what leaves that file as it is writes nothing|format 4 1 ruler zeros|\
+    what leaves a file as it is writes nothing|format 4 1 ruler zeros|\
         write /f 0 41\nwrite /f 0 41\nwrite /f 1 -\ncut /f 1\nlist /f\nread /g 0 0\n|\
         ok\nok\nok\nok\nno kind\nno missing\n|\
         6 7 7|clean 1 0 1 1\n|write /f 0 41\n#\
@@ -123,16 +130,20 @@ static ROWS: &str = "\
         ok\nno inside\nno parent\nno parent\nno exists\nok\n|\
         6 14 12|clean 1 0 1 1\n|write /g 0 41\n#\
     a rename of a file into another directory, and of both|format 4 1 ruler zeros|\
-        make /a\nmake /b\nwrite /a/f 0 4142\nrename /a/f /b/g\nrename /b /a/b\nrename /a /c\nrename /c/b /b\nremove /c\n\
+        make /a\nmake /b\nwrite /a/f 0 4142\nrename /a/f /b/g\nrename /b /a/b\nrename /a \
+            /c\nrename /c/b /b\nremove /c\n\
         digest\n|\
         ok\nok\nok\nok\nok\nok\nok\nok\ndigest becdb2255f1660d2a90b9502398fc848f2d476ff20d53dfc9fb594b026aa8e78\n|\
         9 56 42|clean 1 1 1 2\n|make /b\nwrite /b/g 0 4142\n#\
     a name that would be too long by one byte, and one that is not|format 4 1 ruler zeros|\
         make /d\n\
-        make /d/xxxxxxxxxxxxxxxxxxxxxxxxxxxxxxxxxxxxxxxxxxxxxxxxxxxxxxxxxxxxxxxxxxxxxxxxxxxxxxxxxxxxxxxxxxxxxxxxxxxxxxxxxxxxxxxxxxxxx\n\
+        make /d/xxxxxxxxxxxxxxxxxxxxxxxxxxxxxxxxxxxxxxxxxxxxxxxxxxxxxxxxxxxxxxxxxxxxxxxxxxxxxxxxxxxxxxxxxxxxxx\
+        xxxxxxxxxxxxxxxxxxxxxxx\n\
         rename /d /dd\nrename /d /e\n\
-        make /yyyyyyyyyyyyyyyyyyyyyyyyyyyyyyyyyyyyyyyyyyyyyyyyyyyyyyyyyyyyyyyyyyyyyyyyyyyyyyyyyyyyyyyyyyyyyyyyyyyyyyyyyyyyyyyyyyyyyyy\n\
-        make /yyyyyyyyyyyyyyyyyyyyyyyyyyyyyyyyyyyyyyyyyyyyyyyyyyyyyyyyyyyyyyyyyyyyyyyyyyyyyyyyyyyyyyyyyyyyyyyyyyyyyyyyyyyyyyyyyyyyyyyy\n\
+        make /yyyyyyyyyyyyyyyyyyyyyyyyyyyyyyyyyyyyyyyyyyyyyyyyyyyyyyyyyyyyyyyyyyyyyyyyyyyyyyyyyyyyyyyyyyyyyyyy\
+        yyyyyyyyyyyyyyyyyyyyyyy\n\
+        make /yyyyyyyyyyyyyyyyyyyyyyyyyyyyyyyyyyyyyyyyyyyyyyyyyyyyyyyyyyyyyyyyyyyyyyyyyyyyyyyyyyyyyyyyyyyyyyyy\
+        yyyyyyyyyyyyyyyyyyyyyyyy\n\
         |\
         ok\nok\nno path\nok\nok\nno path\n|\
         6 28 22|clean 1 3 0 0\n|-#\
@@ -152,10 +163,17 @@ static ROWS: &str = "\
         no syntax\nno syntax\nno syntax\n|\
         13 0 2|clean 0 0 0 0\n|#\
     paths that are too long, before anything else is looked at|format 4 1 ruler zeros|\
-        make /xxxxxxxxxxxxxxxxxxxxxxxxxxxxxxxxxxxxxxxxxxxxxxxxxxxxxxxxxxxxxxxxxxxxxxxxxxxxxxxxxxxxxxxxxxxxxxxxxxxxxxxxxxxxxxxxxxxxxxxx\n\
-        prune /xxxxxxxxxxxxxxxxxxxxxxxxxxxxxxxxxxxxxxxxxxxxxxxxxxxxxxxxxxxxxxxxxxxxxxxxxxxxxxxxxxxxxxxxxxxxxxxxxxxxxxxxxxxxxxxxxxxxxxxx\n\
-        rename /a /xxxxxxxxxxxxxxxxxxxxxxxxxxxxxxxxxxxxxxxxxxxxxxxxxxxxxxxxxxxxxxxxxxxxxxxxxxxxxxxxxxxxxxxxxxxxxxxxxxxxxxxxxxxxxxxxxxxxxxxx\n\
-        make  /xxxxxxxxxxxxxxxxxxxxxxxxxxxxxxxxxxxxxxxxxxxxxxxxxxxxxxxxxxxxxxxxxxxxxxxxxxxxxxxxxxxxxxxxxxxxxxxxxxxxxxxxxxxxxxxxxxxxxxxx\n\
+        make /xxxxxxxxxxxxxxxxxxxxxxxxxxxxxxxxxxxxxxxxxxxxxxxxxxxxxxxxxxxxxxxxxxxxxxxxxxxxxxxxxxxxxxxxxxxxxxxx\
+        xxxxxxxxxxxxxxxxxxxxxxxx\n\
+        prune \
+        /xxxxxxxxxxxxxxxxxxxxxxxxxxxxxxxxxxxxxxxxxxxxxxxxxxxxxxxxxxxxxxxxxxxxxxxxxxxxxxxxxxxxxxxxxxxxxxxxxxxxx\
+        xxxxxxxxxxxxxxxxxxx\n\
+        rename /a \
+            /xxxxxxxxxxxxxxxxxxxxxxxxxxxxxxxxxxxxxxxxxxxxxxxxxxxxxxxxxxxxxxxxxxxxxxxxxxxxxxxxxxxxxxxxxxxxxxxxx\
+        xxxxxxxxxxxxxxxxxxxxxxx\n\
+        make  \
+        /xxxxxxxxxxxxxxxxxxxxxxxxxxxxxxxxxxxxxxxxxxxxxxxxxxxxxxxxxxxxxxxxxxxxxxxxxxxxxxxxxxxxxxxxxxxxxxxxxxxxx\
+        xxxxxxxxxxxxxxxxxxx\n\
         write /x/y 5 00\nspace|\
         no path\nno path\nno path\nno syntax\nno parent\nspace 0 4\n|\
         6 0 2|clean 0 0 0 0\n|#\
@@ -174,8 +192,8 @@ static ROWS: &str = "\
 /// Looks whether the last run answered as the row says.
 fn expect_answers(rt: &impl Abort, ran: &Machine, row: [&str; 9]) {
     let [lines, writes, syncs] = numbers(rt, row[4]);
-    expect(rt, ran.is_ended(0, lines, row[3]), "replies", row[0]);
-    expect(rt, ran.ended.calls == [writes, syncs], "calls", row[0]);
+    ran.expect_end(rt, 0, lines, row[3], "replies", row[0]);
+    ran.expect_calls(rt, [writes, syncs], "calls", row[0]);
 }
 
 /// Looks whether the script of the row leads to what the row says. The image that another script leaves is made in a
@@ -183,10 +201,10 @@ fn expect_answers(rt: &impl Abort, ran: &Machine, row: [&str; 9]) {
 pub fn expect_row(rt: &impl Abort, ran: &mut Machine, other: &mut Machine, row: [&str; 9]) {
     ran.make(rt, row[1], row[2]);
     expect_answers(rt, ran, row);
-    expect(rt, ran.is_reported(rt, row[5]), "report", row[0]);
+    ran.expect_report(rt, row[5], "report", row[0]);
     if row[6] != "-" {
         other.make(rt, row[1], row[6]);
-        expect(rt, ran.image() == other.image(), "image", row[0]);
+        ran.expect_bytes(rt, other.image(), "image", row[0]);
     }
 }
 
@@ -198,16 +216,26 @@ fn scripts_are_answered(rt: HostRuntime) {
     }
 }
 
-/// The format; a script of texts, each so many times, on the image of the empty tree; its replies; and how many lines
-/// are carried out: lines at the limit and past it, and files of many bytes. In the second row a line has 8,192 bytes,
-/// and one has one byte more; the last line has no LF. In the last row a file passes 200 bytes, up and down.
+/// Lines at the limit and past it, and files of many bytes. The columns are:
+///
+/// - the name of the row;
+/// - the format;
+/// - a script on the image of the empty tree, as texts that `;` parts: before each stands how many times it comes, and
+///   a blank;
+/// - its replies, in the same way;
+/// - how many lines are carried out.
+///
+/// In the row of the longest lines one has 8,192 bytes, and one has one byte more; the last line has no LF.
 static LONG_ROWS: &str = "\
-    format 4 1 ruler zeros|1 write /f 0 ;256 5a;1 \nwrite /f 256 00\nspace\ncut /f 256\ncut /f 257\n|\
+    a whole block, and a byte behind it|format 4 1 ruler zeros|1 write /f 0 ;256 5a;1 \nwrite /f 256 00\nspace\n\
+        cut /f 256\ncut /f 257\n|\
         1 ok\nok\nspace 1 4\nok\nno gap\n|5#\
-    format 4 1 ruler zeros|1 write /ff 0 ;4090 c3;1 \n;8193 x;1 \n\nread /ff 0 4096\nspace|\
+    the longest lines|format 4 1 ruler zeros|1 write /ff 0 ;4090 c3;1 \n;8193 x;1 \n\nread /ff 0 4096\nspace|\
         1 ok\nno long\nok ;4090 c3;1 \nspace 2 4\n|4#\
-    format 4 1 ruler zeros|8192 x;1 \nlist /;8186 x;1 \nlist /;8187 x;1 \n|1 no syntax\nno path\nno long\n|3#\
-    format2 4 1 ruler zeros|1 write /f 0 ;199 41;1 \ndigest\nwrite /f 199 41\ndigest\nwrite /f 200 00\ndigest\n\
+    the longest lines that spell no command|format 4 1 ruler zeros|8192 x;1 \nlist /;8186 x;1 \nlist /;8187 x;1 \n|\
+        1 no syntax\nno path\nno long\n|3#\
+    a file that passes 200 bytes, up and down|format2 4 1 ruler zeros|1 write /f 0 ;199 41;1 \ndigest\n\
+        write /f 199 41\ndigest\nwrite /f 200 00\ndigest\n\
         cut /f 200\ndigest\nwrite /f 200 -\ndigest\nwrite /f 100 ;101 42;1 \ndigest\ncut /f 0\ndigest\n\
         write /g 0 ;256 43;1 \ndigest\nwrite /g 256 44\ndigest\ncut /g 256\ndigest\ncut /g 200\ndigest\n\
         cut /g 201\ndigest\nremove /f\ndigest\n|1 \
@@ -237,18 +265,26 @@ fn text_of(rt: &impl Abort, alloc: Global, parts: &str) -> Vec<u8> {
     text
 }
 
-/// Looks whether the script, on the image of the machine, is answered so.
-fn expect_long(rt: &impl Abort, machine: &mut Machine, script: &[u8], replies: &[u8], done: u64) {
+/// Looks whether the script of the row, on the image of the machine, is answered so.
+fn expect_long(
+    rt: &impl Abort,
+    machine: &mut Machine,
+    script: &[u8],
+    replies: &[u8],
+    done: u64,
+    row: &str,
+) {
     machine.call_in(rt, "run", script, &CALM);
-    assert!(rt; (machine.written() == replies) & (machine.ended.done == done));
+    machine.expect_written(rt, replies, "replies", row);
+    assert_eq!(rt; machine.ended.done, done, "lines done of {row}");
 }
 
 /// Looks whether the script of the row, on the image of the empty tree, is answered as the row says.
 fn expect_long_row(rt: &impl Abort, alloc: Global, machine: &mut Machine, row: &str) {
-    let [format, script, replies, done, ..] = fields(row);
+    let [name, format, script, replies, done, ..] = fields(row);
     let (script, replies) = (text_of(rt, alloc, script), text_of(rt, alloc, replies));
     machine.format(rt, format);
-    expect_long(rt, machine, &script, &replies, number(rt, done));
+    expect_long(rt, machine, &script, &replies, number(rt, done), name);
 }
 
 #[test]

@@ -2,25 +2,32 @@
 
 use super::failures::expect_failures;
 use super::images::spoil;
-use super::support::{CALM, Machine, Outside, expect, fields, numbers, status_of};
+use super::support::{CALM, Machine, Outside, fields, numbers, status_of};
 use disk_model::StopChoice;
 use std::process::Abort;
 
-/// What a row shows; the image, as in the tables of images that no script leaves; what `check` prints of it; what
-/// `scrub` prints, and its writes and syncs; and a script for the tree whose layout is left, or `-` where the image is
-/// left as it was.
+/// The columns are:
+///
+/// - the name of the row: what the image is;
+/// - four columns for the image, as in the table of images that no script leaves: format, script, blocks that are
+///   copied, bytes that are written over;
+/// - what `check` prints of it;
+/// - what `scrub` prints;
+/// - its writes and syncs, two numbers;
+/// - a script for the tree whose layout is left, or `-` where the image is left as it was.
 static SCRUBBINGS: &str = "\
     a layout|format 1 1 ruler zeros|make /a\n|||clean 1 1 0 0\n|\
         clean 1 1 0 0\n|0 2|make /a\n#\
     a byte in a free slot|format 4 2 ruler zeros|make /Ua\n||36873:127|damaged\n|\
         clean 2 1 0 0\n|1 2|make /Ua\n#\
-    a page in a free slot, but for its first byte, and the last byte of another one|format 4 2 ruler zeros|make /Ua\n|10:9|\
+    a page in a free slot, but for its first byte, and a byte|format 4 2 ruler \
+        zeros|make /Ua\n|10:9|\
         36864:0 32767:1|damaged\n|\
         clean 2 1 0 0\n|2 2|make /Ua\n#\
-    the middle of a commit, whose journal puts a page into its slot|format 1 1 ruler zeros|make /a\n|4:3 1:4|\
+    the middle of a commit that puts a page into its slot|format 1 1 ruler zeros|make /a\n|4:3 1:4|\
         4096:127 8192:1 16390:1|clean 1 1 0 0\n|\
         clean 1 1 0 0\n|4 5|make /a\n#\
-    the middle of a commit, whose journal puts a free slot that is not zero|format 1 1 ruler zeros|make /a\n||\
+    the middle of a commit that puts a byte into a free slot|format 1 1 ruler zeros|make /a\n||\
         4096:1 8192:1 12290:7|damaged\n|\
         clean 0 0 0 0\n|5 5|#\
     a journal without its flag|format 1 1 ruler zeros|make /a\n|4:3 1:4|4100:5 8192:1 16390:1|damaged\n|\
@@ -55,16 +62,16 @@ fn expect_scrub(
     left: &[u8],
 ) {
     machine.call_in(rt, "scrub", b"", &THEN_CRASHED);
-    let is_ended = machine.is_ended(status_of(row[6]), 1, row[6]);
-    let is_left = (machine.ended.calls == calls) & (machine.image() == left);
-    expect(rt, is_ended & is_left, "scrub", row[0]);
+    machine.expect_end(rt, status_of(row[6]), 1, row[6], "scrub", row[0]);
+    machine.expect_calls(rt, calls, "scrub", row[0]);
+    machine.expect_bytes(rt, left, "scrub", row[0]);
 }
 
 /// Looks whether the image of the row is found and scrubbed as the row says, and once more, which writes nothing.
 fn expect_row(rt: &impl Abort, machine: &mut Machine, row: [&str; 9]) {
     let (image, left) = before_and_after(rt, machine, row);
     machine.load(rt, &image);
-    expect(rt, machine.is_reported(rt, row[5]), "check", row[0]);
+    machine.expect_report(rt, row[5], "check", row[0]);
     let [writes, syncs, _] = numbers(rt, row[7]);
     expect_scrub(rt, machine, row, [writes, syncs], &left);
     expect_scrub(rt, machine, row, [0, syncs.min(2)], &left);

@@ -1,8 +1,11 @@
 //! What the tests share: a machine in memory, on which `top` is called, and the fields of a row of a table.
 //!
 //! Tables are texts, each with rows parted by `#` and fields parted by `|`: a text is a constant by itself, and the
-//! proof of a function takes long for many constants. What a call comes to stays in the machine, so that nothing is
-//! handed out that owns memory.
+//! proof of a function takes long for many constants. The first field of a row is its name, which stands once in its
+//! table; what the others are is said above the table. A failure names the row, and prints what came, as `left`, and
+//! what was wanted, as `right`. Of images it prints the first byte that differs.
+//!
+//! What a call comes to stays in the machine, so that nothing is handed out that owns memory.
 
 use disk_model::{FailingDisk, MemDisk, StopChoice};
 use script_lines::{MemSink, MemSource};
@@ -131,6 +134,23 @@ pub fn file_of(rt: &impl Abort, alloc: Global, text: &str) -> FileRequest {
     wanted_file(&words_of(rt, alloc, text)).expect(rt, "memory")
 }
 
+/// The text that these bytes are: all that a call writes is one.
+fn text_of(bytes: &[u8]) -> &str {
+    str::from_utf8(bytes).unwrap_or("bytes that are no text")
+}
+
+/// How many bytes at their front are the same.
+fn same_bytes(came: &[u8], wanted: &[u8]) -> usize {
+    let mut count: usize = 0;
+    for (byte, other) in came.iter().zip(wanted) {
+        if byte != other {
+            return count;
+        }
+        count = count.saturating_add(1);
+    }
+    count
+}
+
 /// A copy of the bytes.
 fn bytes_of(rt: &impl Abort, alloc: Global, bytes: &[u8]) -> Vec<u8> {
     bytes.to_vec(alloc).expect(rt, "memory")
@@ -197,11 +217,6 @@ impl Machine {
     /// A copy of these.
     pub fn copy(&self, rt: &impl Abort) -> Vec<u8> {
         bytes_of(rt, self.alloc, &self.image)
-    }
-
-    /// What the last call wrote.
-    pub fn written(&self) -> &[u8] {
-        &self.written
     }
 
     /// A copy of what the last call wrote.
@@ -295,21 +310,61 @@ impl Machine {
         self.make(rt, &words, script);
     }
 
-    /// Whether the last call ended with this status behind so many lines, and wrote this.
-    pub fn is_ended(&self, status: u8, done: u64, written: &str) -> bool {
-        let Ended {
-            status: found,
-            done: made,
-            ..
-        } = self.ended;
-        let is_written = self.written.as_slice() == written.as_bytes();
-        (found == status) & (made == done) & is_written
+    /// Looks whether the last call ended with this status behind so many lines, and wrote this.
+    pub fn expect_end(
+        &self,
+        rt: &impl Abort,
+        status: u8,
+        done: u64,
+        written: &str,
+        what: &str,
+        row: &str,
+    ) {
+        let ended = self.ended;
+        self.expect_written(rt, written.as_bytes(), what, row);
+        assert_eq!(rt; ended.status, status, "{what} of {row}: the status");
+        assert_eq!(rt; ended.done, done, "{what} of {row}: lines done");
+    }
+
+    /// Looks whether the last call wrote this.
+    pub fn expect_written(&self, rt: &impl Abort, written: &[u8], what: &str, row: &str) {
+        let came = self.written.as_slice();
+        assert!(rt;
+            came == written,
+            "{what} of {row}\n  left: {:?}\n right: {:?}",
+            text_of(came),
+            text_of(written)
+        );
+    }
+
+    /// Looks whether the last call made so many writes and syncs.
+    pub fn expect_calls(&self, rt: &impl Abort, calls: [u64; 2], what: &str, row: &str) {
+        assert_eq!(rt;
+            self.ended.calls,
+            calls,
+            "{what} of {row}: writes and syncs"
+        );
+    }
+
+    /// Looks whether this is the image.
+    pub fn expect_bytes(&self, rt: &impl Abort, wanted: &[u8], what: &str, row: &str) {
+        let came = self.image.as_slice();
+        if came != wanted {
+            let at = same_bytes(came, wanted);
+            panic!(rt;
+                "{what} of {row}: byte {at} of the image is {:?}, wanted {:?}; it has {} bytes, wanted {}",
+                came.get(at),
+                wanted.get(at),
+                came.len(),
+                wanted.len()
+            );
+        }
     }
 
     /// Looks whether `check` prints this of the image, and ends with its status.
-    pub fn is_reported(&mut self, rt: &impl Abort, report: &str) -> bool {
+    pub fn expect_report(&mut self, rt: &impl Abort, report: &str, what: &str, row: &str) {
         self.call(rt, "check", "");
-        self.is_ended(status_of(report), 1, report)
+        self.expect_end(rt, status_of(report), 1, report, what, row);
     }
 }
 
@@ -322,7 +377,7 @@ pub fn status_of(report: &str) -> u8 {
     }
 }
 
-/// Ends the test where this does not hold, and says of which row.
+/// Ends the test where this does not hold, and says of which row. What was wanted is said by `what`.
 pub fn expect(rt: &impl Abort, holds: bool, what: &str, row: &str) {
     assert!(rt; holds, "{what} of {row}");
 }

@@ -44,7 +44,7 @@ fn upgrade(rt: &impl Abort, alloc: Global, machine: &mut Machine) -> (u64, u64) 
 /// Looks whether a run tells this of the image.
 fn expect_told(rt: &impl Abort, machine: &mut Machine, told: &str) {
     machine.call(rt, "run", "space\ndigest\n");
-    expect(rt, machine.is_ended(0, 2, told), "an image", told);
+    machine.expect_end(rt, 0, 2, told, "the end", "space and digest");
 }
 
 #[test]
@@ -55,11 +55,11 @@ fn an_upgrade_leaves_the_image_of_version_2(rt: HostRuntime) {
     // Both slots change.
     let calls = upgrade(&rt, rt.alloc(), &mut machine);
     expect_told(&rt, &mut machine, TWO);
-    let is_clean = machine.is_reported(&rt, "clean 1 0 6 6\n");
+    machine.expect_report(&rt, "clean 1 0 6 6\n", "report", "an upgraded image");
     // Of version 2 nothing is written.
     let again = upgrade(&rt, rt.alloc(), &mut machine);
     expect_told(&rt, &mut machine, TWO);
-    assert!(rt; (calls == (15, 5)) & is_clean & (again == (0, 0)));
+    assert_eq!(rt; [calls, again], [(15, 5), (0, 0)], "writes and syncs");
 }
 
 #[test]
@@ -71,5 +71,6 @@ fn commands_go_on_behind_an_upgrade(rt: HostRuntime) {
     other.make(&rt, "format 4 1 ruler zeros", FILES);
     upgrade(&rt, rt.alloc(), &mut other);
     // The empty tree has the same slots under both versions.
-    assert!(rt; (calls == (5, 5)) & (machine.image() == other.image()));
+    assert_eq!(rt; calls, (5, 5), "writes and syncs");
+    machine.expect_bytes(&rt, other.image(), "upgrade", "the empty tree");
 }

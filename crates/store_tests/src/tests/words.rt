@@ -7,8 +7,9 @@ use std::alloc::Global;
 use std::process::Abort;
 use store_top::{Access, FileRequest, Wanted, Words, wanted_len};
 
-/// Words, parted by blanks, and the file that they need: none since they ask for nothing (`usage`), one that is there,
-/// which is only read (`read`) or is written, too (`existing`), or one of so many bytes.
+/// The columns are: words, parted by blanks, by which the row is named; and the file that they need: none since they
+/// ask for nothing (`usage`), one that is there, which is only read (`read`) or is written, too (`existing`), or one of
+/// so many bytes.
 static WANTED: &str = "\
     run|existing#\
     check|read#\
@@ -69,7 +70,7 @@ static WANTED: &str = "\
     format|usage";
 
 /// The same for words that a parser of command lines might take for something. The first is one word with no letter,
-/// and so is the last word of the second, each of which has a blank behind it.
+/// and so is the last word of the second, each of which has a blank behind it. The third has such a word in front.
 static STRAY: &str = "\
     \x20|usage#\
     run  |usage# run|usage#\
@@ -109,16 +110,12 @@ fn file_named(rt: &impl Abort, word: &str) -> FileRequest {
 /// refused before anything is done just where no file will do.
 fn expect_file(rt: &impl Abort, alloc: Global, machine: &mut Machine, words: &str, word: &str) {
     let file = file_named(rt, word);
-    expect(rt, file_of(rt, alloc, words) == file, "file", words);
+    assert_eq!(rt; file_of(rt, alloc, words), file, "the file of {words:?}");
     machine.clear(rt, 0);
     machine.call(rt, words, "make /a\n");
     let is_refused = (machine.ended.status == 2) & (machine.ended.done == 0);
-    expect(
-        rt,
-        is_refused == (file.wanted == Wanted::Usage),
-        "status",
-        words,
-    );
+    let is_wanted = file.wanted == Wanted::Usage;
+    assert_eq!(rt; is_refused, is_wanted, "the refusal of {words:?}");
 }
 
 /// Looks whether the words of each row need the file that it names.
@@ -146,9 +143,14 @@ fn there_is_memory_for_a_thousand_words(rt: HostRuntime) {
     assert!(rt; wanted_len(&words).expect(&rt, "memory") == Wanted::Usage);
 }
 
-/// What a row shows; the format and the script of an image, or none where the disk has 20,480 zeros; places where
-/// another byte is put; the first call of the disk that fails, or `-`; and the status of a call that formats the disk
-/// as the least image: an image is refused by its first byte, and one of another length by the length.
+/// The columns are:
+///
+/// - the name of the row: what the disk has;
+/// - the format and the script of an image, in two columns, or none where the disk has 20,480 zeros;
+/// - places where another byte is put, parted by blanks;
+/// - the first call of the disk that fails, or `-`;
+/// - the status of a call that formats the disk as the least image: an image is refused by its first byte, and one of
+///   another length by the length.
 static FORMATTED: &str = "\
     a disk that fails||||0|5#\
     zeros||||-|0#\
@@ -162,11 +164,15 @@ fn expect_format(rt: &impl Abort, machine: &mut Machine, from: u64, status: u8, 
     let before = machine.copy(rt);
     machine.call_in(rt, LEAST, b"", &Outside { from, ..CALM });
     let is_made = status == 0;
-    let is_ended = machine.is_ended(status, u64::from(is_made), "");
+    machine.expect_end(rt, status, u64::from(is_made), "", "format", row);
     let is_changed = machine.image() != before.as_slice();
     let is_written = machine.ended.calls[0] != 0;
-    let holds = is_ended & (is_changed == is_made) & (is_written == is_made);
-    expect(rt, holds, "format", row);
+    let came = [is_changed, is_written];
+    assert_eq!(rt;
+        came,
+        [is_made; 2],
+        "the disk is changed and written, format of {row}"
+    );
 }
 
 /// Looks whether formatting the disk of the row ends as it says.
@@ -196,10 +202,11 @@ fn format_takes_blank_disks_of_the_right_length(rt: HostRuntime) {
 /// Looks whether a wipe leaves zeros, and no image, by so many writes and syncs.
 fn expect_wiped(rt: &impl Abort, machine: &mut Machine, calls: [u64; 2], row: &str) {
     machine.call(rt, "wipe", "");
+    machine.expect_end(rt, 0, 1, "", "wipe", row);
+    machine.expect_calls(rt, calls, "wipe", row);
     let is_zero = machine.image().iter().all(|byte| *byte == 0);
-    let is_ended = machine.is_ended(0, 1, "") & (machine.ended.calls == calls);
-    expect(rt, is_ended & is_zero, "wipe", row);
-    expect(rt, machine.is_reported(rt, NOT_IMAGE), "report", row);
+    expect(rt, is_zero, "zeros alone behind a wipe", row);
+    machine.expect_report(rt, NOT_IMAGE, "report", row);
 }
 
 #[test]

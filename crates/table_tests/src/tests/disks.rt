@@ -25,7 +25,7 @@ fn stands_so(disk: &MemDisk, image: &[u8], calls: [u64; 2]) -> bool {
     disk.bytes() == image && [disk.write_count(), disk.sync_count()] == calls
 }
 
-/// What a crash may choose, and the image that it then leaves.
+/// The columns are: what a crash chooses, by which the row is named; and the image that it then leaves.
 static CRASHES: [(StopChoice, &[u8; 8]); 3] = [
     (StopChoice::Old, b"abXYefgh"),
     (StopChoice::New, b"abXY1Zgh"),
@@ -36,7 +36,12 @@ static CRASHES: [(StopChoice, &[u8; 8]); 3] = [
 fn a_crash_leaves_these_images(rt: HostRuntime) {
     for (choice, image) in &CRASHES {
         let disk = pending(&rt, rt.alloc()).stopped(*choice);
-        assert!(rt; stands_so(&disk, *image, [3, 1]), "{choice:?}");
+        assert!(rt;
+            stands_so(&disk, *image, [3, 1]),
+            "{choice:?}\n  left: {:?}\n right: {:?}, behind 3 writes and a sync",
+            disk.bytes(),
+            *image
+        );
     }
 }
 

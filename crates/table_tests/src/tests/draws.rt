@@ -38,3 +38,16 @@ fn sha256_with_a_seed_of_zeros(rt: HostRuntime) {
     assert!(rt; stands_on(&rt, &mut front, b"f", 1));
     assert!(rt; stands_on(&rt, &mut front, b"a", 0));
 }
+
+/// Whether parameters may have so many slots.
+fn may_have(slots: u32) -> bool {
+    Params::new(slots, 1, DrawKind::Ruler, [0; 32]).is_ok()
+}
+
+#[test]
+fn slots_of_parameters(rt: HostRuntime) {
+    assert!(rt; !may_have(0), "no slot");
+    assert!(rt; may_have(1), "one slot");
+    assert!(rt; may_have(65_536), "65,536 slots");
+    assert!(rt; !may_have(65_537), "65,537 slots");
+}

@@ -13,7 +13,7 @@ fn filled(rt: &impl Abort, alloc: Global, len: usize) -> MemDisk {
     MemDisk::new(alloc, &bytes, 20_000).expect(rt, "memory")
 }
 
-/// The digests of so many bytes `EE`.
+/// The columns are: how many bytes `EE`, by which the row is named; and their digest.
 static DIGESTS: [(usize, [u8; 32]); 2] = [
     (
         0,
@@ -38,13 +38,21 @@ static DIGESTS: [(usize, [u8; 32]); 2] = [
 fn a_disk_of_any_length_is_digested_and_wiped(rt: HostRuntime) {
     for (len, digest) in &DIGESTS {
         let mut disk = filled(&rt, rt.alloc(), *len);
-        assert!(rt; Journal::digest(&mut disk) == Ok(*digest), "{len}");
-        assert!(rt; disk.fetched() == *len as u64, "{len}");
-        assert!(rt; Journal::wipe(&mut disk).is_ok(), "{len}");
+        assert_eq!(rt;
+            Journal::digest(&mut disk),
+            Ok(*digest),
+            "{len} bytes: the digest"
+        );
+        assert_eq!(rt;
+            disk.fetched(),
+            *len as u64,
+            "{len} bytes: bytes that are read"
+        );
+        assert!(rt; Journal::wipe(&mut disk).is_ok(), "{len} bytes: a wipe");
         let left = disk.stopped(StopChoice::Fill(0xA5));
         assert!(rt;
             left.bytes().len() == *len && is_zero(left.bytes()),
-            "{len}"
+            "{len} bytes: so many zeros behind a wipe"
         );
     }
 }

@@ -92,7 +92,8 @@ fn three_cells(level: u8) -> Page {
     page
 }
 
-/// Cells that the page takes: each with its place, and the cells that the page has then.
+/// Cells that the page takes. The columns are: the place of the cell, by which the row is named; the byte with which
+/// its key begins; and the cells that the page has then.
 const TAKEN: [(u32, u8, [u8; 4]); 4] = [
     (0, b'a', *b"abdf"),
     (1, b'c', *b"bcdf"),
@@ -108,9 +109,15 @@ fn cells_inserted(rt: HostRuntime) {
         assert!(rt; *page.as_slot() == three);
         for (at, byte, bytes) in &TAKEN {
             let mut more = page;
-            assert!(rt; more.insert(*at, &cell_with(level, *byte)));
+            assert!(rt;
+                more.insert(*at, &cell_with(level, *byte)),
+                "a cell at {at} on level {level}: there is room"
+            );
             let wanted = slot_of(rt.alloc(), level, bytes).expect(&rt, "memory");
-            assert!(rt; *more.as_slot() == wanted);
+            assert!(rt;
+                *more.as_slot() == wanted,
+                "a cell at {at} on level {level}: the page has not the cells of {bytes:?}"
+            );
         }
     }
 }

@@ -120,9 +120,18 @@ fn is_settled(rt: &impl Abort, alloc: Global, tables: [&Table; 2], overwrites: b
     pages.used() == new.pages.len() && is_left(pages, &new.image)
 }
 
-/// The letters of the tables, each of which becomes the next one. Seven letters have eight pages, which fill the table.
-static TABLES: [&[u8]; 9] = [
-    b"", b"Ua", b"DEd", b"DEd", b"abUDEdx", b"bcVUDEd", b"x", b"abUDEdx", b"",
+/// Tables, each of which becomes the next one. The columns are: the name of the row; and the letters of the table.
+/// Seven letters have eight pages, which fill it.
+static TABLES: [(&str, &[u8]); 9] = [
+    ("no page", b""),
+    ("pages of two letters", b"Ua"),
+    ("pages of three others", b"DEd"),
+    ("the same pages", b"DEd"),
+    ("a full table", b"abUDEdx"),
+    ("another full table", b"bcVUDEd"),
+    ("pages of one letter", b"x"),
+    ("a full table again", b"abUDEdx"),
+    ("no page again", b""),
 ];
 
 /// Whether the table of the first letters becomes that of the second ones by either way.
@@ -135,9 +144,11 @@ fn are_settled(rt: &impl Abort, alloc: Global, old: &[u8], new: &[u8]) -> bool {
 #[test]
 fn settled_pages_are_those_of_the_layout(rt: HostRuntime) {
     for at in 1..TABLES.len() {
+        let (before, old) = TABLES[at - 1];
+        let (row, new) = TABLES[at];
         assert!(rt;
-            are_settled(&rt, rt.alloc(), TABLES[at - 1], TABLES[at]),
-            "table {at}"
+            are_settled(&rt, rt.alloc(), old, new),
+            "{row}, made of {before}: not the layout of its pages, or not so many of them"
         );
     }
 }

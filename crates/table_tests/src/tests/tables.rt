@@ -45,11 +45,16 @@ fn is_slot_of(slot: &Slot, name: Option<[u8; 2]>) -> bool {
     }
 }
 
-/// Looks whether the slots hold the pages of these names, with the value 1.
-fn hold_pages(rt: &impl Abort, slots: &MemSlots, wanted: &[Option<[u8; 2]>]) {
-    assert!(rt; slots.slots().len() == wanted.len());
+/// Looks whether the slots hold the pages of these names, with the value 1. Of a slot that does not it prints the first
+/// bytes: for a page 1, its level, whether a key leads it, and that key.
+fn hold_pages(rt: &impl Abort, slots: &MemSlots, wanted: &[Option<[u8; 2]>], row: &str) {
+    assert_eq!(rt; slots.slots().len(), wanted.len(), "{row}: how many slots");
     for (slot, name) in slots.slots().iter().zip(wanted) {
-        assert!(rt; is_slot_of(slot, *name));
+        assert!(rt;
+            is_slot_of(slot, *name),
+            "{row}: a slot\n  left: {:?}\n right: the page of {name:?}",
+            &slot[..6]
+        );
     }
 }
 
@@ -102,9 +107,9 @@ enum Call {
     Holds(u32, [u8; 2], bool),
 }
 
-/// A call on slots, how many reads and writes were made in all when it ends, and the pages that the slots then hold,
-/// with the value 1; where none are told, the slots are not looked at.
-type Step = (Call, u64, &'static [Option<[u8; 2]>]);
+/// The name of a row, which stands once in its table; a call on slots; how many reads and writes were made in all when
+/// it ends; and the pages that the slots then hold, with the value 1; where none are told, the slots are not looked at.
+type Step = (&'static str, Call, u64, &'static [Option<[u8; 2]>]);
 
 /// Searches for the page of this name, by either search; to find it elsewhere is a fault.
 fn find_at(
@@ -171,11 +176,12 @@ fn lead_so(rt: &impl Abort, alloc: Global, slots: u32, steps: &[Step]) {
     ));
     let mut slots = MemSlots::new(alloc, draw.slots(), Vec::new(alloc)).expect(rt, "memory");
     for step in steps {
-        let (call, calls, wanted) = step;
+        let (row, call, calls, wanted) = step;
         let made = make(&mut slots, &draw, call);
-        assert!(rt; made.is_ok() && slots.calls() == *calls);
+        assert_eq!(rt; made, Ok(()), "{row}");
+        assert_eq!(rt; slots.calls(), *calls, "{row}: reads and writes");
         if !wanted.is_empty() {
-            hold_pages(rt, &slots, *wanted);
+            hold_pages(rt, &slots, *wanted, *row);
         }
     }
 }
@@ -183,13 +189,20 @@ fn lead_so(rt: &impl Abort, alloc: Global, slots: u32, steps: &[Step]) {
 /// Insertions into four slots; the one that displaces a page reads two and writes both.
 static INSERTIONS: [Step; 4] = [
     (
+        "a page is put at its start",
         Call::Insert(*b"Ua", 1),
         2,
         &[None, None, None, Some(*b"Ua")],
     ),
-    (Call::Insert(*b"UU", 2), 6, &[]),
-    (Call::Insert(TOP, 1), 8, &[]),
     (
+        "a page displaces it round the end",
+        Call::Insert(*b"UU", 2),
+        6,
+        &[],
+    ),
+    ("a page of level 1 is put", Call::Insert(TOP, 1), 8, &[]),
+    (
+        "a page is written over in its slot",
         Call::Overwrite(3, *b"UU"),
         9,
         &[Some(*b"Ua"), Some(TOP), None, Some(*b"UU")],
@@ -204,12 +217,32 @@ fn insertion_and_overwriting(rt: HostRuntime) {
 /// Two pages that start in one slot, the second of which goes round the end. Each of the two searches reads the slots
 /// up to the page once, or one free slot, and a look reads its slot once.
 static SEARCHES: [Step; 6] = [
-    (Call::Insert(*b"UU", 1), 2, &[]),
-    (Call::Insert(*b"Ua", 1), 5, &[]),
-    (Call::Find(*b"Ua", Some(0)), 9, &[]),
-    (Call::Find(TOP, None), 11, &[]),
-    (Call::Holds(0, *b"Ua", true), 12, &[]),
-    (Call::Holds(1, *b"Ua", false), 13, &[]),
+    ("a page is put", Call::Insert(*b"UU", 1), 2, &[]),
+    (
+        "a second one is put round the end",
+        Call::Insert(*b"Ua", 1),
+        5,
+        &[],
+    ),
+    (
+        "the second one is found",
+        Call::Find(*b"Ua", Some(0)),
+        9,
+        &[],
+    ),
+    ("a page that is not there", Call::Find(TOP, None), 11, &[]),
+    (
+        "a look at the second one",
+        Call::Holds(0, *b"Ua", true),
+        12,
+        &[],
+    ),
+    (
+        "a look at a free slot",
+        Call::Holds(1, *b"Ua", false),
+        13,
+        &[],
+    ),
 ];
 
 #[test]
@@ -219,15 +252,30 @@ fn search_round_the_end(rt: HostRuntime) {
 
 /// Two slots that are filled, and a page taken out.
 static FULL: [Step; 3] = [
-    (Call::Insert(*b"Ua", 1), 2, &[]),
-    (Call::Insert(TOP, 1), 5, &[Some(TOP), Some(*b"Ua")]),
-    (Call::Remove(1), 8, &[None, Some(TOP)]),
+    ("a page is put", Call::Insert(*b"Ua", 1), 2, &[]),
+    (
+        "a page fills the table",
+        Call::Insert(TOP, 1),
+        5,
+        &[Some(TOP), Some(*b"Ua")],
+    ),
+    (
+        "a page is taken out",
+        Call::Remove(1),
+        8,
+        &[None, Some(TOP)],
+    ),
 ];
 
 /// One slot that is filled and made free.
 static ONE: [Step; 2] = [
-    (Call::Insert(*b"a\0", 1), 2, &[Some(*b"a\0")]),
-    (Call::Remove(0), 3, &[None]),
+    (
+        "the one slot is filled",
+        Call::Insert(*b"a\0", 1),
+        2,
+        &[Some(*b"a\0")],
+    ),
+    ("it is made free", Call::Remove(0), 3, &[None]),
 ];
 
 #[test]
@@ -238,10 +286,16 @@ fn removal_from_full_tables(rt: HostRuntime) {
 
 /// Pages round a hole. The removal reads slots 3, 4 and 5, and writes 2 and 4.
 static PAST_THE_HOLE: [Step; 5] = [
-    (Call::Insert(*b"Ud", 1), 2, &[]),
-    (Call::Insert(*b"UE", 1), 4, &[]),
-    (Call::Insert(*b"UD", 1), 9, &[]),
+    ("a page is put", Call::Insert(*b"Ud", 1), 2, &[]),
+    ("a second one is put", Call::Insert(*b"UE", 1), 4, &[]),
     (
+        "a third one displaces another",
+        Call::Insert(*b"UD", 1),
+        9,
+        &[],
+    ),
+    (
+        "a page of level 1 is put",
         Call::Insert(TOP, 1),
         11,
         &[
@@ -256,6 +310,7 @@ static PAST_THE_HOLE: [Step; 5] = [
         ],
     ),
     (
+        "the third one is taken out",
         Call::Remove(2),
         16,
         &[
@@ -279,11 +334,11 @@ fn page_that_starts_past_the_hole(rt: HostRuntime) {
 /// Puts the page of `Ua` in, by a read and a write.
 static FIRST: Call = Call::Insert(*b"Ua", 1);
 
-/// Calls on two slots, of which the second has that page.
-static REFUSED: [Call; 3] = [
-    Call::Insert(TOP, 1),
-    Call::Find(*b"Ua", Some(1)),
-    Call::Remove(1),
+/// The columns are: the name of the row; and a call on two slots, of which the second has that page.
+static REFUSED: [(&str, Call); 3] = [
+    ("a page is put", Call::Insert(TOP, 1)),
+    ("the page is found", Call::Find(*b"Ua", Some(1))),
+    ("the page is taken out", Call::Remove(1)),
 ];
 
 /// Whether the call, behind the first one, fails at its first read, and is carried out when it is made again.
@@ -300,10 +355,13 @@ fn is_refused_once(slots: &mut MemSlots, draw: &RulerDraw, call: &Call) -> bool
 fn a_call_of_the_slots_fails(rt: HostRuntime) {
     let params = Params::new(2, 2, DrawKind::Ruler, [0; 32]).expect(&rt, "parameters");
     let draw = RulerDraw::new(&params);
-    for call in &REFUSED {
+    for (row, call) in &REFUSED {
         let failing = vec![in rt.alloc(); 2].expect(&rt, "memory");
         let slots = MemSlots::new(rt.alloc(), draw.slots(), failing);
         let mut slots = slots.expect(&rt, "memory");
-        assert!(rt; is_refused_once(&mut slots, &draw, call));
+        assert!(rt;
+            is_refused_once(&mut slots, &draw, call),
+            "{row}: refused at the third call in all, and carried out when it is made again"
+        );
     }
 }

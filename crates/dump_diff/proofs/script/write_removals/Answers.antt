@@ -3,11 +3,12 @@ use Rattle.std.specs.List.{flat_map}
 use Rattle.std.proofs.lemmas.Result.{err_from_is_err_and}
 use Rattle.store_model.specs.Commands.{Command}
 use Rattle.tree_listing.specs.Dumps.{commands_text}
+use Rattle.script_lines.specs.SinkState.{Puts}
+use Rattle.script_lines.proofs.Putting.{Puts-then, Puts-cut}
 use Rattle.dump_diff.specs.declared.difference.AttributeDifference.{AttributeDifference}
 use Rattle.dump_diff.specs.Differences.{marks_of}
-use Rattle.dump_diff.specs.Scripts.{Puts, cut_commands, unset_commands}
+use Rattle.dump_diff.specs.Scripts.{cut_commands, unset_commands}
 use Rattle.dump_diff.proofs.TakenAdditions.{text_append}
-use Rattle.dump_diff.proofs.Written.{puts_then, puts_cut}
 use Rattle.dump_diff.proofs.script.write_removals.Goals as goal
 
 pub returns : goal.returns
@@ -18,8 +19,8 @@ returns g c rising =
     let unsets : List Command = flat_map unset_commands found.attributes.items in
     subst (λ text. Puts (st c.args.sink.now) (st c.write_unsets.new.sink) text c.write_unsets.result)
     (sym (text_append cuts unsets))
-    (puts_then (st c.args.sink.now) (st c.write_cuts.new.sink) (st c.write_unsets.new.sink) (commands_text cuts)
-    (commands_text unsets) c.write_unsets.result (c.in_ok-write_cuts.ensures rising)
+    (Puts-then (st c.args.sink.now) (st c.write_cuts.new.sink) (st c.write_unsets.new.sink) (commands_text cuts)
+    (commands_text unsets) tt c.write_unsets.result (c.in_ok-write_cuts.ensures rising)
     (subst (λ (xs : List AttributeDifference). Puts (st c.write_cuts.new.sink) (st c.write_unsets.new.sink)
     (commands_text (flat_map unset_commands xs)) c.write_unsets.result)
     c.attributes.ensures c.write_unsets.ensures))
@@ -34,5 +35,5 @@ returns-in_err-write_cuts g c rising =
     rw fault.1
     (subst (λ text. Puts {T = Unit {0}} (st c.args.sink.now) (st c.write_cuts.new.sink) text (Err fault.0))
     (sym (text_append cuts unsets))
-    (puts_cut (st c.args.sink.now) (st c.write_cuts.new.sink) (commands_text cuts)
-    (commands_text unsets) fault.0 (c.in_err-write_cuts.ensures rising)))
+    (Puts-cut (st c.args.sink.now) (st c.write_cuts.new.sink) (commands_text cuts)
+    (commands_text unsets) _ fault.0 (c.in_err-write_cuts.ensures rising)))

@@ -21,14 +21,14 @@ write_dump-requires g c =
 
 pub returns-clause-dump : goal.returns-clause-dump
 returns-clause-dump g c =
-    rw (c.done_of_work.ensures, c.dump_status-status.ensures, c.into_disk.ensures)
+    rw (c.done_of_work.ensures, c.ended_status-status.ensures, c.into_disk.ensures)
     (dump_answered g.D.Disk.state g.W.Sink.state c.args.disk c.in-Ok.store c.write_dump.new.store c.args.source
     c.args.sink c.write_dump.new.sink c.write_dump.result c.in-Ok.ensures.call.attached c.write_dump.ensures.kept
     c.write_dump.ensures.puts (g.R.Source.state c.args.source))
 
 pub returns-clause-outside : goal.returns-clause-outside
 returns-clause-outside g c =
-    rw (c.dump_status-status.ensures, c.into_disk.ensures)
+    rw (c.ended_status-status.ensures, c.into_disk.ensures)
     (dump_outside g.D.Disk.state g.W.Sink.state c.args.disk c.in-Ok.store c.write_dump.new.store c.args.source
     c.args.sink c.write_dump.new.sink c.write_dump.result c.in-Ok.ensures.call.attached c.write_dump.ensures.kept
     (g.R.Source.state c.args.source))

@@ -7,7 +7,7 @@ use Rattle.store_model.proofs.TreesLemmasBytes.{viewed_headers_same, slots_same}
 use Rattle.slot_map.specs.declared.contents.Content.{Content}
 use Rattle.slot_map.specs.declared.contents.Content.TheVariants as contents
 use Rattle.slot_map.specs.Contents.{Holds, ShowsSlot, ShowsTable, character}
-use Rattle.slot_map.specs.Pictures.{map_text, IsMapOf}
+use Rattle.slot_map.specs.Pictures.{map_text}
 use Rattle.slot_map.proofs.laws.an_image_has_one_picture.Goals as goal
 
 -- a slot has one content

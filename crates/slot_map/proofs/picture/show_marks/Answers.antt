@@ -1,4 +1,4 @@
-use Rattle.std.proofs.Common.{◌≡◌, ◌≢◌, ℕ, ◌<◌, length, map, slice_index, sym, ap, ◌∙◌, arith, get_or-set_other}
+use Rattle.std.proofs.Common.{◌≢◌, ◌<◌, length, map, sym, ap, ◌∙◌, arith, get_or-set_other}
 use Rattle.std.proofs.Common.{get_or-set_same, below_more}
 use Rattle.std.proofs.lemmas.List.{ext_get_or, get_or-map, length-map}
 use Rattle.slot_map.specs.Pictures.{mark_character}

@@ -1,4 +1,4 @@
-use Rattle.std.proofs.Common.{◌≡◌, ◌≤◌, take, not, ◌==◌}
+use Rattle.std.proofs.Common.{◌≡◌, ◌≤◌, take}
 use Rattle.slot_map.specs.Pictures.{used_count}
 use Rattle.slot_map.proofs.picture.used_count.Given as goal
 

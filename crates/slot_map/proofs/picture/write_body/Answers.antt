@@ -1,7 +1,7 @@
 use Rattle.std.proofs.Common.{◌++◌}
 use Rattle.std.proofs.lemmas.Result.{err_from_is_err_and}
 use Rattle.slot_map.specs.Pictures.{gate_text, rows_text, journal_text}
-use Rattle.slot_map.proofs.Putting.{Puts-one, Puts-then, Puts-cut}
+use Rattle.script_lines.proofs.Putting.{Puts-one, Puts-then, Puts-cut}
 use Rattle.slot_map.proofs.picture.write_body.Goals as goal
 
 pub returns-in_err-write_gate : goal.returns-in_err-write_gate

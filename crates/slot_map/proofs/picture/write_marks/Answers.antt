@@ -2,7 +2,7 @@ use Rattle.std.proofs.Common.{◌≡◌, ℕ, ◌-◌, ◌++◌, List, length, m
 use Rattle.std.proofs.lemmas.List.{take-map, drop-map, take_all}
 use Rattle.std.proofs.lemmas.Result.{err_from_is_err_and}
 use Rattle.slot_map.specs.Pictures.{mark_character, marks_title, rows_text, version_text, marks_text}
-use Rattle.slot_map.proofs.Putting.{Puts-one, Puts-then, Puts-cut, Puts-as}
+use Rattle.script_lines.proofs.Putting.{Puts-one, Puts-then, Puts-cut, Puts-as}
 use Rattle.slot_map.proofs.picture.write_marks.Goals as goal
 
 -- the marks of the slots, and the version's, by the characters of all

@@ -2,8 +2,7 @@ use Rattle.std.proofs.Common.{ℕ, subst, Result, Ok, Err}
 use Rattle.std.proofs.lemmas.Result.{err_from_is_err_and}
 use Rattle.script_lines.proofs.ReplyLemmas.{IsPut-cut}
 use Rattle.script_lines.specs.declared.fault.SinkFault.{SinkFault}
-use Rattle.script_lines.specs.SinkState.{IsPut}
-use Rattle.slot_map.specs.MapCalls.{Puts}
+use Rattle.script_lines.specs.SinkState.{IsPut, Puts}
 use Rattle.slot_map.specs.Pictures.{used_count, title_text, body_text, picture_text}
 use Rattle.slot_map.proofs.Putting.{IsPut-from}
 use Rattle.slot_map.proofs.picture.write_picture.Goals as goal

@@ -6,7 +6,7 @@ use Rattle.std.proofs.lemmas.Result.{err_from_is_err_and}
 use Rattle.store_model.specs.Lists.{numbers_from, numbers_below, run_count}
 use Rattle.slot_map.specs.Pictures.{row_of, row_text, rows_text}
 use Rattle.slot_map.proofs.Parts.{parts_more, parts_left, parts_front}
-use Rattle.slot_map.proofs.Putting.{Puts-none, Puts-one, Puts-then, Puts-cut, Puts-as}
+use Rattle.script_lines.proofs.Putting.{Puts-none, Puts-one, Puts-then, Puts-cut, Puts-as}
 use Rattle.slot_map.proofs.rows.write_rows.Goals as goal
 
 -- the characters that were cut out are those of the row

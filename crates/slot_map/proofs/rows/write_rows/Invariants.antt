@@ -2,7 +2,7 @@ use Rattle.std.proofs.Common.{Ok}
 use Rattle.std.specs.List.{flat_map}
 use Rattle.store_model.specs.Lists.{numbers_below}
 use Rattle.script_lines.specs.declared.fault.SinkFault.{SinkFault}
-use Rattle.slot_map.specs.MapCalls.{Puts}
+use Rattle.script_lines.specs.SinkState.{Puts}
 use Rattle.slot_map.specs.Pictures.{row_of}
 use Rattle.slot_map.proofs.rows.write_rows.Given as goal
 

@@ -1,5 +1,5 @@
 use Rattle.std.specs.Prelude.{length}
-use Rattle.dump_diff.proofs.lines.+push_names.Given as goal
+use Rattle.script_lines.proofs.text.Text.+push_names.Given as goal
 
 -- a path's parent has one name less
 abbrev pub decreases-push_names : goal.decreases-push_names
