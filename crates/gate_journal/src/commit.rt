@@ -16,11 +16,8 @@ ghost use Rattle.gate_journal.specs.Passes.{version_value, OutsidePass, HasPasse
 use crate::changes::SlotChanges;
 use crate::entry::{write_byte, write_entry, write_flag};
 use disk_model::Disk;
-use store_base::{DiskFault, mark_at, table_at, version_at, version_byte};
-use store_model::{BLOCK, Slot, Version};
-
-/// The block that clears a shadow block.
-static ZEROS: Slot = [0; BLOCK];
+use store_base::{DiskFault, ZEROS, mark_at, table_at, version_at, version_byte};
+use store_model::{Slot, Version};
 
 /// What a commit changes.
 #[derive(Clone, Copy)]

@@ -13,8 +13,10 @@ ghost use Rattle.gate_journal.specs.Recovery.{OutsideMarked, AreRedone, OutsideV
 ghost use Rattle.gate_journal.specs.Recovery.{OutsideRedone, IsRedone, marked_count, clear_writes, erase_writes};
 
 use disk_model::Disk;
-use store_base::{DiskFault, gate_at, mark_at, shadow_at, table_at, version_at, version_byte};
-use store_model::{BLOCK, Version};
+use store_base::{
+    DiskFault, ZEROS, gate_at, mark_at, shadow_at, table_at, version_at, version_byte,
+};
+use store_model::{BLOCK, Slot, Version};
 
 /// Whether each byte is zero, of at most those of a block.
 fn is_zero(bytes: &[u8]) -> bool
@@ -22,11 +24,11 @@ fn is_zero(bytes: &[u8]) -> bool
     ensures { IsTrue result ↔ IsZeroAt 0 (length bytes.now) bytes.now }
 {
     // Compared as a whole, which takes many bytes at once.
-    bytes == &[0; BLOCK][..bytes.len()]
+    bytes == &ZEROS[..bytes.len()]
 }
 
-/// Whether the block at this offset is zero.
-fn is_block_zero<D: Disk>(disk: &mut D, at: u64) -> Result<bool, DiskFault>
+/// Whether the block at this offset is zero. It is read into the buffer.
+fn is_block_zero<D: Disk>(disk: &mut D, at: u64, buffer: &mut Slot) -> Result<bool, DiskFault>
     requires { at + block_len ≤ (D.state disk.old).size }
     ensures call { IsCall (D.state disk.old) (D.state disk.new) result }
     ensures reads { IsObservable (D.state disk.old)
@@ -34,9 +36,8 @@ fn is_block_zero<D: Disk>(disk: &mut D, at: u64) -> Result<bool, DiskFault>
     ensures value { IsObservable (D.state disk.old)
         → IfOk result (λ zero. IsTrue zero ↔ IsZeroAt at block_len (D.state disk.old).bytes) }
 {
-    let mut block = [0; BLOCK];
-    disk.read_at(at, &mut block)?;
-    Ok(is_zero(&block))
+    disk.read_at(at, buffer)?;
+    Ok(is_zero(buffer))
 }
 
 /// Whether the byte at this offset is not zero.
@@ -139,8 +140,9 @@ pub fn is_journal_zero<D: Disk>(disk: &mut D, slots: u32) -> Result<bool, DiskFa
     ensures value { IsObservable (D.state disk.old)
         → IfOk result (λ zero. IsTrue zero ↔ HasEmptyJournal slots (D.state disk.old).bytes) }
 {
+    let mut buffer = [0; BLOCK];
     for block in 1..table_at(slots, 0) / BLOCK as u64 {
-        if !is_block_zero(disk, block * BLOCK as u64)? {
+        if !is_block_zero(disk, block * BLOCK as u64, &mut buffer)? {
             return Ok(false);
         }
     }

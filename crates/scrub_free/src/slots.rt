@@ -11,7 +11,7 @@ ghost use Rattle.scrub_free.specs.FreeSlots.{OutsideFreeSlot, OutsideFree, AreSc
 ghost use Rattle.scrub_free.specs.FreeSlots.{block_writes, scrub_writes};
 
 use disk_model::Disk;
-use store_base::{DiskFault, table_at};
+use store_base::{DiskFault, ZEROS, table_at};
 use store_model::{BLOCK, Slot};
 
 /// Whether a slot is free and not zero.
@@ -19,7 +19,7 @@ use store_model::{BLOCK, Slot};
 pub fn is_unclean(slot: &Slot) -> bool
     ensures { result ≡ is_unclean slot.now }
 {
-    slot[0] == 0 && *slot != [0; BLOCK]
+    slot[0] == 0 && *slot != ZEROS
 }
 
 /// Makes bytes 1 to 4,095 of a slot of the table zero, where byte 0 is 0 and they are not.

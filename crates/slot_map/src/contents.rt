@@ -6,8 +6,7 @@ ghost use Rattle.slot_map.specs.Contents as model;
 ghost use Rattle.slot_map.specs.Contents.{Holds, ShowsSlot};
 
 use node_pages::decode_page;
-use store_base::MAX_HEIGHT;
-use store_model::{BLOCK, Slot};
+use store_base::{MAX_HEIGHT, Slot, is_zero};
 
 /// What the bytes of a slot are.
 #[derive(Clone, Copy)]
@@ -18,13 +17,6 @@ pub(crate) enum Content {
     Page(u8),
     /// Anything else, and so no page of a tree.
     Other,
-}
-
-/// Whether each byte of a slot is zero.
-fn is_zero(slot: &Slot) -> bool
-    ensures { IsTrue result ↔ (slot.now ≡ slot_bytes None) }
-{
-    *slot == [0; BLOCK]
 }
 
 /// What a slot holds.

@@ -2,8 +2,8 @@
 //! No type here knows a disk, a table or a tree.
 //!
 //! There are faults, byte strings and the entries of a directory; keys and the labels that name pages; the parameters
-//! of an image, its header and where its areas lie; and the traits of the slots that a table is made of. Only
-//! `Entries` and `AttrEntries` take memory.
+//! of an image, its header and where its areas lie; and the traits of the slots that a table is made of, with a free
+//! slot's zeros. Only `Entries` and `AttrEntries` take memory.
 #![tactic(auto)]
 
 mod areas;
@@ -18,6 +18,7 @@ mod params;
 mod slots;
 mod store_fault;
 mod value;
+mod zeros;
 
 pub use areas::{areas_fill_the_image, gate_at, image_len, mark_at, shadow_at, table_at};
 pub use attr_entries::AttrEntries;
@@ -32,6 +33,7 @@ pub use slots::{ReadSlots, Slots};
 pub use store_fault::Fault;
 pub use store_model::{BLOCK, DrawKind, Refusal, Slot, Version};
 pub use value::{Bytes, Value};
+pub use zeros::{ZEROS, is_zero};
 
 /// What a call on a tree answers where no fault came: a value, or why the command is refused.
 pub type Answer<T> = Result<T, Refusal>;

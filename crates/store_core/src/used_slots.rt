@@ -9,11 +9,7 @@ ghost use Rattle.store_core.specs.UsedSlots.{used_changes, AreUsed};
 use gate_journal::SlotChanges;
 use layout_scratch::Layout;
 use std::alloc::Global;
-use store_base::NoMemory;
-use store_model::{BLOCK, Slot};
-
-/// A slot that holds no page.
-static EMPTY: Slot = [0; BLOCK];
+use store_base::{NoMemory, Slot, ZEROS};
 
 /// The slots of a layout that hold a page, each with its bytes there: no slot is copied.
 pub struct UsedSlots<'a> {
@@ -52,7 +48,7 @@ impl SlotChanges for UsedSlots<'_> {
         let at = self.numbers[k as usize];
         match self.layout.look(at) {
             Some(slot) => (at, slot),
-            None => (at, &EMPTY),
+            None => (at, &ZEROS),
         }
     }
 }

@@ -1,12 +1,9 @@
 //! What a slot holds.
 
-ghost use Rattle.std.specs.Prelude.{◌≡◌, ◌↔◌, IsTrue, None};
-ghost use Rattle.store_model.specs.Images.{slot_bytes};
 ghost use Rattle.table_order.specs.Contents.{TellsContent};
 
 use node_pages::decode_page;
-use store_base::Label;
-use store_model::{BLOCK, Slot};
+use store_base::{Label, Slot, is_zero};
 
 /// What a slot may hold.
 #[derive(Clone, Copy)]
@@ -17,13 +14,6 @@ pub(crate) enum Content {
     Held(Label),
     /// What no slot of a table holds.
     Other,
-}
-
-/// Whether each byte of a slot is zero.
-fn is_zero(slot: &Slot) -> bool
-    ensures { IsTrue result ↔ (slot.now ≡ slot_bytes None) }
-{
-    *slot == [0; BLOCK]
 }
 
 /// What a slot holds, in a table of lists of this height.

@@ -2,7 +2,7 @@ use Rattle.std.proofs.Common.{sym, ◌∙◌}
 use Rattle.std.specs.Cmp.Lexicographic.{bytes_decides}
 use Rattle.store_model.specs.Lists.{zeros}
 use Rattle.store_model.specs.Images.{slot_bytes}
-use Rattle.slot_map.proofs.contents.is_zero.Goals as goal
+use Rattle.store_base.proofs.zeros.is_zero.Goals as goal
 
 pub returns : goal.returns
 unfolding slot_bytes
