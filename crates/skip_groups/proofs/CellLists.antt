@@ -12,8 +12,9 @@ use Rattle.store_model.specs.Paths.{key_cmp}
 use Rattle.store_model.specs.Pages.{Cell, IsCell}
 use Rattle.store_model.proofs.ListsLemmas.{all_append, all_front, all_back, all_weaker, rising_one, rising_nil}
 use Rattle.store_model.proofs.ListsLemmas.{rising_cons, rising_head, rising_tail, rising_front, rising_back}
+use Rattle.node_pages.specs.Cells.{CellList}
 use Rattle.skip_groups.specs.Floors.{last_of}
-use Rattle.skip_groups.specs.GroupCells.{AreCells, last_key_of, is_behind, compares, side, merged}
+use Rattle.skip_groups.specs.GroupCells.{AreCells, IsRisingList, last_key_of, is_behind, compares, side, merged}
 
 -- the last cell stands at the last place
 pub last_at : (cells : List Cell) (cell : Cell) → slice_get cells (length cells - 1) ≡ Some cell
@@ -65,8 +66,9 @@ behind_last (c ∷ d ∷ cells) cell rising =
 -- ---- cells of a level
 
 module _ (level : ℕ) where
-  pub no_cells : AreCells level []
-  no_cells = record { each = tt; rising = rising_nil key_cmp }
+  pub no_list : {list : CellList} → list ≡ record { level = level; cells = [] } → IsRisingList level list
+  no_list same = subst (IsRisingList level) (sym same)
+      (record { level_is = refl; cells = record { each = tt; rising = rising_nil key_cmp } })
 
   pub front_cells : (xs ys : List Cell) → AreCells level (xs ++ ys) → AreCells level xs
   front_cells xs ys h = record {

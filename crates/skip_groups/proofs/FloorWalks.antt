@@ -1,15 +1,14 @@
 -- A search in the pages of one group, page after page.
-use Rattle.std.proofs.Common.{◌≡◌, ◌⊎◌, ℕ, zero, suc, ◌+◌, ◌-◌, ◌<◌, ◌≤◌, List, length, Option, Some, None, Ok, Err}
+use Rattle.std.proofs.Common.{◌≡◌, ◌⊎◌, ℕ, zero, suc, ◌+◌, ◌-◌, ◌<◌, ◌≤◌, List, length, Option, Some, None, Ok}
 use Rattle.std.proofs.Common.{refl, sym, ap, ◌∙◌, arith}
 use Rattle.std.specs.List.{prefix_len, slice_get}
-use Rattle.store_base.specs.declared.store_fault.Fault.{Fault}
 use Rattle.store_model.specs.Labels.{Lead}
 use Rattle.store_model.specs.Pages.{Cell, Page, page_room}
-use Rattle.node_pages.specs.PagesState.{PagesState, IsPageGet, most_pages}
+use Rattle.node_pages.specs.PagesState.{PagesState, IsPageGet}
 use Rattle.skip_groups.specs.Groups.{label_of}
 use Rattle.skip_groups.specs.Floors.{is_not_above, after_of}
 use Rattle.skip_groups.specs.Searches.{seen, IsSeen, IsGroupSearch}
-use Rattle.skip_groups.proofs.GroupSteps.{WalksTo, begins, breaks, ends, goes_on, is_over, same_count}
+use Rattle.skip_groups.proofs.GroupSteps.{WalksTo, begins, ends, goes_on}
 use Rattle.skip_groups.proofs.Walks.{Walked, Ends, some_at, walk_start, walk_none, walk_stop, walk_on}
 
 module _ {T : Type 0} (floor after : Cell → T → T)
@@ -23,13 +22,6 @@ module _ {T : Type 0} (floor after : Cell → T → T)
 
   abbrev pub Walks : PagesState → ℕ → T → Type 0
   Walks now index found = WalksTo old level lead now index (IsPassed index found)
-
-  pub walks_start : Walks old 0 start
-  walks_start = begins old level lead (IsPassed 0 start) (λ cells. record {
-    cell = None;
-    walked = walk_start (is_not_above key) level lead cells;
-    is = refl;
-  })
 
   -- the search at its end
   neighbours : (cells : List Cell) (below above : Option Cell) (passed found : T) → passed ≡ seen floor below start
@@ -68,54 +60,57 @@ module _ {T : Type 0} (floor after : Cell → T → T)
       counts None second = refl
       counts (Some first) second = last_counts first second start
 
-  module _ (now next : PagesState) (index : ℕ) (before : T) (w : Walks now index before) where
-    pub search_fails : {S : Type 0} (fault : Fault) → IsPageGet now next (label_of level lead index) (Err fault)
-        → IsGroupSearch {S = S} floor after old next level lead key start before (Err fault)
-    search_fails {S} fault get = breaks old level lead now next index (IsPassed index before) w (Err fault) fault
-        (λ cells. Unit {0}) (λ cells. tt) (same_count (Option Page) S old.faults fault) get
+pub walks_start : {T : Type 0} {floor after : Cell → T → T}
+    {last_counts : (first second : Cell) (found : T) → floor second (floor first found) ≡ floor second found}
+    {start : T} {old : PagesState} {level : ℕ} {lead : Lead} {key : List ℕ}
+    → Walks floor after last_counts start old level lead key old 0 start
+walks_start {level = level} {lead = lead} {key = key} = begins (λ cells. record {
+  cell = None;
+  walked = walk_start (is_not_above key) level lead cells;
+  is = refl;
+})
 
-    pub search_ends : {S : Type 0} (done : S) → index < 4294967296
-        → IsPageGet now next (label_of level lead index) (Ok None)
-        → IsGroupSearch floor after old next level lead key start before (Ok done)
-    search_ends done below get =
-        ends old level lead now next index (IsPassed index before) w None done
-        (IsSeen floor after key start before) below get
-        (λ cells passed here. neighbours cells passed.cell None before before passed.is refl
-        (walk_none (is_not_above key) level lead cells index passed.cell passed.walked here))
+module _ {T : Type 0} {floor after : Cell → T → T}
+    {last_counts : (first second : Cell) (found : T) → floor second (floor first found) ≡ floor second found}
+    {start : T} {old now next : PagesState} {level : ℕ} {lead : Lead} {key : List ℕ} {index : ℕ} {before : T}
+    (w : Walks floor after last_counts start old level lead key now index before) where
+  pub search_ends : {S : Type 0} {done : S} → index < 4294967296
+      → IsPageGet now next (label_of level lead index) (Ok None)
+      → IsGroupSearch floor after old next level lead key start before (Ok done)
+  search_ends below get =
+      ends w (IsSeen floor after key start before) below get
+      (λ cells passed here.
+      neighbours floor after last_counts start old level lead key cells passed.cell None before before passed.is refl
+      (walk_none (is_not_above key) level lead cells index passed.cell passed.walked here))
 
-    module _ (page : Page) (count : ℕ) (passing : T) (below : index < 4294967296)
-        (get : IsPageGet now next (label_of level lead index) (Ok (Some page)))
-        (counted : count ≡ prefix_len (is_not_above key) page.cells) (within : count ≤ length page.cells)
-        (none : count ≡ 0 → passing ≡ before) (some : 0 < count
-        → passing ≡ seen floor (slice_get page.cells (count - 1)) before) where
-      pub search_stops : {S : Type 0} (done : S) (found : T)
-          → (count < length page.cells) ⊎ (length page.cells < page_room level)
-          → found ≡ seen after (slice_get page.cells count) passing
-          → IsGroupSearch floor after old next level lead key start found (Ok done)
-      search_stops done found end is =
-          ends old level lead now next index (IsPassed index before) w (Some page) done
-          (IsSeen floor after key start found) below get
-          (λ cells passed here.
-          let p = picks page count passed.cell before passing within passed.is none some in
-          neighbours cells p.cell (slice_get page.cells count) passing found p.is is
-          (walk_stop (is_not_above key) level lead cells index passed.cell p.cell (slice_get page.cells count) page
-          count passed.walked here counted within end p.none p.some refl))
+  module _ {page : Page} {count : ℕ} {passing : T} (below : index < 4294967296)
+      (get : IsPageGet now next (label_of level lead index) (Ok (Some page)))
+      (counted : count ≡ prefix_len (is_not_above key) page.cells) (within : count ≤ length page.cells)
+      (none : count ≡ 0 → passing ≡ before) (some : 0 < count
+      → passing ≡ seen floor (slice_get page.cells (count - 1)) before) where
+    pub search_stops : {S : Type 0} {done : S} {found : T}
+        → (count < length page.cells) ⊎ (length page.cells < page_room level)
+        → found ≡ seen after (slice_get page.cells count) passing
+        → IsGroupSearch floor after old next level lead key start found (Ok done)
+    search_stops {found = found} end is =
+        ends w (IsSeen floor after key start found) below get
+        (λ cells passed here.
+        let p = picks floor after last_counts start old level lead key
+        page count passed.cell before passing within passed.is none some in
+        neighbours floor after last_counts start old level lead key
+        cells p.cell (slice_get page.cells count) passing found p.is is
+        (walk_stop (is_not_above key) level lead cells index passed.cell p.cell (slice_get page.cells count) page
+        count passed.walked here counted within end p.none p.some refl))
 
-      pub search_goes_on : length page.cells ≤ count → page_room level ≤ length page.cells
-          → Walks next (index + 1) passing
-      search_goes_on all full =
-          goes_on old level lead now next index (IsPassed index before) w page
-          (IsPassed (index + 1) passing) full below get
-          (λ cells passed here.
-          let p = picks page count passed.cell before passing within passed.is none some in
-          record {
-            cell = p.cell;
-            walked = walk_on (is_not_above key) level lead cells index passed.cell p.cell page count
-                passed.walked here counted within all full p.none p.some;
-            is = p.is;
-          })
-
-  pub search_is_over : {S : Type 0} (done : S) (now : PagesState) (index : ℕ) (found : T) → Walks now index found
-      → most_pages ≤ index → IsGroupSearch floor after old now level lead key start found (Ok done)
-  search_is_over done now index found w far =
-      is_over old level lead now index (IsPassed index found) done (IsSeen floor after key start found) w far
+    pub search_goes_on : length page.cells ≤ count → page_room level ≤ length page.cells
+        → Walks floor after last_counts start old level lead key next (index + 1) passing
+    search_goes_on all full =
+        goes_on w full below get (λ cells passed here.
+        let p = picks floor after last_counts start old level lead key
+        page count passed.cell before passing within passed.is none some in
+        record {
+          cell = p.cell;
+          walked = walk_on (is_not_above key) level lead cells index passed.cell p.cell page count
+              passed.walked here counted within all full p.none p.some;
+          is = p.is;
+        })

@@ -35,98 +35,103 @@ module _ (old : PagesState) (level : ℕ) (lead : Lead) where
     pub hidden : IsObservable now → IsObservable old
     pub observed : IsObservable old → Passes now index IsSeen
 
-  -- the walk is at its end
-  abbrev pub EndsWalk : {T : Type 0} → PagesState → Result T Fault → (List Cell → Type 0) → Type 0
-  EndsWalk new result IsFound = IsGroupWalk old new level lead IsFound result
+pub begins : {old : PagesState} {level : ℕ} {lead : Lead} {IsSeen : List Cell → Type 0}
+    → ((cells : List Cell) → IsSeen cells) → WalksTo old level lead old 0 IsSeen
+begins seen = record {
+  faults = refl;
+  lookups_kept = omega arith;
+  hidden = λ o. o;
+  observed = λ o. record {
+    observable = o;
+    unchanged = refl;
+    lookups = omega arith;
+    full = λ cells holds. omega arith;
+    seen = λ cells holds. seen cells;
+  };
+}
 
-  pub begins : (IsSeen : List Cell → Type 0) → ((cells : List Cell) → IsSeen cells) → WalksTo old 0 IsSeen
-  begins IsSeen seen = record {
-    faults = refl;
-    lookups_kept = omega arith;
-    hidden = λ o. o;
-    observed = λ o. record {
-      observable = o;
-      unchanged = refl;
-      lookups = omega arith;
-      full = λ cells holds. omega arith;
-      seen = λ cells holds. seen cells;
+-- what stands under the label
+found_page : {old now : PagesState} {level : ℕ} {lead : Lead} {index : ℕ} {IsSeen : List Cell → Type 0}
+    → Passes old level lead now index IsSeen → (cells : List Cell) (page : Option Page)
+    → HoldsGroup old.pages level lead cells → index < 4294967296
+    → page ≡ page_at now.pages (label_of level lead index) → slice_get (group_pages level lead cells) index ≡ page
+found_page {level = level} {lead = lead} {index = index} s cells page holds below is =
+    sym (is ∙ ap (λ m. page_at m (label_of level lead index)) s.unchanged ∙ holds.each index below)
+
+module _ {old now next : PagesState} {level : ℕ} {lead : Lead} {index : ℕ} {IsSeen : List Cell → Type 0}
+    (w : WalksTo old level lead now index IsSeen) where
+  -- one call more, at which the walk ends
+  ends_with : {T : Type 0} (given : Result (Option Page) Fault) (result : Result T Fault)
+      (IsFound : List Cell → Type 0) → disk_faults_after old.faults given ≡ disk_faults_after old.faults result
+      → IsPageGet now next (label_of level lead index) given
+      → (Passes old level lead now index IsSeen → GetsPage now next (label_of level lead index) given
+      → (cells : List Cell) → HoldsGroup old.pages level lead cells → IsFound cells)
+      → IsGroupWalk old next level lead IsFound result
+  ends_with given result IsFound same get found = record {
+    faults = get.faults ∙ ap (λ n. disk_faults_after n given) w.faults ∙ same;
+    lookups_kept = omega (arith, get.lookups_kept, w.lookups_kept);
+    hidden = λ o. w.hidden (get.hidden o);
+    observed = λ o. let s = w.observed o in let g = get.observed s.observable in record {
+      observable = g.observable;
+      unchanged = g.unchanged ∙ s.unchanged;
+      found = λ cells holds few. found s g cells holds;
+      lookups = λ cells holds.
+          omega (arith, get.lookups_most, s.lookups, cost_of_full level index cells (s.full cells holds));
     };
   }
 
-  module _ (now next : PagesState) (index : ℕ) (IsSeen : List Cell → Type 0) (w : WalksTo now index IsSeen) where
-    -- what stands under the label
-    found_page : Passes now index IsSeen → (cells : List Cell) (page : Option Page)
-        → HoldsGroup old.pages level lead cells → index < 4294967296
-        → page ≡ page_at now.pages (label_of level lead index) → slice_get (group_pages level lead cells) index ≡ page
-    found_page s cells page holds below is =
-        sym (is ∙ ap (λ m. page_at m (label_of level lead index)) s.unchanged ∙ holds.each index below)
+  -- with a fault
+  pub fails : {T : Type 0} {fault : Fault} → IsPageGet now next (label_of level lead index) (Err fault)
+      → IsGroupWalk {T = T} old next level lead (λ cells. Unit {0}) (Err fault)
+  fails {T} {fault} get = ends_with (Err fault) (Err fault) (λ cells. Unit {0})
+      (same_count (Option Page) T old.faults fault) get (λ s g cells holds. tt)
 
-    -- one call more, at which the walk ends
-    ends_with : {T : Type 0} (given : Result (Option Page) Fault) (result : Result T Fault)
-        (IsFound : List Cell → Type 0) → disk_faults_after old.faults given ≡ disk_faults_after old.faults result
-        → IsPageGet now next (label_of level lead index) given
-        → (Passes now index IsSeen → GetsPage now next (label_of level lead index) given → (cells : List Cell)
-        → HoldsGroup old.pages level lead cells → IsFound cells) → EndsWalk next result IsFound
-    ends_with given result IsFound same get found = record {
-      faults = get.faults ∙ ap (λ n. disk_faults_after n given) w.faults ∙ same;
-      lookups_kept = omega (arith, get.lookups_kept, w.lookups_kept);
-      hidden = λ o. w.hidden (get.hidden o);
-      observed = λ o. let s = w.observed o in let g = get.observed s.observable in record {
-        observable = g.observable;
-        unchanged = g.unchanged ∙ s.unchanged;
-        found = λ cells holds few. found s g cells holds;
-        lookups = λ cells holds.
-            omega (arith, get.lookups_most, s.lookups, cost_of_full level index cells (s.full cells holds));
-      };
-    }
+  -- memory ran out for what was found
+  pub lacks_memory : {T : Type 0} {page : Option Page} → IsPageGet now next (label_of level lead index) (Ok page)
+      → IsGroupWalk {T = T} old next level lead (λ cells. Unit {0}) (Err NoMemory)
+  lacks_memory {page = page} get =
+      ends_with (Ok page) (Err NoMemory) (λ cells. Unit {0}) refl get (λ s g cells holds. tt)
 
-    -- with a fault
-    pub breaks : {T : Type 0} (given : Result (Option Page) Fault) (fault : Fault) (IsFound : List Cell → Type 0)
-        → ((cells : List Cell) → IsFound cells)
-        → disk_faults_after old.faults given ≡ disk_faults_after {T = T} old.faults (Err fault)
-        → IsPageGet now next (label_of level lead index) given → EndsWalk {T = T} next (Err fault) IsFound
-    breaks given fault IsFound found same get =
-        ends_with given (Err fault) IsFound same get (λ s g cells holds. found cells)
+  -- with an answer
+  pub ends : {T : Type 0} {page : Option Page} {value : T} (IsFound : List Cell → Type 0) → index < 4294967296
+      → IsPageGet now next (label_of level lead index) (Ok page)
+      → ((cells : List Cell) → IsSeen cells → slice_get (group_pages level lead cells) index ≡ page → IsFound cells)
+      → IsGroupWalk old next level lead IsFound (Ok value)
+  ends {page = page} {value = value} IsFound below get found =
+      ends_with (Ok page) (Ok value) IsFound refl get
+      (λ s g cells holds. found cells (s.seen cells holds) (found_page s cells page holds below g.found))
 
-    -- with an answer
-    pub ends : {T : Type 0} (page : Option Page) (value : T) (IsFound : List Cell → Type 0) → index < 4294967296
-        → IsPageGet now next (label_of level lead index) (Ok page)
-        → ((cells : List Cell) → IsSeen cells → slice_get (group_pages level lead cells) index ≡ page → IsFound cells)
-        → EndsWalk next (Ok value) IsFound
-    ends page value IsFound below get found =
-        ends_with (Ok page) (Ok value) IsFound refl get
-        (λ s g cells holds. found cells (s.seen cells holds) (found_page s cells page holds below g.found))
-
-    -- and where the page is full, the walk goes on
-    pub goes_on : (page : Page) (IsNext : List Cell → Type 0) → page_room level ≤ length page.cells → index < 4294967296
-        → IsPageGet now next (label_of level lead index) (Ok (Some page))
-        → ((cells : List Cell) → IsSeen cells → slice_get (group_pages level lead cells) index ≡ Some page
-        → IsNext cells) → WalksTo next (index + 1) IsNext
-    goes_on page IsNext whole below get seen = record {
-      faults = get.faults ∙ w.faults;
-      lookups_kept = omega (arith, get.lookups_kept, w.lookups_kept);
-      hidden = λ o. w.hidden (get.hidden o);
-      observed = λ o. let s = w.observed o in let g = get.observed s.observable in record {
-        observable = g.observable;
-        unchanged = g.unchanged ∙ s.unchanged;
-        lookups = omega (arith, s.lookups, get.lookups_most);
-        full = λ cells holds. full_page level lead index cells page (found_page s cells (Some page) holds below g.found)
-            whole (s.full cells holds);
-        seen = λ cells holds. seen cells (s.seen cells holds) (found_page s cells (Some page) holds below g.found);
-      };
-    }
-
-  -- a group of fewer cells ends before
-  pub is_over : {T : Type 0} (now : PagesState) (index : ℕ) (IsSeen : List Cell → Type 0) (value : T)
-      (IsFound : List Cell → Type 0) → WalksTo now index IsSeen → most_pages ≤ index → EndsWalk now (Ok value) IsFound
-  is_over now index IsSeen value IsFound w far = record {
-    faults = w.faults;
-    lookups_kept = w.lookups_kept;
-    hidden = w.hidden;
-    observed = λ o. let s = w.observed o in record {
-      observable = s.observable;
-      unchanged = s.unchanged;
-      found = λ cells holds few. absurd (omega (arith, some_cells level index (length cells) (s.full cells holds)));
-      lookups = λ cells holds. omega (arith, s.lookups, cost_of_full level index cells (s.full cells holds));
+  -- and where the page is full, the walk goes on
+  pub goes_on : {page : Page} {IsNext : List Cell → Type 0} → page_room level ≤ length page.cells → index < 4294967296
+      → IsPageGet now next (label_of level lead index) (Ok (Some page))
+      → ((cells : List Cell) → IsSeen cells → slice_get (group_pages level lead cells) index ≡ Some page
+      → IsNext cells) → WalksTo old level lead next (index + 1) IsNext
+  goes_on {page = page} whole below get seen = record {
+    faults = get.faults ∙ w.faults;
+    lookups_kept = omega (arith, get.lookups_kept, w.lookups_kept);
+    hidden = λ o. w.hidden (get.hidden o);
+    observed = λ o. let s = w.observed o in let g = get.observed s.observable in record {
+      observable = g.observable;
+      unchanged = g.unchanged ∙ s.unchanged;
+      lookups = omega (arith, s.lookups, get.lookups_most);
+      full = λ cells holds. full_page level lead index cells page (found_page s cells (Some page) holds below g.found)
+          whole (s.full cells holds);
+      seen = λ cells holds. seen cells (s.seen cells holds) (found_page s cells (Some page) holds below g.found);
     };
   }
+
+-- a group of fewer cells ends before
+pub is_over : {T : Type 0} {old now : PagesState} {level : ℕ} {lead : Lead} {index : ℕ} {IsSeen : List Cell → Type 0}
+    {value : T} {IsFound : List Cell → Type 0} → WalksTo old level lead now index IsSeen → most_pages ≤ index
+    → IsGroupWalk old now level lead IsFound (Ok value)
+is_over {level = level} {index = index} w far = record {
+  faults = w.faults;
+  lookups_kept = w.lookups_kept;
+  hidden = w.hidden;
+  observed = λ o. let s = w.observed o in record {
+    observable = s.observable;
+    unchanged = s.unchanged;
+    found = λ cells holds few. absurd (omega (arith, some_cells level index (length cells) (s.full cells holds)));
+    lookups = λ cells holds. omega (arith, s.lookups, cost_of_full level index cells (s.full cells holds));
+  };
+}

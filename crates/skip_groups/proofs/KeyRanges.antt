@@ -14,10 +14,9 @@ use Rattle.store_model.specs.Paths.{key_cmp}
 use Rattle.store_model.specs.Pages.{Cell, Page, IsCell, IsCellValue, IsPage}
 use Rattle.store_model.proofs.ListsLemmas.{all_append, all_back, all_weaker, rising_append, rising_head, rising_tail}
 use Rattle.store_model.proofs.ListsLemmas.{rising_from_map, rising_to_map}
-use Rattle.node_pages.specs.Cells.{CellList}
 use Rattle.node_pages.proofs.PlaceLemmas.{same_key, reversed}
 use Rattle.skip_groups.specs.Floors.{is_not_above}
-use Rattle.skip_groups.specs.GroupCells.{AreCells, IsRisingList, AreBetween, last_key_of, is_behind, side}
+use Rattle.skip_groups.specs.GroupCells.{AreCells, AreBetween, last_key_of, is_behind, side}
 use Rattle.skip_groups.proofs.CellLists.{front_cells, back_cells, cells_push, last_at, last_is_above}
 use Rattle.skip_groups.proofs.Sides.{rising_split, AreAround, low_side, own_side, high_side}
 use Rattle.skip_groups.proofs.Halving.{same_cell, cell_at}
@@ -221,15 +220,6 @@ pub tied : (order : Ordering) → (ordering_index order == ordering_index Equal)
 tied Less = refl
 tied Equal = refl
 tied Greater = refl
-
--- the same on a level that is the same
-pub on_level : {P : Type 0} (n level : ℕ) (cells : List Cell) → n ≡ level → (AreCells n cells → P)
-    → AreCells level cells → P
-on_level n level cells same f are = f (subst (λ k. AreCells k cells) (sym same) are)
-
--- a list that came of another one
-pub list_on : (n level : ℕ) (list : CellList) → n ≡ level → IsRisingList n list → IsRisingList level list
-list_on n level list same = subst (λ k. IsRisingList k list) same
 
 -- ---- a range behind other cells
 

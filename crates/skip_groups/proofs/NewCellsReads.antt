@@ -1,11 +1,9 @@
 -- The pages of a group read for the cells of a key that are set there.
 use Rattle.std.proofs.Common.{◌≡◌, ◌⊎◌, inl, inr, ℕ, ◌+◌, ◌-◌, ◌<◌, ◌≤◌, List, [], ◌∷◌, ◌++◌, length, take, drop}
-use Rattle.std.proofs.Common.{Option, Some, None, Ok, Err, Less, Equal, Greater, refl, sym, ap, ap₂, subst, ◌∙◌}
+use Rattle.std.proofs.Common.{Option, Some, None, Ok, Less, Equal, Greater, refl, sym, ap, ap₂, subst, ◌∙◌}
 use Rattle.std.proofs.Common.{append_assoc, arith}
 use Rattle.std.specs.List.{slice_get}
 use Rattle.std.proofs.lemmas.List.{length-append, append-nil, take_all, take-append-drop}
-use Rattle.store_base.specs.declared.store_fault.Fault.{Fault}
-use Rattle.store_base.specs.declared.store_fault.Fault.TheVariants.{NoMemory}
 use Rattle.store_base.specs.declared.label.Lead as declared
 use Rattle.store_base.specs.Leads as leads
 use Rattle.store_model.specs.Labels.{Lead}
@@ -13,7 +11,7 @@ use Rattle.store_model.specs.Pages.{Cell, Page, page_room, group_pages}
 use Rattle.store_model.specs.PageMaps.{page_at}
 use Rattle.node_pages.specs.Cells.{CellList}
 use Rattle.node_pages.specs.LastPages.{pages_from}
-use Rattle.node_pages.specs.PagesState.{PagesState, IsPageGet, most_pages}
+use Rattle.node_pages.specs.PagesState.{PagesState, IsPageGet}
 use Rattle.node_pages.proofs.Joined.{cells_of_group, take_next}
 use Rattle.node_pages.proofs.Runs.{next_page, no_page}
 use Rattle.skip_groups.specs.declared.new_cells.NewCells.{NewCells}
@@ -26,7 +24,7 @@ use Rattle.skip_groups.specs.NewCells.{cells_gathered, ComeIn, IsCellsSet, IsAlo
 use Rattle.skip_groups.specs.NewCells.{IsNewCellsRead}
 use Rattle.skip_groups.proofs.CellLists.{front_cells, back_cells}
 use Rattle.skip_groups.proofs.GroupEnds.{last_page, within_room}
-use Rattle.skip_groups.proofs.GroupSteps.{WalksTo, begins, breaks, ends, goes_on, is_over, same_count}
+use Rattle.skip_groups.proofs.GroupSteps.{WalksTo, ends, goes_on}
 use Rattle.skip_groups.proofs.MapChanges.{nothing_behind}
 use Rattle.skip_groups.proofs.NewCellsMade.{cells_both, are_above, news_valid, made_to_end, made_alone, made_same}
 use Rattle.skip_groups.proofs.NewCellsMade.{made_behind}
@@ -204,158 +202,122 @@ module _ (level : ℕ) (lead : Lead) (key : List ℕ) (own cells : List Cell) wh
 
 -- ---- page after page
 
-module _ (old : PagesState) (level : ℕ) (lead : Lead) (key : List ℕ) (own : List Cell) where
+module _ (level : ℕ) (lead : Lead) (key : List ℕ) (own : List Cell) where
   -- so many pages of the group were read
   abbrev Sees : NewCells → ℕ → List Cell → Type 0
   Sees made index cells = IsCellsSet level lead key own (take index (group_pages level lead cells)) made
 
-  abbrev pub AreSeen : PagesState → ℕ → NewCells → Type 0
-  AreSeen now index made = WalksTo old level lead now index (Sees made index)
+  abbrev pub AreSeen : PagesState → PagesState → ℕ → NewCells → Type 0
+  AreSeen old now index made = WalksTo old level lead now index (Sees made index)
 
-  pub seen_none : (made : NewCells) → IsCellsSet level lead key own [] made → AreSeen old 0 made
-  seen_none made h = begins old level lead (Sees made 0) (λ cells. h)
+module _ {old now next : PagesState} {level : ℕ} {lead : Lead} {key : List ℕ} {own : List Cell} {index : ℕ}
+    {made : NewCells} (w : AreSeen level lead key own old now index made) where
+  seen_to : {answer : Option ℕ} {other : NewCells} {page : Option Page} → index < 4294967296
+      → IsPageGet now next (label_of level lead index) (Ok page)
+      → ((cells : List Cell) → Sees level lead key own made index cells
+      → slice_get (group_pages level lead cells) index ≡ page → AreNew level lead key own cells other)
+      → IsNewCellsRead old next level lead key own other (Ok answer)
+  seen_to {other = other} below get found = ends w (λ cells. AreNew level lead key own cells other) below get found
 
-  -- the pages that were read, and those behind them
-  first_pages : (index : ℕ) (cells : List Cell)
-      → group_pages level lead cells ≡ take index (group_pages level lead cells)
-      ++ drop index (group_pages level lead cells)
-  first_pages index cells = sym (take-append-drop index (group_pages level lead cells))
+  -- there is no further page
+  pub seen_ends : {other : NewCells} → IsEnd level key own made other → index < 4294967296
+      → IsPageGet now next (label_of level lead index) (Ok None)
+      → IsNewCellsRead {T = Option ℕ} old next level lead key own other (Ok None)
+  seen_ends {other = other} e below get = seen_to below get (λ cells seen none.
+      let group = group_pages level lead cells in
+      new_behind _ _ _ _ _ _ _ _ (sym (take-append-drop index group)) seen other e (nothing_behind index group none))
 
-  module _ (now next : PagesState) (index : ℕ) (made : NewCells) (w : AreSeen now index made) where
-    pub seen_fails : (other : NewCells) (fault : Fault) → IsPageGet now next (label_of level lead index) (Err fault)
-        → IsNewCellsRead {T = Option ℕ} old next level lead key own other (Err fault)
-    seen_fails other fault get = breaks old level lead now next index (Sees made index) w (Err fault) fault
-        (λ cells. Unit {0}) (λ cells. tt) (same_count (Option Page) (Option ℕ) old.faults fault) get
+  -- a page was taken in
+  module _ {page : Page} {other : NewCells} (set : (pages : List Page) → IsCellsSet level lead key own pages made
+      → IsCellsSet level lead key own (pages ++ page ∷ []) other) (below : index < 4294967296)
+      (get : IsPageGet now next (label_of level lead index) (Ok (Some page))) where
+    with_page : (cells : List Cell) → Sees level lead key own made index cells
+        → slice_get (group_pages level lead cells) index ≡ Some page → Sees level lead key own other (index + 1) cells
+    with_page cells seen there = subst (λ ps. IsCellsSet level lead key own ps other)
+        (sym (take_next (group_pages level lead cells) index page there))
+        (set (take index (group_pages level lead cells)) seen)
 
-    -- memory ran out for what was found
-    pub seen_lacks_memory : (other : NewCells) (page : Option Page)
-        → IsPageGet now next (label_of level lead index) (Ok page)
-        → IsNewCellsRead {T = Option ℕ} old next level lead key own other (Err NoMemory)
-    seen_lacks_memory other page get = breaks old level lead now next index (Sees made index) w (Ok page) NoMemory
-        (λ cells. Unit {0}) (λ cells. tt) refl get
+    pub seen_more : page_room level ≤ length page.cells → AreSeen level lead key own old next (index + 1) other
+    seen_more full = goes_on w full below get with_page
 
-    seen_to : (answer : Option ℕ) (other : NewCells) (page : Option Page) → index < 4294967296
-        → IsPageGet now next (label_of level lead index) (Ok page)
-        → ((cells : List Cell) → Sees made index cells → slice_get (group_pages level lead cells) index ≡ page
-        → AreNew level lead key own cells other) → IsNewCellsRead old next level lead key own other (Ok answer)
-    seen_to answer other page below get found =
-        ends old level lead now next index (Sees made index) w page answer
-        (λ cells. AreNew level lead key own cells other) below get found
+    pub seen_done : {answer : Option ℕ} → IsStep level lead page other Done
+        → IsNewCellsRead old next level lead key own other (Ok answer)
+    seen_done step = seen_to below get
+        (λ cells seen there. by_step cells (with_page cells seen there) there step.1)
+      where
+        to_end : (cells : List Cell) → Sees level lead key own other (index + 1) cells
+            → slice_get (group_pages level lead cells) index ≡ Some page → length page.cells < page_room level
+            → AreNew level lead key own cells other
+        to_end cells h there short =
+            let group = group_pages level lead cells in
+            new_to_end _ _ _ _ _ _ _ _ (sym (take-append-drop (index + 1) group)) h
+            step.0 (nothing_behind (index + 1) group (last_page level lead index cells page there short))
 
-    -- there is no further page
-    pub seen_ends : (other : NewCells) → IsEnd level key own made other → index < 4294967296
-        → IsPageGet now next (label_of level lead index) (Ok None)
-        → IsNewCellsRead {T = Option ℕ} old next level lead key own other (Ok None)
-    seen_ends other e below get = seen_to None other None below get (λ cells seen none.
-        new_behind level lead key own cells made (take index (group_pages level lead cells))
-        (drop index (group_pages level lead cells)) (first_pages index cells) seen other e
-        (nothing_behind index (group_pages level lead cells) none))
+        by_step : (cells : List Cell) → Sees level lead key own other (index + 1) cells
+            → slice_get (group_pages level lead cells) index ≡ Some page
+            → (length page.cells < page_room level) ⊎ IsAlone page other → AreNew level lead key own cells other
+        by_step cells h there (inl short) = to_end cells h there short
+        by_step cells h there (inr alone) =
+            let group = group_pages level lead cells in
+            elim (below_or_not (length page.cells) (page_room level)) [
+              | inl short ↦ to_end cells h there short
+              | inr full ↦ new_alone _ _ _ _ _ _ _ _ (sym (take-append-drop (index + 1) group)) h
+                  (take index group) page (take_next group index page there) alone full
+            ]
 
-    -- a page was taken in
-    module _ (page : Page) (other : NewCells) (set : (pages : List Page) → IsCellsSet level lead key own pages made
-        → IsCellsSet level lead key own (pages ++ page ∷ []) other) (below : index < 4294967296)
-        (get : IsPageGet now next (label_of level lead index) (Ok (Some page))) where
-      with_page : (cells : List Cell) → Sees made index cells
-          → slice_get (group_pages level lead cells) index ≡ Some page → Sees other (index + 1) cells
-      with_page cells seen there = subst (λ ps. IsCellsSet level lead key own ps other)
-          (sym (take_next (group_pages level lead cells) index page there))
-          (set (take index (group_pages level lead cells)) seen)
+    -- nothing changes
+    pub seen_same : IsStep level lead page other Same → {none : CellList} → none.cells ≡ []
+        → IsNewCellsRead {T = Option ℕ} old next level lead key own (record {
+          next = other.next;
+          kept = other.kept;
+          count = 0;
+          cells = none;
+        }) (Ok None)
+    seen_same step {none} empty = seen_to below get (λ cells seen there.
+        let group = group_pages level lead cells in
+        new_same _ _ _ _ _ _ _ _ (sym (take-append-drop (index + 1) group)) (with_page cells seen there)
+        (take index group) page (take_next group index page there) step.0 step.1 none empty)
 
-      pub seen_more : page_room level ≤ length page.cells → AreSeen next (index + 1) other
-      seen_more full = goes_on old level lead now next index (Sees made index) w page
-          (Sees other (index + 1)) full below get with_page
-
-      pub seen_done : (answer : Option ℕ) → IsStep level lead page other Done
-          → IsNewCellsRead old next level lead key own other (Ok answer)
-      seen_done answer step = seen_to answer other (Some page) below get
-          (λ cells seen there. by_step cells (with_page cells seen there) there step.1)
-        where
-          to_end : (cells : List Cell) → Sees other (index + 1) cells
-              → slice_get (group_pages level lead cells) index ≡ Some page → length page.cells < page_room level
-              → AreNew level lead key own cells other
-          to_end cells h there short =
-              let group = group_pages level lead cells in
-              new_to_end level lead key own cells other (take (index + 1) group) (drop (index + 1) group)
-              (first_pages (index + 1) cells) h
-              step.0 (nothing_behind (index + 1) group (last_page level lead index cells page there short))
-
-          by_step : (cells : List Cell) → Sees other (index + 1) cells
-              → slice_get (group_pages level lead cells) index ≡ Some page
-              → (length page.cells < page_room level) ⊎ IsAlone page other → AreNew level lead key own cells other
-          by_step cells h there (inl short) = to_end cells h there short
-          by_step cells h there (inr alone) =
-              let group = group_pages level lead cells in
-              elim (below_or_not (length page.cells) (page_room level)) [
-                | inl short ↦ to_end cells h there short
-                | inr full ↦ new_alone level lead key own cells other (take (index + 1) group) (drop (index + 1) group)
-                    (first_pages (index + 1) cells) h (take index group) page
-                    (take_next group index page there) alone full
-              ]
-
-      -- nothing changes
-      pub seen_same : IsStep level lead page other Same → (none : CellList) → none.cells ≡ []
-          → IsNewCellsRead {T = Option ℕ} old next level lead key own (record {
-            next = other.next;
-            kept = other.kept;
-            count = 0;
-            cells = none;
-          }) (Ok None)
-      seen_same step none empty = seen_to None (record {
-        next = other.next;
-        kept = other.kept;
-        count = 0;
-        cells = none;
-      }) (Some page) below get (λ cells seen there.
-          let group = group_pages level lead cells in
-          new_same level lead key own cells other (take (index + 1) group) (drop (index + 1) group)
-          (first_pages (index + 1) cells) (with_page cells seen there) (take index group) page
-          (take_next group index page there) step.0 step.1 none empty)
-
-    -- a page takes the key's cell
-    pub seen_place : (page : Page) (at : ℕ) (ahead : declared.Lead) (place : IsInsertPlace level key own page at)
-        → made.count ≡ 0 → made.kept ≡ index → leads.model_lead ahead
-        ≡ lead_from (last_of (take at page.cells)) (leads.model_lead made.next)
-        → index < 4294967296 → IsPageGet now next (label_of level lead index) (Ok (Some page))
-        → IsPlaceRead {T = Option ℕ} old next level lead key own (record {
-          next = ahead;
-          kept = made.kept;
-          count = made.count;
-          cells = made.cells;
-        }) at (Ok (Some at))
-    seen_place page at ahead place none kept_is led below get =
-        let other = with_place (record {
-          next = ahead;
-          kept = made.kept;
-          count = made.count;
-          cells = made.cells;
-        }) page at place.cell in
-        let few : length other.cells.cells ≤ length own + (length page.cells + length page.cells) =
-        omega (
-          arith,
-          length-append (take at page.cells)
-              (place.cell ∷ drop at page.cells),
-          length-append (take at page.cells) (drop at page.cells),
-          ap length
-              (take-append-drop at page.cells),
-          ap length place.own_is,
-        ) in
-        record {
-          page = page;
-          place = place;
-          found = λ o.
-              let g = get.observed (w.observed (w.hidden (get.hidden o))).observable in
-              ap (λ m. page_at m (label_of level lead made.kept)) g.unchanged
-              ∙ ap (λ n. page_at now.pages (label_of level lead n)) kept_is ∙ sym g.found;
-          read = seen_done page other
-              (λ pages h. set_begins level lead key own pages page made h none (inl place.room) ahead other.cells few
-              (λ valid. record {
-                next = led ∙ ap (λ xs. lead_from (last_of xs) (leads.model_lead made.next)) place.low;
-                cells = place.made;
-              })) below get (Some at)
-              (omega arith, inl place.room);
-        }
-
-  pub seen_all : (now : PagesState) (index : ℕ) (made : NewCells) → AreSeen now index made → most_pages ≤ index
-      → IsNewCellsRead {T = Option ℕ} old now level lead key own made (Ok None)
-  seen_all now index made w far = is_over old level lead now index (Sees made index) None
-      (λ cells. AreNew level lead key own cells made) w far
+  -- a page takes the key's cell
+  pub seen_place : {page : Page} {at : ℕ} {ahead : declared.Lead} (place : IsInsertPlace level key own page at)
+      → made.count ≡ 0 → made.kept ≡ index → leads.model_lead ahead
+      ≡ lead_from (last_of (take at page.cells)) (leads.model_lead made.next)
+      → index < 4294967296 → IsPageGet now next (label_of level lead index) (Ok (Some page))
+      → IsPlaceRead {T = Option ℕ} old next level lead key own (record {
+        next = ahead;
+        kept = made.kept;
+        count = made.count;
+        cells = made.cells;
+      }) at (Ok (Some at))
+  seen_place {page = page} {at = at} {ahead = ahead} place none kept_is led below get =
+      let other = with_place (record {
+        next = ahead;
+        kept = made.kept;
+        count = made.count;
+        cells = made.cells;
+      }) page at place.cell in
+      let few : length other.cells.cells ≤ length own + (length page.cells + length page.cells) =
+      omega (
+        arith,
+        length-append (take at page.cells)
+            (place.cell ∷ drop at page.cells),
+        length-append (take at page.cells) (drop at page.cells),
+        ap length
+            (take-append-drop at page.cells),
+        ap length place.own_is,
+      ) in
+      record {
+        page = page;
+        place = place;
+        found = λ o.
+            let g = get.observed (w.observed (w.hidden (get.hidden o))).observable in
+            ap (λ m. page_at m (label_of level lead made.kept)) g.unchanged
+            ∙ ap (λ n. page_at now.pages (label_of level lead n)) kept_is ∙ sym g.found;
+        read = seen_done {other = other}
+            (λ pages h. set_begins page h none (inl place.room) ahead other.cells few
+            (λ valid. record {
+              next = led ∙ ap (λ xs. lead_from (last_of xs) (leads.model_lead made.next)) place.low;
+              cells = place.made;
+            })) below get
+            (omega arith, inl place.room);
+      }

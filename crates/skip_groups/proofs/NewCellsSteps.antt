@@ -61,7 +61,7 @@ step_in level lead page made More some h = h
 step_in level lead page made Done some h = (some, inl h)
 step_in level lead page made Same some h = absurd h
 
-module _ (level : ℕ) (lead : Lead) (key : List ℕ) (own : List Cell) where
+module _ {level : ℕ} {lead : Lead} {key : List ℕ} {own : List Cell} where
   -- nothing is read
   pub set_none : (next : declared.Lead) (cells : CellList) → leads.model_lead next ≡ lead → cells.cells ≡ []
       → IsCellsSet level lead key own [] (record { next = next; kept = 0; count = 0; cells = cells })
@@ -77,7 +77,7 @@ module _ (level : ℕ) (lead : Lead) (key : List ℕ) (own : List Cell) where
     few = omega (arith, ap length none);
   }
 
-  module _ (pages : List Page) (page : Page) (old : NewCells) (h : IsCellsSet level lead key own pages old) where
+  module _ {pages : List Page} (page : Page) {old : NewCells} (h : IsCellsSet level lead key own pages old) where
     -- where no page gives way yet, all stay
     all_stay : old.count ≡ 0 → (h.gone ≡ []) × (pages ≡ h.stay)
     all_stay none = by_gone h.gone refl

@@ -20,7 +20,25 @@ use Rattle.skip_groups.proofs.CellLists.{front_cells}
 use Rattle.skip_groups.proofs.KeptPages.{lead_of_pages}
 use Rattle.skip_groups.proofs.NewCellsSteps.{cells_push, page_at_end}
 
-module _ (level : ℕ) (lead : Lead) (key : List ℕ) (start : List Cell) where
+-- the cells of one page more on a side of the key
+side_push : (level : ℕ) (key : List ℕ) (order : Ordering) (before old new : List Cell) (gone : List Page) (page : Page)
+    → (AreCells level (before ++ side order key (cells_gathered gone))
+    → old ≡ before ++ side order key (cells_gathered gone))
+    → (AreCells level (old ++ side order key page.cells) → new ≡ old ++ side order key page.cells)
+    → AreCells level (before ++ side order key (cells_gathered (gone ++ page ∷ [])))
+    → new ≡ before ++ side order key (cells_gathered (gone ++ page ∷ []))
+side_push level key order before old new gone page made added valid =
+    let front = before ++ side order key (cells_gathered gone) in
+    let more = side order key page.cells in
+    let parts : before ++ side order key (cells_gathered (gone ++ page ∷ [])) ≡ front ++ more =
+    ap (λ xs. before ++ side order key xs) (cells_push gone page)
+    ∙ ap (λ xs. before ++ xs) (filter-append (compares order key) (cells_gathered gone) page.cells)
+    ∙ sym (append_assoc before (side order key (cells_gathered gone)) more) in
+    let all = subst (AreCells level) parts valid in
+    let is = made (front_cells level front more all) in
+    added (subst (λ xs. AreCells level (xs ++ more)) (sym is) all) ∙ ap (λ xs. xs ++ more) is ∙ sym parts
+
+module _ {level : ℕ} {lead : Lead} {key : List ℕ} {start : List Cell} where
   -- nothing is read
   pub part_none : (next : declared.Lead) (cells : CellList) → leads.model_lead next ≡ lead → cells.cells ≡ []
       → IsParted level lead key [] start (record { next = next; kept = 0; count = 0; cells = cells }) start
@@ -39,25 +57,7 @@ module _ (level : ℕ) (lead : Lead) (key : List ℕ) (start : List Cell) where
     few_high = omega arith;
   }
 
-  -- the cells of one page more on a side of the key
-  side_push : (order : Ordering) (before old new : List Cell) (gone : List Page) (page : Page)
-      → (AreCells level (before ++ side order key (cells_gathered gone))
-      → old ≡ before ++ side order key (cells_gathered gone))
-      → (AreCells level (old ++ side order key page.cells) → new ≡ old ++ side order key page.cells)
-      → AreCells level (before ++ side order key (cells_gathered (gone ++ page ∷ [])))
-      → new ≡ before ++ side order key (cells_gathered (gone ++ page ∷ []))
-  side_push order before old new gone page made added valid =
-      let front = before ++ side order key (cells_gathered gone) in
-      let more = side order key page.cells in
-      let parts : before ++ side order key (cells_gathered (gone ++ page ∷ [])) ≡ front ++ more =
-      ap (λ xs. before ++ side order key xs) (cells_push gone page)
-      ∙ ap (λ xs. before ++ xs) (filter-append (compares order key) (cells_gathered gone) page.cells)
-      ∙ sym (append_assoc before (side order key (cells_gathered gone)) more) in
-      let all = subst (AreCells level) parts valid in
-      let is = made (front_cells level front more all) in
-      added (subst (λ xs. AreCells level (xs ++ more)) (sym is) all) ∙ ap (λ xs. xs ++ more) is ∙ sym parts
-
-  module _ (pages : List Page) (page : Page) (old : NewCells) (above : List Cell)
+  module _ {pages : List Page} (page : Page) {old : NewCells} {above : List Cell}
       (h : IsParted level lead key pages start old above) where
     -- where no page gives way yet, all stay
     none_gone : old.count ≡ 0 → h.gone ≡ []
@@ -116,8 +116,8 @@ module _ (level : ℕ) (lead : Lead) (key : List ℕ) (start : List Cell) where
           count_is = omega (arith, h.count_is, length-append h.gone (page ∷ []));
           kept = h.kept;
           next = h.next;
-          low = side_push Less [] old.cells.cells low.cells h.gone page h.low lows;
-          high = side_push Greater start above high h.gone page h.high highs;
+          low = side_push level key Less [] old.cells.cells low.cells h.gone page h.low lows;
+          high = side_push level key Greater start above high h.gone page h.high highs;
           few_low =
               omega (
                 arith,

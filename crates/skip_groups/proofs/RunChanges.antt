@@ -14,7 +14,6 @@ use Rattle.store_model.specs.Pages.{Cell, Page, page_room}
 use Rattle.store_model.specs.PageMaps.{PageMap, IsPageMap, with_page, without_page, map_of_pages}
 use Rattle.store_model.specs.PageMaps as maps
 use Rattle.store_model.proofs.TreesLemmasBytes.{labels_same}
-use Rattle.node_pages.specs.Cells.{CellList}
 use Rattle.node_pages.specs.LastPages.{page_of_run, pages_from}
 use Rattle.node_pages.specs.PagesState.{PagesState, IsObservable, IsCellInsert, IsPagePut, IsPageDrop}
 use Rattle.node_pages.proofs.EntryLemmas.{len-with_page}
@@ -42,9 +41,9 @@ len-without_page m l = subst (λ n. n ≤ len m) (sym (len-remove nat_list_cmp_t
     by_test true = omega arith
     by_test false = omega arith
 
-module _ (old : PagesState) (lead : Lead) (first count : ℕ) (list : CellList) where
+module _ (old : PagesState) (level : ℕ) (lead : Lead) (first count : ℕ) (cells : List Cell) where
   -- none is changed
-  pub run_begins : IsRunChange {T = Unit {0}} old old lead first count list 0 (Ok (tt {0}))
+  pub run_begins : IsRunChange {T = Unit {0}} old old level lead first count cells 0 (Ok (tt {0}))
   run_begins = record {
     faults = refl;
     lookups = refl;
@@ -60,15 +59,16 @@ module _ (old : PagesState) (lead : Lead) (first count : ℕ) (list : CellList) 
   }
 
   -- one more is
-  module _ (now new : PagesState) (i : ℕ) (h : IsRunChange {T = Unit {0}} old now lead first count list i (Ok (tt {0})))
+  module _ (now new : PagesState) (i : ℕ)
+      (h : IsRunChange {T = Unit {0}} old now level lead first count cells i (Ok (tt {0})))
       (below : first + i < 4294967296) where
-    pub run_puts : {T : Type 0} (result : Result T Fault) → i < length (runs (page_room list.level) list.cells)
-        → IsPagePut now new (page_of_run list.level lead (first + i)
-        (take (page_room list.level) (drop (page_room list.level * i) list.cells))) result
-        → IsRunChange old new lead first count list (i + 1) result
+    pub run_puts : {T : Type 0} (result : Result T Fault) → i < length (runs (page_room level) cells)
+        → IsPagePut now new (page_of_run level lead (first + i)
+        (take (page_room level) (drop (page_room level * i) cells))) result
+        → IsRunChange old new level lead first count cells (i + 1) result
     run_puts result within put =
-        let page = page_of_run list.level lead (first + i)
-        (take (page_room list.level) (drop (page_room list.level * i) list.cells)) in
+        let page = page_of_run level lead (first + i)
+        (take (page_room level) (drop (page_room level * i) cells)) in
         let further : first + i + 1 ≡ first + (i + 1) = omega arith in
         record {
           faults = put.faults ∙ ap (λ n. disk_faults_after n result) h.faults;
@@ -82,20 +82,20 @@ module _ (old : PagesState) (lead : Lead) (first count : ℕ) (list : CellList) 
                 (λ kept. omega (arith, ap len kept, s.room)) p.changed p.unchanged;
             changed = λ olds news front back run change is.
                 let there =
-                run.put i page (page_at list.level lead first i
-                list.cells (run_within list.level i list.cells within)) in
+                run.put i page (page_at level lead first i
+                cells (run_within level i cells within)) in
                 subst (λ n. OnOk result (new.pages ≡ map_of_pages (front ++ (changed_pages n olds news ++ back))))
                 further
                 (where_ok result (λ changed. changed
                 ∙ ap (λ m. with_page m page) (s.changed olds news front back run change is)
-                ∙ page_put list.level lead front back olds news change (first + i) below page there)
+                ∙ page_put level lead front back olds news change (first + i) below page there)
                 (put.observed s.observable).changed);
           };
         }
 
-    pub run_drops : {T : Type 0} (result : Result T Fault) (l : Label) → l ≡ label_of list.level lead (first + i)
-        → length (runs (page_room list.level) list.cells) ≤ i → i < count → IsPageDrop now new l result
-        → IsRunChange old new lead first count list (i + 1) result
+    pub run_drops : {T : Type 0} (result : Result T Fault) (l : Label) → l ≡ label_of level lead (first + i)
+        → length (runs (page_room level) cells) ≤ i → i < count → IsPageDrop now new l result
+        → IsRunChange old new level lead first count cells (i + 1) result
     run_drops result l label past within dropped =
         let further : first + i + 1 ≡ first + (i + 1) = omega arith in
         record {
@@ -111,15 +111,15 @@ module _ (old : PagesState) (lead : Lead) (first count : ℕ) (list : CellList) 
             changed = λ olds news front back run change is.
                 let there = page_there olds (first + i) (omega (arith, run.within)) in
                 let labelled : l ≡ there.0.label = label
-                ∙ sym (label_at list.level lead 0 (first + i) olds there.0 change.old_pages.numbered there.1
-                ∙ ap (label_of list.level lead) from_0) in
+                ∙ sym (label_at level lead 0 (first + i) olds there.0 change.old_pages.numbered there.1
+                ∙ ap (label_of level lead) from_0) in
                 subst (λ n. OnOk result (new.pages ≡ map_of_pages (front ++ (changed_pages n olds news ++ back))))
                 further
                 (where_ok result (λ changed. changed ∙ ap (λ k. without_page now.pages k) labelled
                 ∙ ap (λ m. without_page m there.0.label) (s.changed olds news front back run change is)
-                ∙ page_dropped list.level lead front back olds news change
+                ∙ page_dropped level lead front back olds news change
                 (first + i) below there.0 (run.dropped i
-                (omega (arith, past, length-pages_from list.level lead first list.cells)) within) there.1)
+                (omega (arith, past, length-pages_from level lead first cells)) within) there.1)
                 (dropped.observed s.observable).changed);
           };
         }
@@ -134,8 +134,8 @@ module _ (old : PagesState) (lead : Lead) (first count : ℕ) (list : CellList) 
 
   -- a fault ends it
   pub run_fails : {A B : Type 0} (new : PagesState) (past all : ℕ) (fault : Fault) → past ≤ all
-      → IsRunChange {T = A} old new lead first count list past (Err fault)
-      → IsRunChange {T = B} old new lead first count list all (Err fault)
+      → IsRunChange {T = A} old new level lead first count cells past (Err fault)
+      → IsRunChange {T = B} old new level lead first count cells all (Err fault)
   run_fails {A} {B} new past all fault within h = record {
     faults = h.faults ∙ same_count A B old.faults fault;
     lookups = h.lookups;
@@ -153,7 +153,7 @@ pub run_inserts : {T : Type 0} (old new : PagesState) (level : ℕ) (lead : Lead
     → (IsObservable old → IsPageMap old.pages)
     → (IsObservable old → maps.page_at old.pages (label_of level lead first) ≡ Some page)
     → l ≡ label_of level lead first → IsCellInsert old new l at cell result
-    → IsRunChange old new lead first 1 (record { level = level; cells = (with_cell page at cell).cells }) 1 result
+    → IsRunChange old new level lead first 1 (with_cell page at cell).cells 1 result
 run_inserts old new level lead first page at cell l result below room map found label_is insert = record {
   faults = insert.faults;
   lookups = insert.lookups;

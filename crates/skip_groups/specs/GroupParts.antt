@@ -40,5 +40,5 @@ IsGroupParted old new level lead key start made above result =
     (λ cells. OnOk result (IsParted level lead key (group_pages level lead cells) start made above)) result
 
 -- how many pages are changed from the first one on that gives way
-abbrev pub run_past : NewCells → ℕ
-run_past made = max made.count (length (runs (page_room made.cells.level) made.cells.cells))
+abbrev pub run_past : ℕ → NewCells → ℕ
+run_past level made = max made.count (length (runs (page_room level) made.cells.cells))

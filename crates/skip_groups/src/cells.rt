@@ -52,15 +52,15 @@ pub fn lead_behind(cells: &Cells, lead: &Lead) -> Lead
     }
 }
 
-/// Adds a cell behind the others where it is one of their level and its key is above theirs; any other is left out.
-fn push_rising(cells: &mut Cells, cell: &Cell) -> Result<(), NoMemory>
-    requires { AreCells cells.old.level cells.old.cells }
-    ensures valid { IsRisingList cells.old.level cells.new }
-    ensures added { AreCells cells.old.level (cells.old.cells ++ cell.now ∷ [])
+/// Adds a cell behind the others where it is one of the level and its key is above theirs; any other is left out.
+fn push_rising(cells: &mut Cells, level: u8, cell: &Cell) -> Result<(), NoMemory>
+    requires { IsRisingList level cells.old }
+    ensures valid { IsRisingList level cells.new }
+    ensures added { AreCells level (cells.old.cells ++ cell.now ∷ [])
         → OnOk result (cells.new.cells ≡ cells.old.cells ++ cell.now ∷ []) }
     ensures few { length cells.new.cells ≤ length cells.old.cells + 1 }
 {
-    if !cell.is_of(cells.level()) || !is_above(&cell.key, last_key(cells)) {
+    if !cell.is_of(level) || !is_above(&cell.key, last_key(cells)) {
         return Ok(());
     }
     cells.push(cell)
@@ -68,35 +68,40 @@ fn push_rising(cells: &mut Cells, cell: &Cell) -> Result<(), NoMemory>
 
 /// Adds the cells of the key behind the others, those left out that are not of the level or do not rise.
 /// After `NoMemory` a part of them may be there.
-pub fn append_own(cells: &mut Cells, own: &[Cell], key: &Key) -> Result<(), NoMemory>
-    requires { AreCells cells.old.level cells.old.cells }
-    ensures valid { IsRisingList cells.old.level cells.new }
-    ensures added { AreCells cells.old.level (cells.old.cells ++ side Equal key.now own.now)
+pub fn append_own(cells: &mut Cells, level: u8, own: &[Cell], key: &Key) -> Result<(), NoMemory>
+    requires { IsRisingList level cells.old }
+    ensures valid { IsRisingList level cells.new }
+    ensures added { AreCells level (cells.old.cells ++ side Equal key.now own.now)
         → OnOk result (cells.new.cells ≡ cells.old.cells ++ side Equal key.now own.now) }
     ensures few { length cells.new.cells ≤ length cells.old.cells + length own.now }
 {
     for cell in own {
         if cell.key.cmp(key).is_eq() {
-            push_rising(cells, cell)?;
+            push_rising(cells, level, cell)?;
         }
     }
     Ok(())
 }
 
 /// Adds the cells of a page from number `first` up to number `past` behind the others, where they are of the
-/// level of these and above them; any others are left out.
-fn append_rising(cells: &mut Cells, page: &Page, first: u32, past: u32) -> Result<(), NoMemory>
+/// level and above these; any others are left out.
+fn append_rising(
+    cells: &mut Cells,
+    level: u8,
+    page: &Page,
+    first: u32,
+    past: u32,
+) -> Result<(), NoMemory>
     requires order { first ≤ past }
     requires within { past ≤ length page.now.cells }
-    requires cells { AreCells cells.old.level cells.old.cells }
-    ensures valid { IsRisingList cells.old.level cells.new }
-    ensures added { AreCells cells.old.level
-        (cells.old.cells ++ drop first (take past page.now.cells))
+    requires cells { IsRisingList level cells.old }
+    ensures valid { IsRisingList level cells.new }
+    ensures added { AreCells level (cells.old.cells ++ drop first (take past page.now.cells))
         → OnOk result (cells.new.cells ≡ cells.old.cells ++ drop first (take past page.now.cells)) }
     ensures few { length cells.new.cells ≤ length cells.old.cells + (past - first) }
 {
     if first == past
-        || !have_same_cells(cells.level(), page.label().level)
+        || !have_same_cells(level, page.label().level)
         || !is_above(&page.key(first), last_key(cells))
     {
         return Ok(());
@@ -155,35 +160,40 @@ pub fn lead_before(page: &Page, at: u32, lead: &Lead) -> Lead
 
 /// Adds the cells of a page that are above the key behind the others, those left out that are not of the
 /// level or do not rise.
-pub fn append_above(cells: &mut Cells, page: &Page, key: &Key) -> Result<(), NoMemory>
-    requires { AreCells cells.old.level cells.old.cells }
-    ensures valid { IsRisingList cells.old.level cells.new }
-    ensures added { AreCells cells.old.level
-        (cells.old.cells ++ side Greater key.now page.now.cells)
+pub fn append_above(cells: &mut Cells, level: u8, page: &Page, key: &Key) -> Result<(), NoMemory>
+    requires { IsRisingList level cells.old }
+    ensures valid { IsRisingList level cells.new }
+    ensures added { AreCells level (cells.old.cells ++ side Greater key.now page.now.cells)
         → OnOk result (cells.new.cells ≡ cells.old.cells ++ side Greater key.now page.now.cells) }
     ensures few { length cells.new.cells ≤ length cells.old.cells + length page.now.cells }
 {
     let (_, past) = places_of(page, key);
-    append_rising(cells, page, past, page.len())
+    append_rising(cells, level, page, past, page.len())
 }
 
 /// Parts the cells of a page by the key: those below it come behind the ones of `low`, and those above it
 /// behind the ones of `high`, any left out that are not of the level or do not rise.
-pub fn part_page(low: &mut Cells, high: &mut Cells, page: &Page, key: &Key) -> Result<(), NoMemory>
-    requires low { AreCells low.old.level low.old.cells }
-    requires high { AreCells high.old.level high.old.cells }
-    ensures low_valid { IsRisingList low.old.level low.new }
-    ensures high_valid { IsRisingList high.old.level high.new }
-    ensures low { AreCells low.old.level (low.old.cells ++ side Less key.now page.now.cells)
+pub fn part_page(
+    low: &mut Cells,
+    high: &mut Cells,
+    level: u8,
+    page: &Page,
+    key: &Key,
+) -> Result<(), NoMemory>
+    requires low { IsRisingList level low.old }
+    requires high { IsRisingList level high.old }
+    ensures low_valid { IsRisingList level low.new }
+    ensures high_valid { IsRisingList level high.new }
+    ensures low { AreCells level (low.old.cells ++ side Less key.now page.now.cells)
         → OnOk result (low.new.cells ≡ low.old.cells ++ side Less key.now page.now.cells) }
-    ensures high { AreCells high.old.level (high.old.cells ++ side Greater key.now page.now.cells)
+    ensures high { AreCells level (high.old.cells ++ side Greater key.now page.now.cells)
         → OnOk result (high.new.cells ≡ high.old.cells ++ side Greater key.now page.now.cells) }
     ensures low_few { length low.new.cells ≤ length low.old.cells + length page.now.cells }
     ensures high_few { length high.new.cells ≤ length high.old.cells + length page.now.cells }
 {
     let (at, past) = places_of(page, key);
-    append_rising(low, page, 0, at)?;
-    append_rising(high, page, past, page.len())
+    append_rising(low, level, page, 0, at)?;
+    append_rising(high, level, page, past, page.len())
 }
 
 /// Whether a change of the key leaves a page of the level as it is: it is full, and its cells are below the key.
@@ -202,23 +212,25 @@ pub fn stays(level: u8, page: &Page, key: &Key) -> bool
 /// do not rise are left out.
 pub fn merge_page(
     cells: &mut Cells,
+    level: u8,
     lead: &Lead,
     page: &Page,
     key: &Key,
     own: &[Cell],
 ) -> Result<Lead, NoMemory>
-    requires { cells.old.cells ≡ [] }
-    ensures valid { IsRisingList cells.old.level cells.new }
-    ensures merged { AreCells cells.old.level (merged key.now page.now.cells own.now page.now.cells)
+    requires valid { IsRisingList level cells.old }
+    requires empty { cells.old.cells ≡ [] }
+    ensures valid { IsRisingList level cells.new }
+    ensures merged { AreCells level (merged key.now page.now.cells own.now page.now.cells)
         → IfOk result (λ next. IsMerged (model_lead lead.now)
         key.now page.now.cells own.now page.now.cells (next, cells.new.cells)) }
     ensures few { length cells.new.cells ≤ length page.now.cells
         + (length own.now + length page.now.cells) }
 {
     let (at, past) = places_of(page, key);
-    append_rising(cells, page, 0, at)?;
+    append_rising(cells, level, page, 0, at)?;
     let next = lead_behind(cells, lead);
-    append_own(cells, own, key)?;
-    append_rising(cells, page, past, page.len())?;
+    append_own(cells, level, own, key)?;
+    append_rising(cells, level, page, past, page.len())?;
     Ok(next)
 }

@@ -4,7 +4,7 @@ ghost use Rattle.std.specs.Prelude.{◌≡◌, ◌+◌, ◌<◌, ◌≤◌, [], 
 ghost use Rattle.store_base.specs.Leads.{model_lead};
 ghost use Rattle.store_model.specs.Labels as labels;
 ghost use Rattle.store_model.specs.Pages as model;
-ghost use Rattle.skip_groups.specs.GroupCells.{IsFirstCell, IsRisingList, AreCells};
+ghost use Rattle.skip_groups.specs.GroupCells.{IsFirstCell, IsRisingList};
 
 use crate::cells::{append_above, append_own, merge_page, part_page, place_of_own, stays};
 use crate::group::is_last;
@@ -71,48 +71,53 @@ impl NewCells {
         }
     }
 
-    /// Goes on with a page behind one that gives way.
-    fn append(&mut self, page: &Page, key: &Key) -> Result<Step, NoMemory>
-        requires valid { AreCells self.old.cells.level self.old.cells.cells }
+    /// Goes on with a page of the level behind one that gives way.
+    fn append(&mut self, level: u8, page: &Page, key: &Key) -> Result<Step, NoMemory>
+        requires valid { IsRisingList level self.old.cells }
         requires some { 0 < self.old.count }
         requires number { self.old.kept + self.old.count < 4294967295 }
-        ensures valid { OnOk result (IsRisingList self.old.cells.level self.new.cells) }
+        ensures valid { OnOk result (IsRisingList level self.new.cells) }
         ensures some { OnOk result (0 < self.new.count) }
         ensures counted { OnOk result
             (self.new.kept + self.new.count ≡ self.old.kept + self.old.count + 1) }
         ensures set { (lead : labels.Lead) (own : List model.Cell) (pages : List model.Page)
-            → IsCellsSet self.old.cells.level lead key.now own pages self.old
-            → OnOk result (IsCellsSet self.old.cells.level lead key.now own
-            (pages ++ page.now ∷ []) self.new) }
+            → IsCellsSet level lead key.now own pages self.old
+            → OnOk result (IsCellsSet level lead key.now own (pages ++ page.now ∷ []) self.new) }
         ensures step { (lead : labels.Lead)
-            → IfOk result (λ step. IsStep self.old.cells.level lead page.now self.new step) }
+            → IfOk result (λ step. IsStep level lead page.now self.new step) }
     {
-        let level = self.cells.level();
-        append_above(&mut self.cells, page, key)?;
+        append_above(&mut self.cells, level, page, key)?;
         self.count += 1;
         Ok(NewCells::step_behind(level, page))
     }
 
     /// Goes on with the first page that gives way. Where the key's cells take the place of as many, none
     /// behind it does.
-    fn begin(&mut self, lead: &Lead, page: &Page, key: &Key, own: &[Cell]) -> Result<Step, NoMemory>
+    fn begin(
+        &mut self,
+        level: u8,
+        lead: &Lead,
+        page: &Page,
+        key: &Key,
+        own: &[Cell],
+    ) -> Result<Step, NoMemory>
+        requires valid { IsRisingList level self.old.cells }
         requires none { self.old.count ≡ 0 }
         requires empty { self.old.cells.cells ≡ [] }
-        requires first { IsFirstCell self.old.cells.level key.now page.now }
+        requires first { IsFirstCell level key.now page.now }
         requires number { self.old.kept < 4294967295 }
-        ensures valid { OnOk result (IsRisingList self.old.cells.level self.new.cells) }
+        ensures valid { OnOk result (IsRisingList level self.new.cells) }
         ensures some { OnOk result (0 < self.new.count) }
         ensures counted { OnOk result
             (self.new.kept + self.new.count ≡ self.old.kept + self.old.count + 1) }
         ensures set { (pages : List model.Page)
-            → IsCellsSet self.old.cells.level (model_lead lead.now) key.now own.now pages self.old
-            → OnOk result (IsCellsSet self.old.cells.level (model_lead lead.now)
-            key.now own.now (pages ++ page.now ∷ []) self.new) }
+            → IsCellsSet level (model_lead lead.now) key.now own.now pages self.old
+            → OnOk result (IsCellsSet level (model_lead lead.now) key.now own.now
+            (pages ++ page.now ∷ []) self.new) }
         ensures step { IfOk result
-            (λ step. IsStep self.old.cells.level (model_lead lead.now) page.now self.new step) }
+            (λ step. IsStep level (model_lead lead.now) page.now self.new step) }
     {
-        let level = self.cells.level();
-        self.next = merge_page(&mut self.cells, &self.next, page, key, own)?;
+        self.next = merge_page(&mut self.cells, level, &self.next, page, key, own)?;
         self.count = 1;
         if self.cells.len() != page.len() {
             return Ok(NewCells::step_behind(level, page));
@@ -125,44 +130,44 @@ impl NewCells {
     }
 
     /// Where the cell of the key comes into a page behind those that stay, and changes no other page.
-    pub(crate) fn place(&self, page: &Page, key: &Key, own: &[Cell]) -> Option<u32>
+    pub(crate) fn place(&self, level: u8, page: &Page, key: &Key, own: &[Cell]) -> Option<u32>
         ensures none { IfSome result (λ at. self.now.count ≡ 0) }
-        ensures place { IfSome result
-            (λ at. IsInsertPlace self.now.cells.level key.now own.now page.now at) }
+        ensures place { IfSome result (λ at. IsInsertPlace level key.now own.now page.now at) }
     {
         if self.count > 0 {
             return None;
         }
-        place_of_own(self.cells.level(), page, key, own)
+        place_of_own(level, page, key, own)
     }
 
-    /// Goes on with the next page of the group that `lead` leads, and answers what is known behind it.
+    /// Goes on with the next page of the group that `lead` leads on the level, and answers what is known behind it.
     pub(crate) fn go_on(
         &mut self,
+        level: u8,
         lead: &Lead,
         page: &Page,
         key: &Key,
         own: &[Cell],
     ) -> Result<Step, NoMemory>
-        requires valid { AreCells self.old.cells.level self.old.cells.cells }
+        requires valid { IsRisingList level self.old.cells }
         requires empty { self.old.count ≡ 0 → self.old.cells.cells ≡ [] }
         requires number { self.old.kept + self.old.count < 4294967295 }
-        ensures valid { OnOk result (IsRisingList self.old.cells.level self.new.cells) }
+        ensures valid { OnOk result (IsRisingList level self.new.cells) }
         ensures empty { OnOk result (self.new.count ≡ 0 → self.new.cells.cells ≡ []) }
         ensures counted { OnOk result
             (self.new.kept + self.new.count ≡ self.old.kept + self.old.count + 1) }
         ensures set { (pages : List model.Page)
-            → IsCellsSet self.old.cells.level (model_lead lead.now) key.now own.now pages self.old
-            → OnOk result (IsCellsSet self.old.cells.level (model_lead lead.now)
-            key.now own.now (pages ++ page.now ∷ []) self.new) }
+            → IsCellsSet level (model_lead lead.now) key.now own.now pages self.old
+            → OnOk result (IsCellsSet level (model_lead lead.now) key.now own.now
+            (pages ++ page.now ∷ []) self.new) }
         ensures step { IfOk result
-            (λ step. IsStep self.old.cells.level (model_lead lead.now) page.now self.new step) }
+            (λ step. IsStep level (model_lead lead.now) page.now self.new step) }
     {
         if self.count > 0 {
-            return self.append(page, key);
+            return self.append(level, page, key);
         }
-        if !stays(self.cells.level(), page, key) {
-            return self.begin(lead, page, key, own);
+        if !stays(level, page, key) {
+            return self.begin(level, lead, page, key, own);
         }
         self.next = Lead::Key(page.key(page.len() - 1));
         self.kept += 1;
@@ -171,38 +176,44 @@ impl NewCells {
 
     /// Goes on with the next page of a group that is parted by the key: the cells below the key of each page that gives
     /// way come behind one another, and those above it behind `above`. After `NoMemory` nothing is promised of either.
-    pub fn part(&mut self, page: &Page, key: &Key, above: &mut Cells) -> Result<(), NoMemory>
-        requires low { AreCells self.old.cells.level self.old.cells.cells }
-        requires high { IsRisingList self.old.cells.level above.old }
+    pub fn part(
+        &mut self,
+        level: u8,
+        page: &Page,
+        key: &Key,
+        above: &mut Cells,
+    ) -> Result<(), NoMemory>
+        requires low { IsRisingList level self.old.cells }
+        requires high { IsRisingList level above.old }
         requires number { self.old.kept + self.old.count < 4294967295 }
-        ensures low { OnOk result (IsRisingList self.old.cells.level self.new.cells) }
-        ensures high { OnOk result (IsRisingList self.old.cells.level above.new) }
+        ensures low { OnOk result (IsRisingList level self.new.cells) }
+        ensures high { OnOk result (IsRisingList level above.new) }
         ensures counted { OnOk result
             (self.new.kept + self.new.count ≡ self.old.kept + self.old.count + 1) }
         ensures parted { (lead : labels.Lead) (start : List model.Cell) (pages : List model.Page)
-            → IsParted self.old.cells.level lead key.now pages start self.old above.old.cells
-            → OnOk result (IsParted self.old.cells.level lead key.now (pages ++ page.now ∷ []) start
-            self.new above.new.cells) }
+            → IsParted level lead key.now pages start self.old above.old.cells
+            → OnOk result (IsParted level lead key.now (pages ++ page.now ∷ []) start self.new
+            above.new.cells) }
     {
-        if self.count == 0 && stays(self.cells.level(), page, key) {
+        if self.count == 0 && stays(level, page, key) {
             self.next = Lead::Key(page.key(page.len() - 1));
             self.kept += 1;
             return Ok(());
         }
-        part_page(&mut self.cells, above, page, key)?;
+        part_page(&mut self.cells, above, level, page, key)?;
         self.count += 1;
         Ok(())
     }
 
     /// The key's cells come behind all others where no page gives way.
-    pub(crate) fn end(&mut self, key: &Key, own: &[Cell]) -> Result<(), NoMemory>
-        requires valid { AreCells self.old.cells.level self.old.cells.cells }
-        ensures valid { OnOk result (IsRisingList self.old.cells.level self.new.cells) }
-        ensures ends { OnOk result (IsEnd self.old.cells.level key.now own.now self.old self.new) }
+    pub(crate) fn end(&mut self, level: u8, key: &Key, own: &[Cell]) -> Result<(), NoMemory>
+        requires valid { IsRisingList level self.old.cells }
+        ensures valid { OnOk result (IsRisingList level self.new.cells) }
+        ensures ends { OnOk result (IsEnd level key.now own.now self.old self.new) }
     {
         if self.count > 0 {
             return Ok(());
         }
-        append_own(&mut self.cells, own, key)
+        append_own(&mut self.cells, level, own, key)
     }
 }

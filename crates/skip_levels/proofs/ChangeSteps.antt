@@ -61,21 +61,6 @@ module _ (old : PagesState) (top : ℕ) (first : Lead) (key value : List ℕ) wh
     pub down : IsObservable old → (d : Draw) (s : List Pair) → IsPutting d s old.pages top first key
         → IsDown now level lead d s
 
-  pub put_lacks_cell : PutsPairFrom {T = Unit {0}} old old top first key value (Err NoMemory)
-  put_lacks_cell = record {
-    call = record { faults = refl; lookups_kept = omega arith; hidden = λ o. o; observable = λ o. o };
-    put = λ o d s h. tt;
-    lookups = λ o d s h. omega arith;
-  }
-
-  pub put_lacks_memory : (now : PagesState) (level : ℕ) (lead : declared.Lead) → PutDown now level lead → level ≤ top
-      → PutsPairFrom {T = Unit {0}} old now top first key value (Err NoMemory)
-  put_lacks_memory now level lead w low = record {
-    call = memory_lacks old now (tt {0}) w.call;
-    put = λ o d s h. tt;
-    lookups = λ o d s h. omega (arith, (w.down o d s h).lookups, levels_within d s key level top (omega arith));
-  }
-
   module _ (is_key : IsKey key) (is_value : IsValue value) where
     pub first_to_put : (d : Draw) (s : List Pair) (h : IsPutting d s old.pages top first key)
         → SetsAt old.pages d top first s (put key_cmp key value s) key (cell_on top (key, value) ∷ []) (below key s)
@@ -90,11 +75,29 @@ module _ (old : PagesState) (top : ℕ) (first : Lead) (key value : List ℕ) wh
         → IsObservable old → PagesHaveRoom old.pages top first
     room_for_first place o = let p = place o in (first_to_put p.0 p.1 p.2).room
 
-    module _ (new : PagesState) (own : List Cell) where
-      pub put_not_set : (fault : Fault) → SetsCells old new top first key own (Err fault)
+module _ {old : PagesState} {top : ℕ} {first : Lead} {key value : List ℕ} where
+  pub put_lacks_cell : PutsPairFrom {T = Unit {0}} old old top first key value (Err NoMemory)
+  put_lacks_cell = record {
+    call = record { faults = refl; lookups_kept = omega arith; hidden = λ o. o; observable = λ o. o };
+    put = λ o d s h. tt;
+    lookups = λ o d s h. omega arith;
+  }
+
+  pub put_lacks_memory : {now : PagesState} {level : ℕ} {lead : declared.Lead}
+      → PutDown old top first key value now level lead → level ≤ top
+      → PutsPairFrom {T = Unit {0}} old now top first key value (Err NoMemory)
+  put_lacks_memory {level = level} w low = record {
+    call = memory_lacks w.call;
+    put = λ o d s h. tt;
+    lookups = λ o d s h. omega (arith, (w.down o d s h).lookups, levels_within d s key level top (omega arith));
+  }
+
+  module _ (is_key : IsKey key) (is_value : IsValue value) where
+    module _ {new : PagesState} {own : List Cell} where
+      pub put_not_set : {fault : Fault} → SetsCells old new top first key own (Err fault)
           → PutsPairFrom {T = Unit {0}} old new top first key value (Err fault)
-      put_not_set fault set = record {
-        call = failed_call old new fault set.call;
+      put_not_set set = record {
+        call = failed_call set.call;
         put = λ o d s h. tt;
         lookups = λ o d s h. omega (
           arith,
@@ -105,9 +108,10 @@ module _ (old : PagesState) (top : ℕ) (first : Lead) (key value : List ℕ) wh
         );
       }
 
-      pub put_starts : (next : declared.Lead) → own ≡ cell_on top (key, value) ∷ []
-          → SetsCells old new top first key own (Ok next) → PutDown new top next
-      put_starts next own_is set = record {
+      pub put_starts : {next : declared.Lead} → own ≡ cell_on top (key, value) ∷ []
+          → SetsCells old new top first key own (Ok next)
+          → PutDown old top first key value new top next
+      put_starts {next = next} own_is set = record {
         call = record {
           faults = set.call.faults;
           lookups_kept = set.call.lookups_kept;
@@ -115,7 +119,7 @@ module _ (old : PagesState) (top : ℕ) (first : Lead) (key value : List ℕ) wh
           observable = set.call.observable;
         };
         down = λ o d s h.
-            let at = first_to_put d s h in
+            let at = first_to_put old top first key value is_key is_value d s h in
             let done = (subst (λ cells. SetsCells old new top first key cells (Ok next)) own_is set).set o
             at.cells at.front at.back at.setting in
             record {
@@ -127,8 +131,12 @@ module _ (old : PagesState) (top : ℕ) (first : Lead) (key value : List ℕ) wh
             };
       }
 
-  module _ (now : PagesState) (level : ℕ) (lead : declared.Lead) (w : PutDown now (suc level) lead)
-      (lower : level < top) (is_key : IsKey key) (is_value : IsValue value) where
+  module _ {now : PagesState} {upper level : ℕ} {lead : declared.Lead}
+      (reached : PutDown old top first key value now upper lead) (next_upper : upper ≡ suc level) (lower : level < top)
+      (is_key : IsKey key) (is_value : IsValue value) where
+    abbrev w : PutDown old top first key value now (suc level) lead
+    w = subst (λ n. PutDown old top first key value now n lead) next_upper reached
+
     pub next_to_put : (o : IsObservable old) (d : Draw) (s : List Pair) (h : IsPutting d s old.pages top first key)
         → SplitsAt now.pages d level (model_lead lead) s (put key_cmp key value s) key (cell_on level (key, value) ∷ [])
         (below key s) (above key s)
@@ -164,11 +172,11 @@ module _ (old : PagesState) (top : ℕ) (first : Lead) (key value : List ℕ) wh
               (suc top) h.holds.pairs (omega arith),
         )
 
-    pub put_not_split : (new : PagesState) (own : List Cell) (fault : Fault)
+    pub put_not_split : {new : PagesState} {own : List Cell} {fault : Fault}
         → SplitsGroup now new level (model_lead lead) key own (Err fault)
         → PutsPairFrom {T = Unit {0}} old new top first key value (Err fault)
-    put_not_split new own fault split = record {
-      call = fails_behind old now new (tt {0}) fault w.call split.call;
+    put_not_split {new = new} split = record {
+      call = fails_behind w.call split.call;
       put = λ o d s h. tt;
       lookups = λ o d s h.
           omega (
@@ -178,10 +186,10 @@ module _ (old : PagesState) (top : ℕ) (first : Lead) (key value : List ℕ) wh
           );
     }
 
-    pub put_goes_on : (new : PagesState) (own : List Cell) (next : declared.Lead)
+    pub put_goes_on : {new : PagesState} {own : List Cell} {next : declared.Lead}
         → own ≡ cell_on level (key, value) ∷ [] → SplitsGroup now new level (model_lead lead) key own (Ok next)
-        → PutDown new level next
-    put_goes_on new own next own_is split = record {
+        → PutDown old top first key value new level next
+    put_goes_on {new = new} {next = next} own_is split = record {
       call = record {
         faults = split.call.faults ∙ w.call.faults;
         lookups_kept = omega (arith, split.call.lookups_kept, w.call.lookups_kept);
@@ -201,9 +209,10 @@ module _ (old : PagesState) (top : ℕ) (first : Lead) (key value : List ℕ) wh
           };
     }
 
-  pub put_ends : (now : PagesState) (level : ℕ) (lead : declared.Lead) → PutDown now level lead → level ≡ 0
+  pub put_ends : {now : PagesState} {level : ℕ} {lead : declared.Lead}
+      → PutDown old top first key value now level lead → level ≡ 0
       → PutsPairFrom {T = Unit {0}} old now top first key value (Ok (tt {0}))
-  put_ends now level lead w is_0 = record {
+  put_ends {level = level} w is_0 = record {
     call = w.call;
     put = λ o d s h. (w.down o d s h).pages_are
         ∙ ap (λ k. map_of_pages (pages_between d s (put key_cmp key value s) k)) is_0
@@ -257,11 +266,12 @@ module _ (old : PagesState) (top : ℕ) (first : Lead) (key : List ℕ) where
       → IsObservable old → PagesHaveRoom old.pages top first
   room_to_take place o = let p = place o in (first_to_take p.0 p.1 p.2).room
 
-  module _ (new : PagesState) (own : List Cell) where
-    pub take_not_set : (fault : Fault) → SetsCells old new top first key own (Err fault)
+module _ {old : PagesState} {top : ℕ} {first : Lead} {key : List ℕ} where
+  module _ {new : PagesState} {own : List Cell} where
+    pub take_not_set : {fault : Fault} → SetsCells old new top first key own (Err fault)
         → TakesPairFrom {T = Unit {0}} old new top first key (Err fault)
-    take_not_set fault set = record {
-      call = failed_call old new fault set.call;
+    take_not_set set = record {
+      call = failed_call set.call;
       taken = λ o d s h. tt;
       lookups = λ o d s h.
           let within = take_within d s old.pages top first key h in
@@ -269,13 +279,13 @@ module _ (old : PagesState) (top : ℕ) (first : Lead) (key : List ℕ) where
             arith,
             cost_of_first old new top first key d s h.holds h.leads within
                 (λ cells holds. set.lookups o cells holds),
-            both_within d s top (omega arith) within,
+            both_within old top first key d s top (omega arith) within,
           );
     }
 
-    pub take_starts : (next : declared.Lead) → own ≡ [] → SetsCells old new top first key own (Ok next)
-        → TakenDown new top next
-    take_starts next own_is set = record {
+    pub take_starts : {next : declared.Lead} → own ≡ [] → SetsCells old new top first key own (Ok next)
+        → TakenDown old top first key new top next
+    take_starts {next = next} own_is set = record {
       call = record {
         faults = set.call.faults;
         lookups_kept = set.call.lookups_kept;
@@ -283,7 +293,7 @@ module _ (old : PagesState) (top : ℕ) (first : Lead) (key : List ℕ) where
         observable = set.call.observable;
       };
       down = λ o d s h.
-          let at = first_to_take d s h in
+          let at = first_to_take old top first key d s h in
           let done = (subst (λ cells. SetsCells old new top first key cells (Ok next)) own_is set).set o
           at.cells at.front at.back at.setting in
           record {
@@ -299,12 +309,16 @@ module _ (old : PagesState) (top : ℕ) (first : Lead) (key : List ℕ) where
           };
     }
 
-  module _ (now : PagesState) (level : ℕ) (lead : declared.Lead) (w : TakenDown now (suc level) lead)
+  module _ {now : PagesState} {upper level : ℕ} {lead : declared.Lead}
+      (reached : TakenDown old top first key now upper lead) (next_upper : upper ≡ suc level)
       (lower : level < top) where
+    abbrev t : TakenDown old top first key now (suc level) lead
+    t = subst (λ n. TakenDown old top first key now n lead) next_upper reached
+
     pub next_to_take : (o : IsObservable old) (d : Draw) (s : List Pair) (h : IsTaking d s old.pages top first key)
         → JoinsAt now.pages d level (model_lead lead) s (without key s) key (below key s) (above key s) (key, h.value)
     next_to_take o d s h =
-        let n = w.down o d s h in
+        let n = t.down o d s h in
         let next : suc level ≡ level + 1 = omega arith in
         subst (λ l. JoinsAt now.pages d level l s (without key s) key (below key s) (above key s) (key, h.value))
         (sym (n.leads level refl))
@@ -313,10 +327,10 @@ module _ (old : PagesState) (top : ℕ) (first : Lead) (key : List ℕ) where
 
     module _ (place : IsObservable old → (d : Draw) × (s : List Pair) × IsTaking d s old.pages top first key) where
       pub room_to_join_low : IsObservable now → PagesHaveRoom now.pages level (model_lead lead)
-      room_to_join_low o = let p = place (w.call.hidden o) in (next_to_take (w.call.hidden o) p.0 p.1 p.2).room
+      room_to_join_low o = let p = place (t.call.hidden o) in (next_to_take (t.call.hidden o) p.0 p.1 p.2).room
 
       pub room_to_join_own : IsObservable now → PagesHaveRoom now.pages level (Leader key)
-      room_to_join_own o = let p = place (w.call.hidden o) in (next_to_take (w.call.hidden o) p.0 p.1 p.2).own_room
+      room_to_join_own o = let p = place (t.call.hidden o) in (next_to_take (t.call.hidden o) p.0 p.1 p.2).own_room
 
     -- what reading both groups costs with the levels above
     with_both : (new : PagesState) (o : IsObservable old) (d : Draw) (s : List Pair)
@@ -324,7 +338,7 @@ module _ (old : PagesState) (top : ℕ) (first : Lead) (key : List ℕ) where
         → ((low high : List Cell) → HoldsGroup now.pages level (model_lead lead) low
         → HoldsGroup now.pages level (Leader key) high
         → new.lookups ≤ now.lookups + (group_cost level low + group_cost level high))
-        → new.lookups ≤ old.lookups + cost_of_both d s level
+        → new.lookups ≤ old.lookups + cost_of_both old top first key d s level
     with_both new o d s h more =
         let at = next_to_take o d s h in
         let under : level < d.level key = omega (arith, h.own) in
@@ -338,54 +352,56 @@ module _ (old : PagesState) (top : ℕ) (first : Lead) (key : List ℕ) where
           more at.lows at.highs at.joining.low_holds at.joining.high_holds,
           low,
           high,
-          (w.down o d s h).lookups,
+          (t.down o d s h).lookups,
           costs_down (cost_at d s key) level (suc top) (omega arith),
           costs_down (cost_below d s key) level d.height (omega (arith, take_within d s old.pages top first key h)),
         )
 
-    pub take_not_joined : (new : PagesState) (fault : Fault)
+    pub take_not_joined : {new : PagesState} {fault : Fault}
         → JoinsGroups now new level (model_lead lead) key (Err fault)
         → TakesPairFrom {T = Unit {0}} old new top first key (Err fault)
-    take_not_joined new fault join = record {
-      call = fails_behind old now new (tt {0}) fault w.call join.call;
+    take_not_joined {new = new} join = record {
+      call = fails_behind t.call join.call;
       taken = λ o d s h. tt;
       lookups = λ o d s h.
           omega (
             arith,
-            with_both new o d s h (λ low high a b. join.lookups (w.call.observable o) low high a b),
-            both_within d s level (omega arith) (take_within d s old.pages top first key h),
+            with_both new o d s h (λ low high a b. join.lookups (t.call.observable o) low high a b),
+            both_within old top first key d s level (omega arith) (take_within d s old.pages top first key h),
           );
     }
 
-    pub take_goes_on : (new : PagesState) (next : declared.Lead)
-        → JoinsGroups now new level (model_lead lead) key (Ok next) → TakenDown new level next
-    take_goes_on new next join = record {
+    pub take_goes_on : {new : PagesState} {next : declared.Lead}
+        → JoinsGroups now new level (model_lead lead) key (Ok next)
+        → TakenDown old top first key new level next
+    take_goes_on {new = new} join = record {
       call = record {
-        faults = join.call.faults ∙ w.call.faults;
-        lookups_kept = omega (arith, join.call.lookups_kept, w.call.lookups_kept);
-        hidden = λ o. w.call.hidden (join.call.hidden o);
-        observable = λ o. join.call.observable (w.call.observable o);
+        faults = join.call.faults ∙ t.call.faults;
+        lookups_kept = omega (arith, join.call.lookups_kept, t.call.lookups_kept);
+        hidden = λ o. t.call.hidden (join.call.hidden o);
+        observable = λ o. join.call.observable (t.call.observable o);
       };
       down = λ o d s h.
           let at = next_to_take o d s h in
-          let done = join.joined (w.call.observable o) at.lows at.highs at.front at.back at.joining in
+          let done = join.joined (t.call.observable o) at.lows at.highs at.front at.back at.joining in
           record {
             pages_are = done.pages_are ∙ ap map_of_pages at.after;
             leads = λ lower is. done.next_is ∙ sym (at.next lower is);
-            lookups = with_both new o d s h (λ low high a b. join.lookups (w.call.observable o) low high a b);
+            lookups = with_both new o d s h (λ low high a b. join.lookups (t.call.observable o) low high a b);
           };
     }
 
-  pub take_ends : (now : PagesState) (level : ℕ) (lead : declared.Lead) → TakenDown now level lead → level ≡ 0
+  pub take_ends : {now : PagesState} {level : ℕ} {lead : declared.Lead}
+      → TakenDown old top first key now level lead → level ≡ 0
       → TakesPairFrom {T = Unit {0}} old now top first key (Ok (tt {0}))
-  take_ends now level lead w is_0 = record {
+  take_ends {level = level} w is_0 = record {
     call = w.call;
     taken = λ o d s h. (w.down o d s h).pages_are ∙ ap (λ k. map_of_pages (pages_between d s (without key s) k)) is_0
         ∙ ap map_of_pages (all_changed d s (without key s));
     lookups = λ o d s h. omega (
       arith,
       (w.down o d s h).lookups,
-      both_within d s level (omega arith)
+      both_within old top first key d s level (omega arith)
           (take_within d s old.pages top first key h),
     );
   }

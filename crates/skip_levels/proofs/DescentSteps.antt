@@ -17,7 +17,7 @@ use Rattle.skip_levels.specs.SearchPath.{above, leader_behind, leader_ahead, not
 use Rattle.skip_levels.specs.Descent.{HoldsPairs, IsSearched, LiesInKnown, IsPlace, IsWayFrom, IsWayDown, IsPlaceSearch}
 use Rattle.skip_levels.specs.Descent.{lead_in, led_by, followed_by}
 use Rattle.skip_levels.specs.declared.walk.PathEnd.{PathEnd}
-use Rattle.skip_groups.specs.Searches.{seen, ReadsGroup, IsGroupSearch}
+use Rattle.skip_groups.specs.Searches.{seen, ReadsGroup, IsGroupWalk, IsGroupSearch}
 use Rattle.skip_levels.proofs.PlaceGroups.{group_of_place}
 use Rattle.skip_levels.proofs.Descents.{key_ahead, next_lead, next_ahead, start_leads_highest, none_ahead_highest}
 use Rattle.skip_levels.proofs.PathLemmas.{side_passes, side_fails, holds_path, few_on_path}
@@ -56,7 +56,18 @@ module _ (old : PagesState) (top : ℕ) (from : PathEnd) (key : List ℕ) where
     pub hidden : IsObservable now → IsObservable old
     pub observed : IsObservable old → Nears now level end
 
-  pub way_starts : Descends old top from
+-- the level's group
+holds_group : {old now : PagesState} {top : ℕ} {from : PathEnd} {key : List ℕ} {level : ℕ} {end : PathEnd} → level ≤ top
+    → Nears old top from key now level end → (d : Draw) (s : List Pair) → IsWayFrom d s old.pages top key from
+    → HoldsGroup now.pages level (model_lead end.lead) (group_of_place d level (not_above key s) (above key s))
+holds_group {old} {key = key} {level = level} {end = end} within n d s f =
+    let group = group_of_place d level (not_above key s) (above key s) in
+    subst (λ m. HoldsGroup m level (model_lead end.lead) group) (sym n.unchanged)
+    (subst (λ l. HoldsGroup old.pages level l group) (sym (n.place d s f).lead)
+    (holds_path d s old level key f.holds (omega (arith, f.within))))
+
+module _ {old : PagesState} {top : ℕ} {from : PathEnd} {key : List ℕ} where
+  pub way_starts : Descends old top from key old top from
   way_starts = record {
     faults = refl;
     lookups_kept = omega arith;
@@ -69,18 +80,10 @@ module _ (old : PagesState) (top : ℕ) (from : PathEnd) (key : List ℕ) where
     };
   }
 
-  module _ (now next : PagesState) (level : ℕ) (end : PathEnd) (w : Descends now level end) (within : level ≤ top) where
-    -- the level's group
-    holds_group : Nears now level end → (d : Draw) (s : List Pair) → IsWayFrom d s old.pages top key from
-        → HoldsGroup now.pages level (model_lead end.lead) (group_of_place d level (not_above key s) (above key s))
-    holds_group n d s f =
-        let group = group_of_place d level (not_above key s) (above key s) in
-        subst (λ m. HoldsGroup m level (model_lead end.lead) group) (sym n.unchanged)
-        (subst (λ l. HoldsGroup old.pages level l group) (sym (n.place d s f).lead)
-        (holds_path d s old level key f.holds (omega (arith, f.within))))
-
+  module _ {now next : PagesState} {level : ℕ} {end : PathEnd} (w : Descends old top from key now level end)
+      (within : level ≤ top) where
     -- what the levels from this one on cost
-    level_cost : {IsFound : List Cell → Type 0} (n : Nears now level end)
+    level_cost : {IsFound : List Cell → Type 0} (n : Nears old top from key now level end)
         → ReadsGroup now next level (model_lead end.lead) IsFound
         → (d : Draw) (s : List Pair) → IsWayFrom d s old.pages top key from
         → next.lookups ≤ old.lookups + levels_cost d s key level (suc top - level)
@@ -88,15 +91,15 @@ module _ (old : PagesState) (top : ℕ) (from : PathEnd) (key : List ℕ) where
         omega (
           arith,
           g.lookups (group_of_place d level (not_above key s) (above key s))
-              (holds_group n d s f),
+              (holds_group within n d s f),
           n.lookups d s f,
           cost_of_level d s key level (suc top) f.holds.pairs (omega arith),
         )
 
-    pub way_fails : {S : Type 0} (below : PathEnd) (fault : Fault) (bottom : ℕ) → suc bottom ≤ level
-        → IsGroupSearch {S = S} led_by followed_by now next level (model_lead end.lead) key end below (Err fault)
+    pub way_fails : {S : Type 0} {fault : Fault} {bottom : ℕ} {IsFound : List Cell → Type 0} → suc bottom ≤ level
+        → IsGroupWalk {T = S} now next level (model_lead end.lead) IsFound (Err fault)
         → IsWayDown old next top from bottom key (Err fault)
-    way_fails {S} below fault bottom low search = record {
+    way_fails {S} {fault} {bottom} low search = record {
       faults = search.faults ∙ ap (λ n. disk_faults_after {T = S} n (Err fault)) w.faults
           ∙ same_count S PathEnd old.faults fault;
       lookups_kept = omega (arith, search.lookups_kept, w.lookups_kept);
@@ -115,10 +118,10 @@ module _ (old : PagesState) (top : ℕ) (from : PathEnd) (key : List ℕ) where
         levels_between : (b : ℕ) → suc top - suc b ≡ top - b
         levels_between b = omega arith
 
-    pub way_goes_on : {S : Type 0} (done : S) (below : PathEnd) (lower : ℕ) → level ≡ suc lower
+    pub way_goes_on : {S : Type 0} {done : S} {below : PathEnd} {lower : ℕ} → level ≡ suc lower
         → IsGroupSearch led_by followed_by now next level (model_lead end.lead) key end below (Ok done)
-        → Descends next lower below
-    way_goes_on done below lower is search = record {
+        → Descends old top from key next lower below
+    way_goes_on {below = below} {lower = lower} is search = record {
       faults = search.faults ∙ w.faults;
       lookups_kept = omega (arith, search.lookups_kept, w.lookups_kept);
       hidden = λ o. w.hidden (search.hidden o);
@@ -131,7 +134,7 @@ module _ (old : PagesState) (top : ℕ) (from : PathEnd) (key : List ℕ) where
             let at = n.place d s f in
             let group = group_of_place d level low high in
             let is_seen : below ≡ seen followed_by (after_of key group) (seen led_by (floor_of key group) end) =
-            g.found group (holds_group n d s f) (few_on_path d s old level key f.holds) in
+            g.found group (holds_group within n d s f) (few_on_path d s old level key f.holds) in
             record {
               lead = ap (λ (e : PathEnd). model_lead e.lead) is_seen
                   ∙ lead_seen (floor_of key group) (after_of key group) end
@@ -152,9 +155,10 @@ module _ (old : PagesState) (top : ℕ) (from : PathEnd) (key : List ℕ) where
       };
     }
 
-  pub way_ends : (now : PagesState) (end : PathEnd) (level bottom : ℕ) → level ≡ bottom → Descends now level end
+  pub way_ends : {now : PagesState} {end : PathEnd} {level bottom : ℕ} → level ≡ bottom
+      → Descends old top from key now level end
       → IsWayDown old now top from bottom key (Ok end)
-  way_ends now end level bottom low w = record {
+  way_ends {now} {end} {level} low w = record {
     faults = w.faults;
     lookups_kept = w.lookups_kept;
     hidden = w.hidden;

@@ -14,8 +14,6 @@ use Rattle.store_model.specs.Labels.{Lead}
 use Rattle.store_model.specs.Labels.Lead.{Leader}
 use Rattle.store_model.specs.Pages.{Cell, Page, page_room, group_pages}
 use Rattle.store_model.specs.PageMaps.{map_of_pages}
-use Rattle.node_pages.specs.Cells.{CellList}
-use Rattle.node_pages.specs.LastPages.{pages_from}
 use Rattle.node_pages.specs.PagesState.{PagesState, IsObservable, most_pages}
 use Rattle.node_pages.proofs.Joined.{cells_of_group}
 use Rattle.node_pages.proofs.Runs.{all_pages, no_page, length-pages_from}
@@ -38,55 +36,49 @@ use Rattle.skip_levels.proofs.SetCalls.{is_run, all_changed}
 
 -- ---- pages put where there were none, and all pages dropped
 
-module _ (level : ℕ) (lead : Lead) (list : CellList) where
-  pub is_put : list.level ≡ level → IsCellRun lead 0 0 list [] (group_pages level lead list.cells)
-  is_put same = record {
+module _ (level : ℕ) (lead : Lead) (cells : List Cell) where
+  pub is_put : IsCellRun level lead 0 0 cells [] (group_pages level lead cells)
+  is_put = record {
     start = refl;
     put = λ i page there.
         let first : 0 + i ≡ i = omega arith in
-        ap₂ slice_get (sym (all_pages level lead list.cells) ∙ ap (λ n. pages_from n lead 0 list.cells) (sym same))
-        first ∙ there;
+        ap₂ slice_get (sym (all_pages level lead cells)) first ∙ there;
     dropped = λ i past few. absurd (omega arith);
     within = omega arith;
   }
 
-  pub all_put : (past : ℕ) → list.level ≡ level → past ≡ max 0 (length (runs (page_room list.level) list.cells))
-      → changed_pages (0 + past) [] (group_pages level lead list.cells) ≡ group_pages level lead list.cells
-  all_put past same past_is =
-      let news = group_pages level lead list.cells in
-      let long : length news ≤ 0 + past =
-      omega (
-        arith,
-        past_is,
-        length_of_group level lead list.cells,
-        ap (λ n. length (runs (page_room n) list.cells)) same,
-      ) in
+  pub all_put : (past : ℕ) → past ≡ max 0 (length (runs (page_room level) cells))
+      → changed_pages (0 + past) [] (group_pages level lead cells) ≡ group_pages level lead cells
+  all_put past past_is =
+      let news = group_pages level lead cells in
+      let long : length news ≤ 0 + past = omega (arith, past_is, length_of_group level lead cells) in
       ap₂ (λ ps qs. ps ++ qs) (take_all (0 + past) news long) (drop_all (0 + past) [] (omega arith)) ∙ append-nil news
 
-  module _ (olds : List Page) (count : ℕ) (none : list.cells ≡ []) (all : count ≡ length olds) where
-    pub is_drop : IsCellRun lead 0 count list olds []
+  module _ (olds : List Page) (count : ℕ) (none : cells ≡ []) (all : count ≡ length olds) where
+    pub is_drop : IsCellRun level lead 0 count cells olds []
     is_drop = record {
       start = refl;
-      put = λ i page there. absurd (let gone = ap (λ ps. slice_get ps i) (no_page list.level lead 0 list.cells none)
+      put = λ i page there. absurd (let gone = ap (λ ps. slice_get ps i) (no_page level lead 0 cells none)
           in cc);
       dropped = λ i past few. omega arith;
       within = omega (arith, all);
     }
 
-    pub all_dropped : (past : ℕ) → past ≡ max count (length (runs (page_room list.level) list.cells))
+    pub all_dropped : (past : ℕ) → past ≡ max count (length (runs (page_room level) cells))
         → changed_pages (0 + past) olds [] ≡ []
     all_dropped past past_is = ap₂ (λ ps qs. ps ++ qs) (take_all (0 + past) [] (omega arith))
         (drop_all (0 + past) olds (omega (arith, past_is, all)))
 
 -- no more pages are changed than there are old ones and new cells
-pub past_few : (moved : Bool) (made : NewCells) → cond moved (run_past made) 0 ≤ made.count + length made.cells.cells
-past_few true made = omega (arith, few_runs made.cells.level made.cells.cells)
-past_few false made = omega arith
+pub past_few : (level : ℕ) (moved : Bool) (made : NewCells)
+    → cond moved (run_past level made) 0 ≤ made.count + length made.cells.cells
+past_few level true made = omega (arith, few_runs level made.cells.cells)
+past_few level false made = omega arith
 
 -- ---- a group parted by a key
 
-module _ (level : ℕ) (lead : Lead) (key : List ℕ) (cells start : List Cell) (made : NewCells) (above : List Cell)
-    (h : IsParted level lead key (group_pages level lead cells) start made above) where
+module _ {level : ℕ} {lead : Lead} {key : List ℕ} (cells : List Cell) {start : List Cell} {made : NewCells}
+    {above : List Cell} (h : IsParted level lead key (group_pages level lead cells) start made above) where
   abbrev gone : List Cell
   gone = cells_gathered h.gone
 
@@ -141,19 +133,18 @@ module _ (level : ℕ) (lead : Lead) (key : List ℕ) (cells start : List Cell) 
       ∙ ap (λ xs. cells_gathered h.stay ++ xs) (sym are))
 
   -- they are changed, unless all cells are where they were
-  pub goes_to : (news : List Cell) (others : NewCells) (moved : Bool) → others.cells.level ≡ level
+  pub goes_to : (news : List Cell) (others : NewCells) (moved : Bool)
       → others.kept + others.count ≤ length (group_pages level lead cells) → IsRenewed level lead cells news others
       → (moved ≡ false → cells ≡ news)
-      → changed_pages (others.kept + cond moved (run_past others) 0) (group_pages level lead cells)
+      → changed_pages (others.kept + cond moved (run_past level others) 0) (group_pages level lead cells)
       (group_pages level lead news) ≡ group_pages level lead news
-  goes_to news others true same within renewed still =
-      all_changed level lead cells news others same within renewed (run_past others)
-      (ap (λ n. max others.count (length (runs (page_room n) others.cells.cells))) same
-      ∙ ap (max others.count) (sym (length-pages_from level lead others.kept others.cells.cells)))
-  goes_to news others false same within renewed still =
+  goes_to news others true within renewed still =
+      all_changed within renewed (run_past level others)
+      (ap (max others.count) (sym (length-pages_from level lead others.kept others.cells.cells)))
+  goes_to news others false within renewed still =
       let here : others.kept + 0 ≡ others.kept = omega arith in
       ap (λ n. changed_pages n (group_pages level lead cells) (group_pages level lead news)) here
-      ∙ (is_run level lead cells news others same within renewed).start ∙ ap (group_pages level lead) (still refl)
+      ∙ (is_run within renewed).start ∙ ap (group_pages level lead) (still refl)
 
 -- ---- a group cut in two
 
@@ -162,10 +153,9 @@ none_behind : (xs ys zs : List Cell) → zs ≡ xs ++ ys → length zs ≤ lengt
 none_behind xs [] zs is few = refl
 none_behind xs (y ∷ ys) zs is few = absurd (omega (arith, ap length is, length-append xs (y ∷ ys)))
 
-module _ (old mid : PagesState) (level : ℕ) (lead : Lead) (key : List ℕ) (own start : List Cell) (made : NewCells)
-    (above : CellList) (same : made.cells.level ≡ level)
-    (read : IsGroupParted {T = Unit {0}} old mid level lead key start made above.cells (Ok (tt {0})))
-    (few : length start ≤ length own) where
+module _ {old mid : PagesState} {level : ℕ} {lead : Lead} {key : List ℕ} {start : List Cell} {made : NewCells}
+    {above : List Cell}
+    (read : IsGroupParted {T = Unit {0}} old mid level lead key start made above (Ok (tt {0}))) where
   pub room_to_split : (IsObservable old → PagesHaveRoom old.pages level lead) → IsObservable mid
       → maps.len mid.pages + (made.count + length made.cells.cells) < most_pages
   room_to_split room o =
@@ -174,48 +164,46 @@ module _ (old mid : PagesState) (level : ℕ) (lead : Lead) (key : List ℕ) (ow
       let p = r.found h.cells h.holds (omega (arith, h.few)) in
       omega (
         arith,
-        whole level lead key h.cells start made above.cells p,
-        few_lows level lead key h.cells start made
-            above.cells p,
+        whole h.cells p,
+        few_lows h.cells p,
         h.few,
         few_group_pages level lead h.cells,
         ap maps.len r.unchanged,
         h.room,
       )
 
-  pub room_behind : {T : Type 0} (between : PagesState) (unit : T) (moved : Bool) → length own ≤ 1
+  pub room_behind : {T : Type 0} {between : PagesState} {unit : T} (moved : Bool) → length start ≤ 1
       → (IsObservable old → PagesHaveRoom old.pages level lead)
-      → IsRunChange mid between lead made.kept made.count made.cells (cond moved (run_past made) 0) (Ok unit)
-      → IsObservable between → maps.len between.pages + (0 + length above.cells) < most_pages
-  room_behind between unit moved one room write o =
+      → IsRunChange mid between level lead made.kept made.count made.cells.cells (cond moved (run_past level made) 0)
+      (Ok unit) → IsObservable between → maps.len between.pages + (0 + length above) < most_pages
+  room_behind moved few room write o =
       let seen = write.hidden o in
       let h = room (read.hidden seen) in
       let r = read.observed (read.hidden seen) in
       let p = r.found h.cells h.holds (omega (arith, h.few)) in
       omega (
         arith,
-        one,
         few,
         (write.observed seen).room,
-        past_few moved made,
-        whole level lead key h.cells start made above.cells p,
-        few_lows level lead key h.cells start made above.cells p,
-        few_above level lead key h.cells start made above.cells p,
+        past_few level moved made,
+        whole h.cells p,
+        few_lows h.cells p,
+        few_above h.cells p,
         h.few,
         few_group_pages level lead h.cells,
         ap maps.len r.unchanged,
         h.room,
       )
 
-  pub group_split : {T S : Type 0} (between new : PagesState) (unit : T) (unit' : S) (moved : Bool) (past : ℕ)
-      (next : declared.Lead) → above.level ≡ level → (AreCells level (side Equal key own) → start ≡ side Equal key own)
-      → (moved ≡ false → length above.cells ≤ length start)
-      → past ≡ max 0 (length (runs (page_room above.level) above.cells))
+  pub group_split : {own : List Cell} {T S : Type 0} {between new : PagesState} {unit : T} {unit' : S} (moved : Bool)
+      {past : ℕ} {next : declared.Lead} → (AreCells level (side Equal key own) → start ≡ side Equal key own)
+      → (moved ≡ false → length above ≤ length start)
+      → past ≡ max 0 (length (runs (page_room level) above))
       → leads.model_lead next ≡ lead_from (last_of made.cells.cells) (leads.model_lead made.next)
-      → IsRunChange mid between lead made.kept made.count made.cells (cond moved (run_past made) 0) (Ok unit)
-      → IsRunChange between new (Leader key) 0 0 above past (Ok unit')
+      → IsRunChange mid between level lead made.kept made.count made.cells.cells (cond moved (run_past level made) 0)
+      (Ok unit) → IsRunChange between new level (Leader key) 0 0 above past (Ok unit')
       → SplitsGroup old new level lead key own (Ok next)
-  group_split between new unit unit' moved past next same' added still past_is next_leads write write' = record {
+  group_split {own = own} moved {past = past} added still past_is next_leads write write' = record {
     call = record {
       faults = write'.faults ∙ write.faults ∙ read.faults;
       lookups_kept = omega (arith, write'.lookups, write.lookups, read.lookups_kept);
@@ -235,56 +223,51 @@ module _ (old mid : PagesState) (level : ℕ) (lead : Lead) (key : List ℕ) (ow
         append-nil (side Less key group ++ []) ∙ append-nil (side Less key group) in
         let valid : AreCells level (side Less key group) = subst (AreCells level) lows_is h.low_valid in
         let start_is = added (front_cells level (side Equal key own) (side Greater key group) h.high_valid) in
-        let above_are : above.cells ≡ highs =
-        above_is level lead key group start made above.cells p
-        (subst (λ xs. AreCells level (xs ++ side Greater key group)) (sym start_is) h.high_valid)
+        let above_are : above ≡ highs =
+        above_is group p (subst (λ xs. AreCells level (xs ++ side Greater key group)) (sym start_is) h.high_valid)
         ∙ ap (λ xs. xs ++ side Greater key group) start_is in
-        let within : made.kept + made.count ≤ length (group_pages level lead group) =
-        omega (arith, whole level lead key group start made above.cells p) in
-        let renewed = goes_with level lead key group start made above.cells p [] lows made valid
+        let within : made.kept + made.count ≤ length (group_pages level lead group) = omega (arith, whole group p) in
+        let renewed = goes_with group p [] lows made valid
         (lows_is ∙ sym (append-nil (side Less key group))) refl refl (sym (append-nil made.cells.cells)) in
         let stays = λ (e : moved ≡ false).
         let none = none_behind start (side Greater key group)
-        above.cells (above_are ∙ ap (λ xs. xs ++ side Greater key group) (sym start_is)) (still e) in
+        above (above_are ∙ ap (λ xs. xs ++ side Greater key group) (sym start_is)) (still e) in
         h.sides ∙ ap (λ xs. side Less key group ++ xs) none ∙ append-nil (side Less key group) ∙ sym lows_is in
-        let low_change = subst (λ n. IsChange n lead front back (group_pages level lead group) low_pages)
-        (sym same) h.first in
         let kept = w.changed (group_pages level lead group) low_pages front back
-        (is_run level lead group lows made same within renewed) low_change (r.unchanged ∙ h.pages_are)
+        (is_run within renewed) h.first (r.unchanged ∙ h.pages_are)
         ∙ ap (λ ps. map_of_pages (front ++ (ps ++ back)))
-        (goes_to level lead key group start made above.cells p lows made moved same within renewed stays) in
-        let put_pages = group_pages level (Leader key) above.cells in
+        (goes_to group p lows made moved within renewed stays) in
+        let put_pages = group_pages level (Leader key) above in
         let put_are : put_pages ≡ high_pages = ap (group_pages level (Leader key)) above_are in
-        let high_change = subst (λ n. IsChange n (Leader key) (front ++ low_pages) back [] put_pages) (sym same')
-        (subst (IsChange level (Leader key) (front ++ low_pages) back []) (sym put_are) h.second) in
+        let high_change = subst (IsChange level (Leader key) (front ++ low_pages) back []) (sym put_are) h.second in
         record {
           pages_are =
-              w'.changed [] put_pages (front ++ low_pages) back (is_put level (Leader key) above same') high_change
+              w'.changed [] put_pages (front ++ low_pages) back (is_put level (Leader key) above) high_change
               (kept ∙ ap map_of_pages (sym (append_assoc front low_pages back)))
               ∙ ap (λ ps. map_of_pages ((front ++ low_pages) ++ (ps ++ back)))
-              (all_put level (Leader key) above past same' past_is ∙ put_are)
+              (all_put level (Leader key) above past past_is ∙ put_are)
               ∙ ap map_of_pages (append_assoc front low_pages (high_pages ++ back));
-          next_is = next_leads ∙ next_is level lead key group start made above.cells p valid;
+          next_is = next_leads ∙ next_is group p valid;
         };
     lookups = λ o group holds. omega (arith, write'.lookups, write.lookups, (read.observed o).lookups group holds);
   }
 
 -- memory ran out before anything was read
-pub group_not_begun : (old : PagesState) (level : ℕ) (lead : Lead) (key : List ℕ) (own : List Cell)
+pub group_not_begun : {old : PagesState} {level : ℕ} {lead : Lead} {key : List ℕ} {own : List Cell}
     → SplitsGroup old old level lead key own (Err NoMemory)
-group_not_begun old level lead key own = record {
+group_not_begun = record {
   call = record { faults = refl; lookups_kept = omega arith; hidden = λ o. o; observable = λ o. o };
   split = λ o cells front back h. tt;
   lookups = λ o cells holds. omega arith;
 }
 
 -- a call failed
-pub group_not_split : {T : Type 0} (old mid new : PagesState) (level : ℕ) (lead : Lead) (key : List ℕ) (own : List Cell)
-    (fault : Fault) {IsFound : List Cell → Type 0} {result : Result T Fault}
+pub group_not_split : {T : Type 0} {old mid new : PagesState} {level : ℕ} {lead : Lead} {key : List ℕ} {own : List Cell}
+    {fault : Fault} {IsFound : List Cell → Type 0} {result : Result T Fault}
     → IsGroupWalk old mid level lead IsFound result → new.lookups ≡ mid.lookups
     → IsPagesCall {T = declared.Lead} old new (Err fault)
     → SplitsGroup old new level lead key own (Err fault)
-group_not_split old mid new level lead key own fault read same call = record {
+group_not_split read same call = record {
   call = call;
   split = λ o cells front back h. tt;
   lookups = λ o cells holds. omega (arith, same, (read.observed o).lookups cells holds);
@@ -292,20 +275,24 @@ group_not_split old mid new level lead key own fault read same call = record {
 
 -- ---- two groups joined
 
-module _ (old mid read_all : PagesState) (level : ℕ) (lead : Lead) (key : List ℕ) (none : List Cell) (lows : NewCells)
-    (passed : List Cell) (highs : NewCells) (above : CellList) (same : lows.cells.level ≡ level)
-    (same' : above.level ≡ level)
+module _ {old mid read_all : PagesState} {level : ℕ} {lead : Lead} {key : List ℕ} {none : List Cell} {lows : NewCells}
+    {passed : List Cell} {highs : NewCells} {above : List Cell}
     (read : IsGroupParted {T = Unit {0}} old mid level lead key none lows passed (Ok (tt {0})))
     (read' : IsGroupParted {T = Unit {0}} mid read_all level
-    (Leader key) key lows.cells.cells highs above.cells (Ok (tt {0}))) where
+    (Leader key) key lows.cells.cells highs above (Ok (tt {0}))) where
   -- the group of the lead behind the change
   abbrev joined : NewCells
-  joined = record { next = lows.next; kept = lows.kept; count = lows.count; cells = above }
+  joined = record {
+    next = lows.next;
+    kept = lows.kept;
+    count = lows.count;
+    cells = record { level = level; cells = above };
+  }
 
-  pub room_to_drop : (count : ℕ) (empty : List Cell) → count ≡ highs.kept + highs.count → empty ≡ []
+  pub room_to_drop : {count : ℕ} (empty : List Cell) → count ≡ highs.kept + highs.count → empty ≡ []
       → (IsObservable old → PagesHaveRoom old.pages level (Leader key)) → IsObservable read_all
       → maps.len read_all.pages + (count + length empty) < most_pages
-  room_to_drop count empty count_is empty_is room o =
+  room_to_drop empty count_is empty_is room o =
       let seen = read'.hidden o in
       let h = room (read.hidden seen) in
       let r = read.observed (read.hidden seen) in
@@ -316,23 +303,21 @@ module _ (old mid read_all : PagesState) (level : ℕ) (lead : Lead) (key : List
         arith,
         count_is,
         ap length empty_is,
-        whole level
-            (Leader key) key h.cells lows.cells.cells highs above.cells p,
+        whole h.cells p,
         h.few,
-        few_group_pages level
-            (Leader key) h.cells,
+        few_group_pages level (Leader key) h.cells,
         ap maps.len r.unchanged,
         ap maps.len r'.unchanged,
         h.room,
       )
 
-  module _ {T : Type 0} (between : PagesState) (unit : T) (count past : ℕ) (empty : CellList)
-      (count_is : count ≡ highs.kept + highs.count) (empty_is : empty.cells ≡ [])
-      (past_is : past ≡ max count (length (runs (page_room empty.level) empty.cells)))
-      (write : IsRunChange read_all between (Leader key) 0 count empty past (Ok unit)) where
+  module _ {T : Type 0} {between : PagesState} {unit : T} {count past : ℕ} {empty : List Cell}
+      (count_is : count ≡ highs.kept + highs.count) (empty_is : empty ≡ [])
+      (past_is : past ≡ max count (length (runs (page_room level) empty)))
+      (write : IsRunChange read_all between level (Leader key) 0 count empty past (Ok unit)) where
     pub room_to_join : (IsObservable old → PagesHaveRoom old.pages level lead)
         → (IsObservable old → PagesHaveRoom old.pages level (Leader key)) → IsObservable between
-        → maps.len between.pages + (lows.count + length above.cells) < most_pages
+        → maps.len between.pages + (lows.count + length above) < most_pages
     room_to_join room own_room o =
         let seen' = write.hidden o in
         let seen = read'.hidden seen' in
@@ -348,12 +333,12 @@ module _ (old mid read_all : PagesState) (level : ℕ) (lead : Lead) (key : List
           count_is,
           past_is,
           ap length empty_is,
-          few_runs empty.level empty.cells,
+          few_runs level empty,
           (write.observed seen').room,
-          whole level lead key h.cells none lows passed p,
-          few_lows level lead key h.cells none lows passed p,
-          whole level (Leader key) key h'.cells lows.cells.cells highs above.cells p',
-          few_above level (Leader key) key h'.cells lows.cells.cells highs above.cells p',
+          whole h.cells p,
+          few_lows h.cells p,
+          whole h'.cells p',
+          few_above h'.cells p',
           h.few,
           h'.few,
           few_group_pages level lead h.cells,
@@ -363,12 +348,12 @@ module _ (old mid read_all : PagesState) (level : ℕ) (lead : Lead) (key : List
           h.room,
         )
 
-    pub groups_joined : {S : Type 0} (new : PagesState) (unit' : S) (moved : Bool) (next : declared.Lead)
-        → empty.level ≡ level → (moved ≡ false → length above.cells ≤ length lows.cells.cells)
+    pub groups_joined : {S : Type 0} {new : PagesState} {unit' : S} (moved : Bool) {next : declared.Lead}
+        → (moved ≡ false → length above ≤ length lows.cells.cells)
         → leads.model_lead next ≡ lead_from (last_of lows.cells.cells) (leads.model_lead lows.next)
-        → IsRunChange between new lead lows.kept lows.count above (cond moved (run_past joined) 0) (Ok unit')
-        → JoinsGroups old new level lead key (Ok next)
-    groups_joined new unit' moved next same'' still next_leads write' = record {
+        → IsRunChange between new level lead lows.kept lows.count above (cond moved (run_past level joined) 0)
+        (Ok unit') → JoinsGroups old new level lead key (Ok next)
+    groups_joined moved still next_leads write' = record {
       call = record {
         faults = write'.faults ∙ write.faults ∙ read'.faults ∙ read.faults;
         lookups_kept = omega (arith, write'.lookups, write.lookups, read.lookups_kept, read'.lookups_kept);
@@ -396,37 +381,28 @@ module _ (old mid read_all : PagesState) (level : ℕ) (lead : Lead) (key : List
           let stay = cells_gathered p.stay in
           let gone = side Less key (cells_gathered p.gone) in
           let rest = back_cells level stay (gone ++ more)
-          (subst (AreCells level) (ap (λ xs. xs ++ more) (lows_are level lead key low none lows passed p)
-          ∙ append_assoc stay gone more) all) in
-          let above_are = above_is level (Leader key) key high lows.cells.cells highs above.cells p'
-          (subst (λ xs. AreCells level (xs ++ more))
-          (sym (low_is level lead key low none lows passed p valid)) rest) in
-          let within : lows.kept + lows.count ≤ length low_pages =
-          omega (arith, whole level lead key low none lows passed p) in
-          let renewed = goes_with level lead key low none lows passed p more news joined valid
-          news_is refl refl above_are in
+          (subst (AreCells level) (ap (λ xs. xs ++ more) (lows_are low p) ∙ append_assoc stay gone more) all) in
+          let above_are = above_is high p'
+          (subst (λ xs. AreCells level (xs ++ more)) (sym (low_is low p valid)) rest) in
+          let within : lows.kept + lows.count ≤ length low_pages = omega (arith, whole low p) in
+          let renewed = goes_with low p more news joined valid news_is refl refl above_are in
           let stays = λ (e : moved ≡ false). sym h.below ∙ sym (append-nil below)
-          ∙ ap (λ xs. below ++ xs) (sym (none_behind lows.cells.cells more above.cells above_are (still e)))
+          ∙ ap (λ xs. below ++ xs) (sym (none_behind lows.cells.cells more above above_are (still e)))
           ∙ sym news_is in
-          let all_gone : count ≡ length high_pages =
-          count_is ∙ whole level (Leader key) key high lows.cells.cells highs above.cells p' in
-          let first = subst (λ n. IsChange n (Leader key) (front ++ low_pages) back high_pages []) (sym same'') h.first
-          in
+          let all_gone : count ≡ length high_pages = count_is ∙ whole high p' in
           let dropped = w.changed high_pages [] (front ++ low_pages) back
-          (is_drop level (Leader key) empty high_pages count empty_is all_gone) first
+          (is_drop level (Leader key) empty high_pages count empty_is all_gone) h.first
           (r'.unchanged ∙ r.unchanged ∙ h.pages_are
           ∙ ap map_of_pages (sym (append_assoc front low_pages (high_pages ++ back))))
           ∙ ap (λ ps. map_of_pages ((front ++ low_pages) ++ (ps ++ back)))
           (all_dropped level (Leader key) empty high_pages count empty_is all_gone past past_is)
           ∙ ap map_of_pages (append_assoc front low_pages back) in
-          let second = subst (λ n. IsChange n lead front back low_pages (group_pages level lead news))
-          (sym same') h.second in
           record {
-            pages_are = w'.changed low_pages (group_pages level lead news) front back
-                (is_run level lead low news joined same' within renewed) second dropped
+            pages_are = w'.changed low_pages (group_pages level lead news) front back (is_run within renewed) h.second
+                dropped
                 ∙ ap (λ ps. map_of_pages (front ++ (ps ++ back)))
-                (goes_to level lead key low none lows passed p news joined moved same' within renewed stays);
-            next_is = next_leads ∙ next_is level lead key low none lows passed p valid;
+                (goes_to low p news joined moved within renewed stays);
+            next_is = next_leads ∙ next_is low p valid;
           };
       lookups = λ o low high low_holds high_holds.
           let r = read.observed o in
@@ -442,22 +418,22 @@ module _ (old mid read_all : PagesState) (level : ℕ) (lead : Lead) (key : List
     }
 
 -- the first group was not read
-pub first_not_read : {T : Type 0} (old mid : PagesState) (level : ℕ) (lead : Lead) (key : List ℕ)
-    (fault : Fault) {IsFound : List Cell → Type 0} → IsGroupWalk {T = T} old mid level lead IsFound (Err fault)
+pub first_not_read : {T : Type 0} {old mid : PagesState} {level : ℕ} {lead : Lead} {key : List ℕ}
+    {fault : Fault} {IsFound : List Cell → Type 0} → IsGroupWalk {T = T} old mid level lead IsFound (Err fault)
     → JoinsGroups old mid level lead key (Err fault)
-first_not_read old mid level lead key fault read = record {
-  call = failed_call old mid fault (walk_call old mid level lead (Err fault) read);
+first_not_read read = record {
+  call = failed_call (walk_call read);
   joined = λ o low high front back h. tt;
   lookups = λ o low high low_holds high_holds. omega (arith, (read.observed o).lookups low low_holds);
 }
 
 -- a call behind it failed
-pub groups_not_joined : {T S : Type 0} (old mid read_all new : PagesState) (level : ℕ) (lead : Lead) (key : List ℕ)
-    (fault : Fault) {IsFound IsFound' : List Cell → Type 0} {result : Result T Fault} {result' : Result S Fault}
+pub groups_not_joined : {T S : Type 0} {old mid read_all new : PagesState} {level : ℕ} {lead : Lead} {key : List ℕ}
+    {fault : Fault} {IsFound IsFound' : List Cell → Type 0} {result : Result T Fault} {result' : Result S Fault}
     → IsGroupWalk old mid level lead IsFound result → IsGroupWalk mid read_all level (Leader key) IsFound' result'
     → new.lookups ≡ read_all.lookups → IsPagesCall {T = declared.Lead} old new (Err fault)
     → JoinsGroups old new level lead key (Err fault)
-groups_not_joined old mid read_all new level lead key fault read read' same call = record {
+groups_not_joined {level = level} {key = key} read read' same call = record {
   call = call;
   joined = λ o low high front back h. tt;
   lookups = λ o low high low_holds high_holds.

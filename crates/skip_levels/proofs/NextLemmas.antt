@@ -21,7 +21,7 @@ use Rattle.skip_groups.specs.Floors.{floor_of, after_of, pair_in, pair_at}
 use Rattle.skip_groups.specs.Groups.{HoldsGroup, label_of}
 use Rattle.ordered_pairs.specs.PairsState.{next_pair}
 use Rattle.skip_levels.specs.SearchPath.{leader_behind, leader_ahead, not_above, above}
-use Rattle.skip_groups.specs.Searches.{seen, ReadsGroup, IsGroupSearch}
+use Rattle.skip_groups.specs.Searches.{seen, ReadsGroup, IsGroupWalk, IsGroupSearch}
 use Rattle.skip_levels.specs.Descent.{IsSearched, IsAt, FindsLead, IsPlaceSearch, next_known}
 use Rattle.skip_levels.specs.NextSearch.{IsFirstPair, IsNextSearch}
 use Rattle.skip_levels.proofs.Descents.{after_of_place}
@@ -107,11 +107,17 @@ leads_next d s key (Some place) at = at.next
 
 -- ---- the whole search
 
-module _ (old mid : PagesState) (height : ℕ) (known : Option PathEnd) (key : List ℕ) (behind : Option PathEnd)
+-- what a call tells of one pair it tells of an equal one
+told : (result : Result (Option Pair) Fault) (first_of_group next : Option Pair) → first_of_group ≡ next
+    → IfOk result (λ pair. pair ≡ first_of_group) → IfOk result (λ pair. pair ≡ next)
+told (Ok pair) first_of_group next same is = is ∙ same
+told (Err fault) first_of_group next same is = tt
+
+module _ {old mid : PagesState} {height : ℕ} {known : Option PathEnd} {key : List ℕ} {behind : Option PathEnd}
     (some : 1 ≤ height) where
-  pub no_path : (fault : Fault) → IsPlaceSearch old mid height known 0 key behind (Err fault)
+  pub no_path : {fault : Fault} → IsPlaceSearch old mid height known 0 key behind (Err fault)
       → IsNextSearch old mid height known key behind (Err fault)
-  no_path fault = read_fails fault (λ n. record {
+  no_path {fault} = read_fails fault (λ n. record {
     observable = n.observable;
     unchanged = n.unchanged;
     found = λ d s held. tt;
@@ -119,25 +125,26 @@ module _ (old mid : PagesState) (height : ℕ) (known : Option PathEnd) (key : L
     lookups = λ d s held. omega (arith, n.lookups d s held, path_within d s key 1 height held.high some);
   })
 
-  module _ (new : PagesState) (lead : declared.Lead) (h : IsPlaceSearch old mid height known 0 key behind (Ok lead))
-      (at : Lead) (is_lead : at ≡ model_lead lead) (here : Option Pair) where
+  module _ {lead : declared.Lead} (h : IsPlaceSearch old mid height known 0 key behind (Ok lead)) {at : Lead}
+      (is_lead : at ≡ model_lead lead) where
     leads : FindsLead old mid height known 0 key behind (Ok lead) → (d : Draw) (s : List Pair)
         → IsSearched d s old.pages height known → at ≡ leader_behind d 0 (not_above key s)
     leads n d s held = is_lead ∙ n.lead d s held
 
-    pub no_neighbours : {S : Type 0} (fault : Fault)
-        → IsGroupSearch {S = S} (sees_pair key) sees_next mid new 0 at key None here (Err fault)
+    pub no_neighbours : {S : Type 0} {new : PagesState} {fault : Fault} {IsFound : List Cell → Type 0}
+        → IsGroupWalk {T = S} mid new 0 at IsFound (Err fault)
         → IsNextSearch old new height known key behind (Err fault)
-    no_neighbours fault search = read_fails fault (λ f. f) (read_behind (λ n. n.observable) (λ n g. record {
-      observable = g.observable;
-      unchanged = g.unchanged ∙ n.unchanged;
-      found = λ d s held. tt;
-      right = n.right;
-      lookups = λ d s held.
-          omega (arith, path_searched old mid new height known 0 key behind lead n some at (leads n) g d s held);
-    }) h search)
+    no_neighbours {new = new} {fault = fault} search =
+        read_fails fault (λ f. f) (read_behind (λ n. n.observable) (λ n g. record {
+          observable = g.observable;
+          unchanged = g.unchanged ∙ n.unchanged;
+          found = λ d s held. tt;
+          right = n.right;
+          lookups = λ d s held.
+              omega (arith, path_searched old mid new height known 0 key behind lead n some at (leads n) g d s held);
+        }) h search)
 
-    module _ {S : Type 0} (done : S)
+    module _ {S : Type 0} {new : PagesState} {here : Option Pair} {done : S}
         (search : IsGroupSearch (sees_pair key) sees_next mid new 0 at key None here (Ok done)) where
       abbrev Leads : Type 0
       Leads = FindsLead old mid height known 0 key behind (Ok lead)
@@ -188,16 +195,11 @@ module _ (old mid : PagesState) (height : ℕ) (known : Option PathEnd) (key : L
           (sym (leads_next d s key behind (n.place d s held)) ∙ none)))
 
       -- the pair is in the group
-      pub next_in_group : (pair : Pair) → here ≡ Some pair → IsNextSearch old new height known key behind (Ok here)
-      next_in_group pair at = next_told (λ n d s held e. pair_in_group d (above key s) (own d s) pair (sym e ∙ at))
+      pub next_in_group : {pair : Pair} → here ≡ Some pair → IsNextSearch old new height known key behind (Ok here)
+      next_in_group {pair} at = next_told (λ n d s held e. pair_in_group d (above key s) (own d s) pair (sym e ∙ at))
 
       -- the pair leads the next group
-      module _ (last : PagesState) (leader : List ℕ) (next : next_known behind ≡ Some leader) (none : here ≡ None) where
-        told : (result : Result (Option Pair) Fault) (first_of_group next : Option Pair) → first_of_group ≡ next
-            → IfOk result (λ pair. pair ≡ first_of_group) → IfOk result (λ pair. pair ≡ next)
-        told (Ok pair) first_of_group next same is = is ∙ same
-        told (Err fault) first_of_group next same is = tt
-
+      module _ {last : PagesState} {leader : List ℕ} (next : next_known behind ≡ Some leader) (none : here ≡ None) where
         -- what the first page of the next group tells
         next_of_leader : (result : Result (Option Pair) Fault) → IsFirstPair new last leader result → Leads → Reads
             → IsObservable new → (d : Draw) (s : List Pair) → IsSearched d s old.pages height known
@@ -220,9 +222,9 @@ module _ (old mid : PagesState) (height : ℕ) (known : Option PathEnd) (key : L
             (ap pair_in (group_begins d low ahead.rest ahead.pair ahead.leads) ∙ sym ahead.answer
             ∙ next_is d s held) ((first.observed o).found cells group)
 
-        pub next_leads : (result : Result (Option Pair) Fault) → IsFirstPair new last leader result
+        pub next_leads : {result : Result (Option Pair) Fault} → IsFirstPair new last leader result
             → IsNextSearch old last height known key behind result
-        next_leads result first = record {
+        next_leads {result} first = record {
           faults = first.faults ∙ ap (λ n. disk_faults_after n result) (search.faults ∙ h.faults);
           lookups_kept = omega (arith, h.lookups_kept, search.lookups_kept, first.lookups_kept);
           hidden = λ o. h.hidden (search.hidden (first.hidden o));

@@ -112,20 +112,18 @@ leader_is key (Leader k) e = ap Leader (sym (same_key k key (equal (key_cmp k ke
     equal Equal h = refl
     equal Greater h = absurd (cc)
 
-module _ (d : Draw) (old new : PagesState) (known : Option PathEnd) (key : List ℕ) (behind : Option PathEnd)
-    (height : ℕ) (high : height ≡ d.height) (some : 1 ≤ height) where
-  held : (s : List Pair) → HoldsPairs d s old.pages → IsKnownGroup d s known → IsSearched d s old.pages height known
-  held s holds right = record { holds = holds; high = high; right = right }
-
+module _ {d : Draw} {old new : PagesState} {known : Option PathEnd} {key : List ℕ} {behind : Option PathEnd}
+    {height : ℕ} (high : height ≡ d.height) (some : 1 ≤ height) where
   within_path : {top : ℕ} {result : Result declared.Lead Fault} → FindsLead old new height known top key behind result
       → (s : List Pair) → HoldsPairs d s old.pages → IsKnownGroup d s known
       → new.lookups ≤ old.lookups + path_cost d s key
   within_path n s holds right =
-      omega (arith, n.lookups d s (held s holds right), path_within d s key 1 height high some)
+      let held = n.lookups d s (record { holds = holds; high = high; right = right }) in
+      omega (arith, held, path_within d s key 1 height high some)
 
-  pub no_put_place : (top : ℕ) (fault : Fault) → IsPlaceSearch old new height known top key behind (Err fault)
+  pub no_put_place : {top : ℕ} {fault : Fault} → IsPlaceSearch old new height known top key behind (Err fault)
       → IsPutSearch d old new known key behind (Err fault)
-  no_put_place top fault search = record {
+  no_put_place {fault = fault} search = record {
     faults = search.faults ∙ same_count declared.Lead PutPlace old.faults fault;
     lookups_kept = search.lookups_kept;
     hidden = search.hidden;
@@ -138,7 +136,7 @@ module _ (d : Draw) (old new : PagesState) (known : Option PathEnd) (key : List 
     };
   }
 
-  module _ (top : ℕ) (own : top ≡ d.level key) (lead : declared.Lead)
+  module _ {top : ℕ} (own : top ≡ d.level key) {lead : declared.Lead}
       (search : IsPlaceSearch old new height known top key behind (Ok lead)) where
     -- what is told of the key by whether it leads its group
     leads_as : {b : Bool} (n : FindsLead old new height known top key behind (Ok lead)) (s : List Pair)
@@ -157,16 +155,16 @@ module _ (d : Draw) (old new : PagesState) (known : Option PathEnd) (key : List 
       observed = λ o. let n = search.observed o in record {
         observable = n.observable;
         unchanged = n.unchanged;
-        found = λ s holds right. found n s (held s holds right);
-        place = λ s holds right. n.place d s (held s holds right);
+        found = λ s holds right. found n s (record { holds = holds; high = high; right = right });
+        place = λ s holds right. n.place d s (record { holds = holds; high = high; right = right });
         lookups = within_path n;
       };
     }
 
     -- on level 0 a key that is there and one that is new are put alike
-    pub place_of_lowest : (first : declared.Lead) → top ≡ 0 → model_lead first ≡ model_lead lead
+    pub place_of_lowest : {first : declared.Lead} → top ≡ 0 → model_lead first ≡ model_lead lead
         → IsPutSearch d old new known key behind (Ok (record { top = 0; lead = first }))
-    place_of_lowest first lowest is = put_place (record { top = 0; lead = first }) (λ n s h.
+    place_of_lowest {first} lowest is = put_place (record { top = 0; lead = first }) (λ n s h.
         record {
           lead = is ∙ subst (λ k. model_lead lead ≡ leader_behind d k (not_above key s)) lowest (n.lead d s h);
           own = by_value s (find key_cmp key s) refl;

@@ -21,9 +21,10 @@ use Rattle.skip_groups.specs.declared.new_cells.NewCells.{NewCells}
 use Rattle.skip_groups.specs.GroupCells.{merged}
 use Rattle.skip_groups.specs.Groups.{label_of}
 use Rattle.skip_groups.specs.InsertPlaces.{IsPlaceRead, with_place}
-use Rattle.skip_groups.specs.GroupChanges.{changed_pages, IsChange, IsCellRun, IsRunChange}
+use Rattle.skip_groups.specs.GroupChanges.{changed_pages, IsCellRun, IsRunChange}
 use Rattle.skip_levels.specs.CellChanges.{PagesHaveRoom, SetsCells}
 use Rattle.skip_groups.specs.NewCells.{IsRenewed, IsNewCellsRead}
+use Rattle.skip_groups.specs.Searches.{IsGroupWalk}
 use Rattle.skip_groups.proofs.GroupEnds.{few_group_pages}
 use Rattle.skip_groups.proofs.NewCellsSteps.{below_or_not}
 use Rattle.skip_groups.proofs.GroupSteps.{same_count}
@@ -41,7 +42,7 @@ get_behind (x ∷ xs) ys k = let next : length (x ∷ xs) + k ≡ suc (length xs
 
 -- ---- the pages of the group
 
-module _ (level : ℕ) (lead : Lead) (cells others : List Cell) (made : NewCells) (same : made.cells.level ≡ level)
+module _ {level : ℕ} {lead : Lead} {cells others : List Cell} {made : NewCells}
     (within : made.kept + made.count ≤ length (group_pages level lead cells))
     (m : IsRenewed level lead cells others made) where
   abbrev olds : List Page
@@ -75,20 +76,18 @@ module _ (level : ℕ) (lead : Lead) (cells others : List Cell) (made : NewCells
       ∙ subst (λ n. take n (take made.kept olds ++ (fresh ++ rest)) ≡ take made.kept olds) stay_long
       (take-append_seam (take made.kept olds) (fresh ++ rest))
 
-  pub is_run : IsCellRun lead made.kept made.count made.cells olds news
+  pub is_run : IsCellRun level lead made.kept made.count made.cells.cells olds news
   is_run = record {
     start = ap (λ ps. ps ++ drop made.kept olds) taken ∙ take-append-drop made.kept olds;
     put = λ i page there.
         let place : made.kept + i ≡ length (take made.kept olds) + i = omega (arith, stay_long) in
         ap (slice_get news) place ∙ ap (λ ps. slice_get ps (length (take made.kept olds) + i)) m.pages
         ∙ get_behind (take made.kept olds) (fresh ++ rest) i
-        ∙ get_front fresh rest i page
-        (sym (ap (λ n. slice_get (pages_from n lead made.kept made.cells.cells) i) same) ∙ there);
+        ∙ get_front fresh rest i page there;
     dropped = λ i past few.
-        let long = ap (λ n. length (pages_from n lead made.kept made.cells.cells)) same in
         elim (below_or_not (made.kept + made.count) (length olds)) [
-          | inl further ↦ absurd (omega (arith, m.fits further, long, past, few))
-          | inr end ↦ omega (arith, news_long, long, past, length-drop (made.kept + made.count) olds)
+          | inl further ↦ absurd (omega (arith, m.fits further, past, few))
+          | inr end ↦ omega (arith, news_long, past, length-drop (made.kept + made.count) olds)
         ];
     within = within;
   }
@@ -121,9 +120,8 @@ module _ (level : ℕ) (lead : Lead) (cells others : List Cell) (made : NewCells
 
 -- ---- the calls
 
-module _ (old mid : PagesState) (level : ℕ) (lead : Lead) (key : List ℕ) (own : List Cell)
-    (made : NewCells) {S : Type 0} (answer : S) (same : made.cells.level ≡ level)
-    (read : IsNewCellsRead {T = S} old mid level lead key own made (Ok answer)) where
+module _ {old mid : PagesState} {level : ℕ} {lead : Lead} {key : List ℕ} {own : List Cell} {made : NewCells}
+    {S : Type 0} {answer : S} (read : IsNewCellsRead {T = S} old mid level lead key own made (Ok answer)) where
   pub room_to_change : length own ≤ 1 → (IsObservable old → PagesHaveRoom old.pages level lead) → IsObservable mid
       → maps.len mid.pages + (made.count + length made.cells.cells) < most_pages
   room_to_change one room o =
@@ -132,11 +130,11 @@ module _ (old mid : PagesState) (level : ℕ) (lead : Lead) (key : List ℕ) (ow
       let n = r.found h.cells h.holds (omega (arith, h.few)) in
       omega (arith, one, n.within, n.few, h.few, few_group_pages level lead h.cells, ap maps.len r.unchanged, h.room)
 
-  pub cells_set : {T : Type 0} (new : PagesState) (unit : T) (past : ℕ)
-      → past ≡ max made.count (length (runs (page_room made.cells.level) made.cells.cells))
-      → IsRunChange mid new lead made.kept made.count made.cells past (Ok unit)
+  pub cells_set : {T : Type 0} {new : PagesState} {unit : T} {past : ℕ}
+      → past ≡ max made.count (length (runs (page_room level) made.cells.cells))
+      → IsRunChange mid new level lead made.kept made.count made.cells.cells past (Ok unit)
       → SetsCells old new level lead key own (Ok made.next)
-  cells_set new unit past past_is write = record {
+  cells_set {past = past} past_is write = record {
     call = record {
       faults = write.faults ∙ read.faults;
       lookups_kept = omega (arith, write.lookups, read.lookups_kept);
@@ -149,26 +147,21 @@ module _ (old mid : PagesState) (level : ℕ) (lead : Lead) (key : List ℕ) (ow
         let m = n.become h.rising h.valid in
         let olds = group_pages level lead group in
         let news = group_pages level lead (merged key group own group) in
-        let fills : length (runs (page_room made.cells.level) made.cells.cells)
-        ≡ length (pages_from level lead made.kept made.cells.cells) =
-        ap (λ k. length (runs (page_room k) made.cells.cells)) same
-        ∙ sym (length-pages_from level lead made.kept made.cells.cells) in
         record {
           pages_are = (write.observed r.observable).changed olds news front back
-              (is_run level lead group (merged key group own group) made same n.within m.renewed)
-              (subst (λ k. IsChange k lead front back olds news) (sym same) h.change) (r.unchanged ∙ h.pages_are)
+              (is_run n.within m.renewed) h.change (r.unchanged ∙ h.pages_are)
               ∙ ap (λ ps. map_of_pages (front ++ (ps ++ back)))
-              (all_changed level lead group (merged key group own group) made same n.within m.renewed past
-              (past_is ∙ ap (max made.count) fills));
+              (all_changed n.within m.renewed past
+              (past_is ∙ ap (max made.count) (sym (length-pages_from level lead made.kept made.cells.cells))));
           next_is = m.next;
         };
     lookups = λ o group holds. omega (arith, write.lookups, (read.observed o).lookups group holds);
   }
 
-  pub cells_not_set : {T : Type 0} (new : PagesState) (past : ℕ) (fault : Fault)
-      → IsRunChange {T = T} mid new lead made.kept made.count made.cells past (Err fault)
+  pub cells_not_set : {T : Type 0} {new : PagesState} {past : ℕ} {fault : Fault}
+      → IsRunChange {T = T} mid new level lead made.kept made.count made.cells.cells past (Err fault)
       → SetsCells old new level lead key own (Err fault)
-  cells_not_set {T} new past fault write = record {
+  cells_not_set {T = T} {fault = fault} write = record {
     call = record {
       faults = write.faults ∙ ap (λ n. disk_faults_after {T = T} n (Err fault)) read.faults
           ∙ same_count T declared.Lead old.faults fault;
@@ -189,9 +182,8 @@ one_run level cells few = omega (arith, length-runs level cells, at_most_one (le
     at_most_one false count is = omega arith
 
 -- one page of the group takes the key's cell
-module _ (old mid : PagesState) (level : ℕ) (lead : Lead) (key : List ℕ) (own : List Cell) (made : NewCells)
-    (at : ℕ) {S : Type 0} (answer : S) (same : made.cells.level ≡ level)
-    (read : IsPlaceRead {T = S} old mid level lead key own made at (Ok answer)) where
+module _ {old mid : PagesState} {level : ℕ} {lead : Lead} {key : List ℕ} {own : List Cell} {made : NewCells}
+    {at : ℕ} {S : Type 0} {answer : S} (read : IsPlaceRead {T = S} old mid level lead key own made at (Ok answer)) where
   abbrev cell : Cell
   cell = read.place.cell
 
@@ -201,30 +193,28 @@ module _ (old mid : PagesState) (level : ℕ) (lead : Lead) (key : List ℕ) (ow
   own_cell : (given : Cell) → given ≡ get_or own 0 given → given ≡ cell
   own_cell given is = is ∙ ap (λ xs. get_or xs 0 given) read.place.own_is
 
-  pub takes_cell : (given : Cell) (l : Label) → given ≡ get_or own 0 given → l ≡ label_of level lead made.kept
+  pub takes_cell : {given : Cell} {l : Label} → given ≡ get_or own 0 given → l ≡ label_of level lead made.kept
       → IsObservable mid → HasPlace mid.pages l at given
-  takes_cell given l is label_is o = subst (HasPlace mid.pages l at) (sym (own_cell given is))
+  takes_cell {given = given} {l = l} is label_is o = subst (HasPlace mid.pages l at) (sym (own_cell given is))
       (record { page = read.page; found = ap (page_at mid.pages) label_is ∙ read.found o; takes = read.place.takes })
 
-  module _ {T : Type 0} (new : PagesState) (l : Label) (result : Result T Fault) (below : made.kept < 4294967296)
-      (map : IsObservable mid → IsPageMap mid.pages) (label_is : l ≡ label_of level lead made.kept) (given : Cell)
+  module _ {T : Type 0} {new : PagesState} {l : Label} {result : Result T Fault} {given : Cell}
+      (below : made.kept < 4294967296)
+      (map : IsObservable mid → IsPageMap mid.pages) (label_is : l ≡ label_of level lead made.kept)
       (is : given ≡ get_or own 0 given) (insert : IsCellInsert mid new l at given result) where
-    changes : IsRunChange mid new lead made.kept 1 now.cells 1 result
+    changes : IsRunChange mid new level lead made.kept 1 now.cells.cells 1 result
     changes =
-        subst (λ n. IsRunChange mid new lead made.kept 1 (record { level = n; cells = now.cells.cells }) 1 result)
-        (sym same)
-        (run_inserts mid new level lead made.kept read.page at cell l result below read.place.room map
-        read.found label_is (subst (λ c. IsCellInsert mid new l at c result) (own_cell given is) insert))
+        run_inserts mid new level lead made.kept read.page at cell l result below read.place.room map
+        read.found label_is (subst (λ c. IsCellInsert mid new l at c result) (own_cell given is) insert)
 
-  pub cell_inserted : {T : Type 0} (new : PagesState) (l : Label) (unit : T) → made.kept < 4294967296
-      → (IsObservable mid → IsPageMap mid.pages) → l ≡ label_of level lead made.kept → (given : Cell)
+  pub cell_inserted : {T : Type 0} {new : PagesState} {l : Label} {unit : T} {given : Cell} → made.kept < 4294967296
+      → (IsObservable mid → IsPageMap mid.pages) → l ≡ label_of level lead made.kept
       → given ≡ get_or own 0 given → IsCellInsert mid new l at given (Ok unit)
       → SetsCells old new level lead key own (Ok made.next)
-  cell_inserted new l unit below map label_is given is insert =
-      cells_set old mid level lead key own now answer same read.read new unit 1 one
-      (changes new l (Ok unit) below map label_is given is insert)
+  cell_inserted below map label_is is insert =
+      cells_set read.read one (changes below map label_is is insert)
     where
-      one : 1 ≡ max 1 (length (runs (page_room made.cells.level) now.cells.cells))
+      one : 1 ≡ max 1 (length (runs (page_room level) now.cells.cells))
       one =
           let longer : length now.cells.cells ≡ length read.page.cells + 1 =
           omega (
@@ -237,22 +227,20 @@ module _ (old mid : PagesState) (level : ℕ) (lead : Lead) (key : List ℕ) (ow
           ) in
           omega (
             arith,
-            one_run made.cells.level now.cells.cells
-                (omega (arith, longer, read.place.room, ap page_room same)),
+            one_run level now.cells.cells
+                (omega (arith, longer, read.place.room)),
           )
 
-  pub cell_not_inserted : {T : Type 0} (new : PagesState) (l : Label) (fault : Fault) → made.kept < 4294967296
-      → (IsObservable mid → IsPageMap mid.pages) → l ≡ label_of level lead made.kept → (given : Cell)
+  pub cell_not_inserted : {T : Type 0} {new : PagesState} {l : Label} {fault : Fault} {given : Cell}
+      → made.kept < 4294967296 → (IsObservable mid → IsPageMap mid.pages) → l ≡ label_of level lead made.kept
       → given ≡ get_or own 0 given → IsCellInsert {T = T} mid new l at given (Err fault)
       → SetsCells old new level lead key own (Err fault)
-  cell_not_inserted {T} new l fault below map label_is given is insert =
-      cells_not_set old mid level lead key own now answer same read.read {T = T} new 1 fault
-      (changes {T = T} new l (Err fault) below map label_is given is insert)
+  cell_not_inserted below map label_is is insert = cells_not_set read.read (changes below map label_is is insert)
 
-pub cells_not_read : {T : Type 0} (old mid : PagesState) (level : ℕ) (lead : Lead) (key : List ℕ) (own : List Cell)
-    (made : NewCells) (fault : Fault) → IsNewCellsRead {T = T} old mid level lead key own made (Err fault)
+pub cells_not_read : {T : Type 0} {old mid : PagesState} {level : ℕ} {lead : Lead} {key : List ℕ} {own : List Cell}
+    {fault : Fault} {IsFound : List Cell → Type 0} → IsGroupWalk {T = T} old mid level lead IsFound (Err fault)
     → SetsCells old mid level lead key own (Err fault)
-cells_not_read {T} old mid level lead key own made fault read = record {
+cells_not_read {T = T} {old = old} {fault = fault} read = record {
   call = record {
     faults = read.faults ∙ same_count T declared.Lead old.faults fault;
     lookups_kept = read.lookups_kept;

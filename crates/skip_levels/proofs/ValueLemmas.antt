@@ -16,7 +16,7 @@ use Rattle.node_pages.specs.PagesState.{PagesState, IsObservable}
 use Rattle.skip_groups.specs.Floors.{floor_of, after_of, value_at}
 use Rattle.skip_groups.specs.Groups.{HoldsGroup}
 use Rattle.skip_levels.specs.SearchPath.{above, leader_behind, not_above, levels_cost, path_cost}
-use Rattle.skip_groups.specs.Searches.{seen, IsPagesRead, ReadsGroup, IsGroupSearch}
+use Rattle.skip_groups.specs.Searches.{seen, IsPagesRead, ReadsGroup, IsGroupWalk, IsGroupSearch}
 use Rattle.skip_levels.specs.Descent.{IsSearched, IsAt, FindsLead, IsPlaceSearch, IsKeySearch, lead_known}
 use Rattle.skip_levels.proofs.PlaceGroups.{group_of_place}
 use Rattle.skip_levels.proofs.PathLemmas.{holds_path, few_on_path}
@@ -122,11 +122,11 @@ value_seen key None (Some cell) = refl
 value_seen key (Some cell) None = refl
 value_seen key (Some cell) (Some other) = refl
 
-module _ (old mid : PagesState) (height : ℕ) (known : Option PathEnd) (top : ℕ) (key : List ℕ) (behind : Option PathEnd)
+module _ {old mid : PagesState} {height : ℕ} {known : Option PathEnd} {top : ℕ} {key : List ℕ} {behind : Option PathEnd}
     (some : 1 ≤ height) where
-  pub no_lead : (fault : Fault) → IsPlaceSearch old mid height known top key behind (Err fault)
+  pub no_lead : {fault : Fault} → IsPlaceSearch old mid height known top key behind (Err fault)
       → IsKeySearch old mid height known top key behind (Err fault)
-  no_lead fault = read_fails fault (λ n. record {
+  no_lead {fault} = read_fails fault (λ n. record {
     observable = n.observable;
     unchanged = n.unchanged;
     found = λ d s held. tt;
@@ -135,28 +135,29 @@ module _ (old mid : PagesState) (height : ℕ) (known : Option PathEnd) (top : �
     lookups = λ d s held. omega (arith, n.lookups d s held, path_within d s key 1 height held.high some);
   })
 
-  module _ (new : PagesState) (lead : declared.Lead) (h : IsPlaceSearch old mid height known top key behind (Ok lead))
-      (at : Lead) (is : at ≡ lead_known behind) (value : Option (List ℕ)) where
+  module _ {lead : declared.Lead} (h : IsPlaceSearch old mid height known top key behind (Ok lead)) {at : Lead}
+      (is : at ≡ lead_known behind) where
     leads : FindsLead old mid height known top key behind (Ok lead) → (d : Draw) (s : List Pair)
         → IsSearched d s old.pages height known → at ≡ leader_behind d 0 (not_above key s)
     leads n d s held = is ∙ leads_lowest d s key behind (n.place d s held)
 
-    pub no_value : {S : Type 0} (fault : Fault)
-        → IsGroupSearch {S = S} (sees_value key) sees_no_more mid new 0 at key None value (Err fault)
+    pub no_value : {S : Type 0} {new : PagesState} {fault : Fault} {IsFound : List Cell → Type 0}
+        → IsGroupWalk {T = S} mid new 0 at IsFound (Err fault)
         → IsKeySearch old new height known top key behind (Err fault)
-    no_value fault search = read_fails fault (λ f. f) (read_behind (λ n. n.observable) (λ n g. record {
-      observable = g.observable;
-      unchanged = g.unchanged ∙ n.unchanged;
-      found = λ d s held. tt;
-      place = λ d s held. tt;
-      right = n.right;
-      lookups = path_searched old mid new height known top key behind lead n some at (leads n) g;
-    }) h search)
+    no_value {new = new} {fault = fault} search =
+        read_fails fault (λ f. f) (read_behind (λ n. n.observable) (λ n g. record {
+          observable = g.observable;
+          unchanged = g.unchanged ∙ n.unchanged;
+          found = λ d s held. tt;
+          place = λ d s held. tt;
+          right = n.right;
+          lookups = path_searched old mid new height known top key behind lead n some at (leads n) g;
+        }) h search)
 
-    pub place_found : {S : Type 0} (done : S)
+    pub place_found : {S : Type 0} {new : PagesState} {done : S} {value : Option (List ℕ)}
         → IsGroupSearch (sees_value key) sees_no_more mid new 0 at key None value (Ok done)
         → IsKeySearch old new height known top key behind (Ok (record { lead = lead; value = value }))
-    place_found done search = read_told (record { lead = lead; value = value })
+    place_found {new = new} {value = value} search = read_told (record { lead = lead; value = value })
         (read_behind (λ n. n.observable) (λ n g. record {
           observable = g.observable;
           unchanged = g.unchanged ∙ n.unchanged;

@@ -1,13 +1,12 @@
 //! A change of one key on one level of the list: the pages of one group, or of two that become one.
 
-ghost use Rattle.std.specs.Prelude.{◌≡◌, ◌+◌, ◌<◌, ◌≤◌, [], ◌∷◌, length, map, cond};
-ghost use Rattle.std.specs.List.Sorted.{IsStrictlySortedBy};
+ghost use Rattle.std.specs.Prelude.{◌≡◌, ◌+◌, ◌<◌, ◌≤◌, [], ◌∷◌, length, cond};
 ghost use Rattle.std.specs.FinMap as maps;
 ghost use Rattle.store_base.specs.Leads.{model_lead};
 ghost use Rattle.store_model.specs.Labels.Lead.{Leader};
-ghost use Rattle.store_model.specs.Paths.{key_cmp};
 ghost use Rattle.node_pages.specs.PagesState.{IsObservable, most_pages};
 ghost use Rattle.skip_levels.specs.CellChanges.{PagesHaveRoom, SetsCells, SplitsGroup, JoinsGroups};
+ghost use Rattle.skip_groups.specs.GroupCells.{IsRisingList};
 ghost use Rattle.skip_groups.specs.GroupChanges.{IsRunChange};
 ghost use Rattle.skip_groups.specs.GroupParts.{run_past};
 
@@ -37,34 +36,36 @@ pub fn set_cells<P: Pages>(
     ensures follows { P.follows pages.old pages.new }
 {
     let mut made = NewCells::new(alloc, level, lead);
-    if let Some(at) = read_new_cells(pages, lead, key, own, &mut made)? {
+    if let Some(at) = read_new_cells(pages, level, lead, key, own, &mut made)? {
         pages.insert_cell(&label_in_group(level, lead, made.kept), at, &own[0])?;
         return Ok(made.next);
     }
-    change_run(pages, lead, made.kept, made.count, &made.cells)?;
+    change_run(pages, level, lead, made.kept, made.count, &made.cells)?;
     Ok(made.next)
 }
 
-/// Changes the pages of the group that `lead` leads to those that come of it, unless all its cells are where they were.
+/// Changes the pages of the group that `lead` leads on the level to those that come of it, unless all its cells are
+/// where they were.
 fn change_moved<P: Pages>(
     pages: &mut P,
+    level: u8,
     lead: &Lead,
     made: &NewCells,
     moved: bool,
 ) -> Result<(), Fault>
-    requires rising { IsStrictlySortedBy key_cmp (map (λ c. c.key) made.now.cells.cells) }
+    requires valid { IsRisingList level made.now.cells }
     requires room { IsObservable (P.state pages.old)
         → maps.len (P.state pages.old).pages
         + (made.now.count + length made.now.cells.cells) < most_pages }
-    ensures call { IsRunChange (P.state pages.old) (P.state pages.new)
-        (model_lead lead.now) made.now.kept made.now.count made.now.cells
-        (cond moved (run_past made.now) 0) result }
+    ensures call { IsRunChange (P.state pages.old) (P.state pages.new) level
+        (model_lead lead.now) made.now.kept made.now.count made.now.cells.cells
+        (cond moved (run_past level made.now) 0) result }
     ensures follows { P.follows pages.old pages.new }
 {
     if !moved {
         return Ok(());
     }
-    change_run(pages, lead, made.kept, made.count, &made.cells)
+    change_run(pages, level, lead, made.kept, made.count, &made.cells)
 }
 
 /// Cuts the group that `lead` leads on the level in two: the cells below the key stay, and the key's own cell
@@ -85,12 +86,12 @@ pub fn split_group<P: Pages>(
     ensures follows { P.follows pages.old pages.new }
 {
     let mut high = Cells::with_room(alloc, level, u32::from(room(level)) + 1)?;
-    append_own(&mut high, &[own], key)?;
+    append_own(&mut high, level, &[own], key)?;
     let first = high.len();
     let mut made = NewCells::new(alloc, level, lead);
-    part_group(pages, lead, key, &mut made, &mut high)?;
-    change_moved(pages, lead, &made, high.len() > first)?;
-    change_run(pages, &Lead::Key(*key), 0, 0, &high)?;
+    part_group(pages, level, lead, key, &mut made, &mut high)?;
+    change_moved(pages, level, lead, &made, high.len() > first)?;
+    change_run(pages, level, &Lead::Key(*key), 0, 0, &high)?;
     Ok(lead_behind(&made.cells, &made.next))
 }
 
@@ -114,13 +115,13 @@ pub fn join_groups<P: Pages>(
     let leader = Lead::Key(*key);
     let mut made = NewCells::new(alloc, level, lead);
     let mut none = Cells::new(alloc, level);
-    part_group(pages, lead, key, &mut made, &mut none)?;
+    part_group(pages, level, lead, key, &mut made, &mut none)?;
     let next = lead_behind(&made.cells, &made.next);
     let first = made.cells.len();
     let mut gone = NewCells::new(alloc, level, &leader);
-    part_group(pages, &leader, key, &mut gone, &mut made.cells)?;
+    part_group(pages, level, &leader, key, &mut gone, &mut made.cells)?;
     let count = gone.kept + gone.count;
-    change_run(pages, &leader, 0, count, &Cells::new(alloc, level))?;
-    change_moved(pages, lead, &made, made.cells.len() > first)?;
+    change_run(pages, level, &leader, 0, count, &Cells::new(alloc, level))?;
+    change_moved(pages, level, lead, &made, made.cells.len() > first)?;
     Ok(next)
 }

@@ -1,23 +1,20 @@
-use Rattle.std.proofs.Common.{◌≡◌, ◌<◌, ◌++◌, ◌∷◌, [], ◌+◌, Equal, length, sym, ap, subst, ◌∙◌, arith}
+use Rattle.std.proofs.Common.{◌≡◌, ◌<◌, ◌++◌, ◌+◌, Equal, length, sym, ap, subst, ◌∙◌, arith}
 use Rattle.std.specs.Ordering.{is_eq}
 use Rattle.store_model.specs.Paths.{key_cmp}
 use Rattle.store_model.specs.Pages.{Cell}
 use Rattle.node_pages.specs.Cells.{CellList}
 use Rattle.skip_groups.specs.GroupCells.{AreCells, IsRisingList, compares}
 use Rattle.skip_groups.proofs.CellLists.{side_step, side_stays, side_within}
-use Rattle.skip_groups.proofs.KeyRanges.{on_level, list_on, tied}
+use Rattle.skip_groups.proofs.KeyRanges.{tied}
 use Rattle.skip_groups.proofs.cells.append_own.Goals as goal
 use Rattle.skip_groups.proofs.cells.append_own.Goals.{then-is_eq+in_ok-push_rising, else-is_eq}
-
-pub push_rising-requires : goal.push_rising-requires
-push_rising-requires c = let valid = c.loop-cell.invariant.valid
-    in subst (λ n. AreCells n c.loop-cell.cells.cells) (sym valid.level_is) valid.cells
 
 pub loop-cell-preserved : goal.loop-cell-preserved
 loop-cell-preserved c =
     let key = c.args.key.now in
     let own = c.args.own.now in
     let i = c.loop-cell.cell-index in
+    let level = c.args.level in
     let old = c.args.cells.now in
     let item = c.cell-item.result in
     let before = c.loop-cell.invariant in
@@ -27,16 +24,14 @@ loop-cell-preserved c =
     (sym (c.cmp.ensures.value ∙ ap (λ (x : Cell). key_cmp x.key key) c.cell.view_is)) ∙ sym c.is_eq.ensures in
     elim c.if-is_eq.branch [
       | then-is_eq+in_ok-push_rising w ↦ record {
-        valid = subst (IsRisingList old.level) (sym w.cells-is)
-            (list_on c.loop-cell.cells.level old.level w.push_rising.new.cells before.valid.level_is
-            w.in_ok-push_rising.ensures.valid);
+        valid = subst (IsRisingList level) (sym w.cells-is)
+            w.in_ok-push_rising.ensures.valid;
         added = λ all.
             let line = side_step Equal key old.cells own c.loop-cell.cells.cells i item below
             c.cell-item.is (test ∙ w.if-is_eq.true) (before.added all) in
-            let next = on_level c.loop-cell.cells.level old.level (c.loop-cell.cells.cells ++ item ∷ [])
-            before.valid.level_is w.in_ok-push_rising.ensures.added in
             ap (λ (list : CellList). list.cells) w.cells-is
-            ∙ next (subst (AreCells old.level) line (side_within Equal key old.level old.cells own (i + 1) all))
+            ∙ w.in_ok-push_rising.ensures.added
+            (subst (AreCells level) line (side_within Equal key level old.cells own (i + 1) all))
             ∙ sym line;
         few = omega (
           arith,
@@ -46,7 +41,7 @@ loop-cell-preserved c =
         );
       }
       | else-is_eq w ↦ record {
-        valid = subst (IsRisingList old.level) (sym w.cells-is) before.valid;
+        valid = subst (IsRisingList level) (sym w.cells-is) before.valid;
         added = λ all. ap (λ (list : CellList). list.cells) w.cells-is ∙ before.added all
             ∙ ap (λ xs. old.cells ++ xs)
             (sym (side_stays Equal key own i item below c.cell-item.is (test ∙ w.if-is_eq.false)));

@@ -1,5 +1,4 @@
 use Rattle.std.proofs.Common.{arith}
-use Rattle.store_base.specs.Leads.{model_lead}
 use Rattle.skip_groups.proofs.NewCellsSteps.{set_begins, some_run}
 use Rattle.skip_groups.proofs.new_cells.NewCells.begin.Goals as goal
 
@@ -9,28 +8,13 @@ is_page-requires-clause-within c =
     (omega (arith, c.if-len.false, c.len.ensures.value, c.len-2.ensures.value, c.len-2.ensures.valid.some_cell))
 
 pub returns-then-len-clause-set : goal.returns-then-len-clause-set
-returns-then-len-clause-set c pages h =
-    let page = c.args.page.now in
-    let cells = c.merge_page.new.cells in
-    let few = c.in_ok-self.ensures.few in
-    set_begins c.args.self.now.cells.level (model_lead c.args.lead.now) c.args.key.now c.args.own.now pages page
-    c.args.self.now h c.requires.none c.requires.first _ cells (omega (arith, few))
-    c.in_ok-self.ensures.merged
+returns-then-len-clause-set c pages h = set_begins _ h c.requires.none c.requires.first _ _
+    (omega (arith, c.in_ok-self.ensures.few)) c.in_ok-self.ensures.merged
 
 pub returns-then-is_page-clause-set : goal.returns-then-is_page-clause-set
-returns-then-is_page-clause-set c pages h =
-    let page = c.args.page.now in
-    let cells = c.merge_page.new.cells in
-    let few = c.in_ok-self.ensures.few in
-    set_begins c.args.self.now.cells.level (model_lead c.args.lead.now) c.args.key.now c.args.own.now pages page
-    c.args.self.now h c.requires.none c.requires.first _ cells (omega (arith, few))
-    c.in_ok-self.ensures.merged
+returns-then-is_page-clause-set c pages h = set_begins _ h c.requires.none c.requires.first _ _
+    (omega (arith, c.in_ok-self.ensures.few)) c.in_ok-self.ensures.merged
 
 pub returns-else-is_page-clause-set : goal.returns-else-is_page-clause-set
-returns-else-is_page-clause-set c pages h =
-    let page = c.args.page.now in
-    let cells = c.merge_page.new.cells in
-    let few = c.in_ok-self.ensures.few in
-    set_begins c.args.self.now.cells.level (model_lead c.args.lead.now) c.args.key.now c.args.own.now pages page
-    c.args.self.now h c.requires.none c.requires.first _ cells (omega (arith, few))
-    c.in_ok-self.ensures.merged
+returns-else-is_page-clause-set c pages h = set_begins _ h c.requires.none c.requires.first _ _
+    (omega (arith, c.in_ok-self.ensures.few)) c.in_ok-self.ensures.merged

@@ -1,6 +1,5 @@
-use Rattle.std.proofs.Common.{refl, subst, arith}
+use Rattle.std.proofs.Common.{refl, arith}
 use Rattle.store_base.specs.Leads.{model_lead}
-use Rattle.skip_groups.specs.GroupCells.{IsKept}
 use Rattle.skip_groups.proofs.NewCellsSteps.{set_stays}
 use Rattle.skip_groups.proofs.new_cells.NewCells.go_on.Goals as goal
 
@@ -12,8 +11,5 @@ returns-then-self-gt0-clause-step c = c.append.ensures.step (model_lead c.args.l
 
 pub returns-clause-set : goal.returns-clause-set
 returns-clause-set c pages h =
-    let page = c.args.page.now in
-    set_stays c.args.self.now.cells.level (model_lead c.args.lead.now) c.args.key.now c.args.own.now pages page
-    c.args.self.now h (omega arith)
-    (subst (λ n. IsKept n c.args.key.now page) c.level.ensures.value (c.stays.ensures.stays c.if-not-stays.false))
-    _ c.key.result refl c.len.ensures.valid.some_cell (rw c.len.ensures.value at c.key.ensures.value)
+    set_stays _ h (omega arith) (c.stays.ensures.stays c.if-not-stays.false) _ _ refl
+    c.len.ensures.valid.some_cell (rw c.len.ensures.value at c.key.ensures.value)

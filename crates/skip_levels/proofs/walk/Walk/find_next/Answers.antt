@@ -1,6 +1,5 @@
 use Rattle.std.proofs.Common.{sym, ap, ◌∙◌}
 use Rattle.store_base.specs.Leads.{model_lead}
-use Rattle.skip_levels.specs.Descent.{lead_in}
 use Rattle.std.proofs.lemmas.Result.{err_from_is_err_and}
 use Rattle.skip_levels.proofs.NextLemmas.{no_path, no_neighbours, next_is_none, next_in_group, next_leads}
 use Rattle.skip_levels.proofs.ValueLemmas.{some_from_test, none_from_test}
@@ -9,68 +8,47 @@ use Rattle.skip_levels.proofs.walk.Walk.find_next.Goals as goal
 pub returns-in_err-go_to-clause-call : goal.returns-in_err-go_to-clause-call
 returns-in_err-go_to-clause-call g c =
     let p = err_from_is_err_and c.from_residual.result c.from_residual.ensures.1 in
-    rw (p.1, p.2) (no_path (g.P.Pages.state c.args.pages.now)
-    (g.P.Pages.state c.go_to.new.pages) c.args.height c.args.self.now.known c.args.key.now c.go_to.new.self.known
-    c.requires c.in_err-go_to.field-0.0 c.in_err-go_to.ensures.call)
+    rw (p.1, p.2) (no_path c.requires c.in_err-go_to.ensures.call)
 
 pub returns-in_err-search_group-clause-call : goal.returns-in_err-search_group-clause-call
 returns-in_err-search_group-clause-call g c =
     let p = err_from_is_err_and c.from_residual-in_err-search_group.result c.from_residual-in_err-search_group.ensures.1
     in
-    rw (p.1, p.2) (no_neighbours (g.P.Pages.state c.args.pages.now)
-    (g.P.Pages.state c.go_to.new.pages) c.args.height c.args.self.now.known c.args.key.now c.go_to.new.self.known
-    c.requires (g.P.Pages.state c.search_group.new.pages)
-    (lead_in c.go_to.new.self.known) c.in_ok-go_to.ensures.call _
-    (ap model_lead c.known_lead.ensures) c.search_group.new.found c.in_err-search_group.field-0.0
+    rw (p.1, p.2) (no_neighbours c.requires c.in_ok-go_to.ensures.call (ap model_lead c.known_lead.ensures)
     c.in_err-search_group.ensures.call)
 
 pub returns-then-is_some-clause-call : goal.returns-then-is_some-clause-call
 returns-then-is_some-clause-call g c =
-    let pair = some_from_test c.search_group.new.found (sym c.is_some.ensures ∙ c.if-is_some.true) in
-    next_in_group (g.P.Pages.state c.args.pages.now)
-    (g.P.Pages.state c.go_to.new.pages) c.args.height c.args.self.now.known c.args.key.now c.go_to.new.self.known
-    c.requires (g.P.Pages.state c.search_group.new.pages)
-    (lead_in c.go_to.new.self.known) c.in_ok-go_to.ensures.call _
-    (ap model_lead c.known_lead.ensures) c.search_group.new.found tt c.in_ok-search_group.ensures.call pair.0 pair.1
+    let pair = some_from_test _ (sym c.is_some.ensures ∙ c.if-is_some.true) in
+    next_in_group c.requires c.in_ok-go_to.ensures.call (ap model_lead c.known_lead.ensures)
+    c.in_ok-search_group.ensures.call pair.1
 
 pub returns-in-Some-clause-call : goal.returns-in-Some-clause-call
 returns-in-Some-clause-call g c =
-    next_leads (g.P.Pages.state c.args.pages.now)
-    (g.P.Pages.state c.go_to.new.pages) c.args.height c.args.self.now.known c.args.key.now c.go_to.new.self.known
-    c.requires (g.P.Pages.state c.search_group.new.pages)
-    (lead_in c.go_to.new.self.known) c.in_ok-go_to.ensures.call _
-    (ap model_lead c.known_lead.ensures) c.search_group.new.found tt
-    c.in_ok-search_group.ensures.call (g.P.Pages.state c.first_pair.new.pages)
-    c.in-Some.leader (sym c.next_leader.ensures ∙ c.in-Some.is)
-    (none_from_test c.search_group.new.found (sym c.is_some.ensures ∙ c.if-is_some.false))
-    c.first_pair.result c.first_pair.ensures.call
+    next_leads c.requires c.in_ok-go_to.ensures.call (ap model_lead c.known_lead.ensures)
+    c.in_ok-search_group.ensures.call (sym c.next_leader.ensures ∙ c.in-Some.is)
+    (none_from_test _ (sym c.is_some.ensures ∙ c.if-is_some.false)) c.first_pair.ensures.call
 
 pub returns-in-None-clause-call : goal.returns-in-None-clause-call
-returns-in-None-clause-call g c = next_is_none (g.P.Pages.state c.args.pages.now)
-    (g.P.Pages.state c.go_to.new.pages) c.args.height c.args.self.now.known c.args.key.now c.go_to.new.self.known
-    c.requires (g.P.Pages.state c.search_group.new.pages) (lead_in c.go_to.new.self.known) c.in_ok-go_to.ensures.call _
-    (ap model_lead c.known_lead.ensures) c.search_group.new.found tt
+returns-in-None-clause-call g c =
+    next_is_none c.requires c.in_ok-go_to.ensures.call (ap model_lead c.known_lead.ensures)
     c.in_ok-search_group.ensures.call (sym c.next_leader.ensures ∙ c.in-None.is)
-    (none_from_test c.search_group.new.found (sym c.is_some.ensures ∙ c.if-is_some.false))
+    (none_from_test _ (sym c.is_some.ensures ∙ c.if-is_some.false))
 
 -- what each call keeps of the state below
 pub returns-in_err-search_group-clause-follows : goal.returns-in_err-search_group-clause-follows
 returns-in_err-search_group-clause-follows g c =
-    g.met.P.Pages.follows_trans c.args.pages.now c.go_to.new.pages c.search_group.new.pages
-    c.in_ok-go_to.ensures.follows c.in_err-search_group.ensures.follows
+    g.met.P.Pages.follows_trans _ _ _ c.in_ok-go_to.ensures.follows c.in_err-search_group.ensures.follows
 
 pub returns-then-is_some-clause-follows : goal.returns-then-is_some-clause-follows
 returns-then-is_some-clause-follows g c =
-    g.met.P.Pages.follows_trans c.args.pages.now c.go_to.new.pages c.search_group.new.pages
-    c.in_ok-go_to.ensures.follows c.in_ok-search_group.ensures.follows
+    g.met.P.Pages.follows_trans _ _ _ c.in_ok-go_to.ensures.follows c.in_ok-search_group.ensures.follows
 
 pub returns-in-Some-clause-follows : goal.returns-in-Some-clause-follows
 returns-in-Some-clause-follows g c =
-    g.met.P.Pages.follows_trans c.args.pages.now c.go_to.new.pages c.first_pair.new.pages c.in_ok-go_to.ensures.follows
-    (g.met.P.Pages.follows_trans c.go_to.new.pages c.search_group.new.pages c.first_pair.new.pages
-    c.in_ok-search_group.ensures.follows c.first_pair.ensures.follows)
+    g.met.P.Pages.follows_trans _ _ _ c.in_ok-go_to.ensures.follows
+    (g.met.P.Pages.follows_trans _ _ _ c.in_ok-search_group.ensures.follows c.first_pair.ensures.follows)
 
 pub returns-in-None-clause-follows : goal.returns-in-None-clause-follows
 returns-in-None-clause-follows g c =
-    g.met.P.Pages.follows_trans c.args.pages.now c.go_to.new.pages c.search_group.new.pages
-    c.in_ok-go_to.ensures.follows c.in_ok-search_group.ensures.follows
+    g.met.P.Pages.follows_trans _ _ _ c.in_ok-go_to.ensures.follows c.in_ok-search_group.ensures.follows

@@ -12,26 +12,18 @@ find_lead-requires g c =
 pub returns-in_err-lead-clause-call : goal.returns-in_err-lead-clause-call
 returns-in_err-lead-clause-call g c =
     let p = err_from_is_err_and c.from_residual.result c.from_residual.ensures.1 in
-    rw (p.1, p.2) (no_put_place (g.W.Draw.drawn c.args.draw.now) (g.P.Pages.state c.args.pages.now)
-    (g.P.Pages.state c.find_lead.new.pages)
-    c.args.self.now.known c.args.key.now c.find_lead.new.self.known c.height.result c.height.ensures
+    rw (p.1, p.2) (no_put_place c.height.ensures
     (omega (arith, (g.met.W.Draw.lawful c.args.draw.now).level_in_range c.args.key.now, c.height.ensures))
-    c.args.own c.in_err-lead.field-0.0 c.in_err-lead.ensures.call)
+    c.in_err-lead.ensures.call)
 
 pub returns-then-is_at_leader-clause-call : goal.returns-then-is_at_leader-clause-call
 returns-then-is_at_leader-clause-call g c =
-    place_of_lead (g.W.Draw.drawn c.args.draw.now) (g.P.Pages.state c.args.pages.now)
-    (g.P.Pages.state c.find_lead.new.pages)
-    c.args.self.now.known c.args.key.now c.find_lead.new.self.known c.height.result c.height.ensures
+    place_of_lead c.height.ensures
     (omega (arith, (g.met.W.Draw.lawful c.args.draw.now).level_in_range c.args.key.now, c.height.ensures))
-    c.args.own c.requires c.in_ok-lead.lead c.in_ok-lead.ensures.call (sym c.is_at_leader.ensures
-    ∙ c.if-is_at_leader.true)
+    c.requires c.in_ok-lead.ensures.call (sym c.is_at_leader.ensures ∙ c.if-is_at_leader.true)
 
 pub returns-else-is_at_leader-clause-call : goal.returns-else-is_at_leader-clause-call
 returns-else-is_at_leader-clause-call g c =
-    place_of_own (g.W.Draw.drawn c.args.draw.now) (g.P.Pages.state c.args.pages.now)
-    (g.P.Pages.state c.find_lead.new.pages)
-    c.args.self.now.known c.args.key.now c.find_lead.new.self.known c.height.result c.height.ensures
+    place_of_own c.height.ensures
     (omega (arith, (g.met.W.Draw.lawful c.args.draw.now).level_in_range c.args.key.now, c.height.ensures))
-    c.args.own c.requires c.in_ok-lead.lead c.in_ok-lead.ensures.call (sym c.is_at_leader.ensures
-    ∙ c.if-is_at_leader.false)
+    c.requires c.in_ok-lead.ensures.call (sym c.is_at_leader.ensures ∙ c.if-is_at_leader.false)
