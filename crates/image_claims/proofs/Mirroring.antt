@@ -10,6 +10,7 @@ use Rattle.store_model.proofs.TreesLemmasLayouts.{images_tell}
 use Rattle.disk_model.specs.DiskState.{DiskState, IsObservable, IsSound}
 use Rattle.gate_journal.specs.Changes.{RecoversToEither}
 use Rattle.gate_journal.specs.Costs.{has_journal, opening_syncs, commit_writes, commit_syncs}
+use Rattle.gate_journal.specs.Disks.{KeepsDisk}
 use Rattle.gate_journal.specs.Headers.{IsImageWith, HasParameters}
 use Rattle.gate_journal.specs.Phases.{HasEmptyJournal}
 use Rattle.gate_journal.specs.Places.{ReadsOnly}
@@ -31,8 +32,9 @@ use Rattle.image_subcommands.proofs.StatusLemmas.{disk_fault_or_not}
 use Rattle.image_claims.specs.Checks.{IsBroken, IsSome}
 use Rattle.image_claims.specs.Costs.{Costs}
 use Rattle.image_claims.specs.Endings.{IsOneOf, EndsExactly}
-use Rattle.image_claims.specs.Mirrors.{LacksOne, AreOfOther, mirror_line, MirrorsImage, FailsAlone, MirrorFails}
-use Rattle.image_claims.specs.Mirrors.{IsOldOrFirst, MirrorsAllOrNone, MirrorsEither, CostsOfMirror}
+use Rattle.image_claims.specs.Mirrors.{LacksOne, AreOfOther, count_line, MirrorsImage, FailsAlone, MirrorFails}
+use Rattle.image_claims.specs.Mirrors.{StaysDisk, MirrorsAny, IsOldOrFirst, MirrorsAllOrNone, MirrorsEither}
+use Rattle.image_claims.specs.Mirrors.{CostsOfMirror}
 use Rattle.image_claims.proofs.Checking.{to_broken, from_broken}
 use Rattle.image_claims.proofs.Costing.{just, at_most}
 use Rattle.image_claims.proofs.EndingLemmas.{mirror_ends, mirrored_ends, is_mirrored, spares_second, counts_mirror}
@@ -40,10 +42,9 @@ use Rattle.image_claims.proofs.FaultLemmas.{disk_counts, sink_counts}
 
 -- ---- the line
 
-line_of_mirror : (p : Parameters) (first second : List ℕ)
-    → mirror_text (slots_differing p.slots second first) ≡ mirror_line p first second
-unfolding mirror_text mirror_line
-line_of_mirror p first second = refl
+line_of_count : (count : ℕ) → mirror_text count ≡ count_line count
+unfolding mirror_text count_line
+line_of_count count = refl
 
 -- ---- what the two disks hold
 
@@ -120,6 +121,15 @@ spared_by_first status from from_new to to_new told (inl first) rose = elim (dis
 ]
 spared_by_first status from from_new to to_new told (inr second) rose = absurd (omega (arith, rose, second.from_faults))
 
+held_by_first : (status : Status) (from from_new to to_new : DiskState) → FailsOne status from from_new to to_new
+    → to.faults < to_new.faults → HoldsSome from
+held_by_first status from from_new to to_new (inl first) rose = absurd (omega (arith, rose, first.to_faults))
+held_by_first status from from_new to to_new (inr second) rose = elim (disk_fault_or_not status) [
+  | inl e ↦ second.holds e
+  | inr other
+      ↦ absurd (omega (arith, rose, (disk_counts status to.faults to_new.faults second.to_faults).same other))
+]
+
 fails_alone : (status : Status) (from from_new to to_new : DiskState) → FailsOne status from from_new to to_new
     → FailsAlone status from.faults from_new.faults to.faults to_new.faults
     ⊎ FailsAlone status to.faults to_new.faults from.faults from_new.faults
@@ -127,6 +137,49 @@ fails_alone status from from_new to to_new (inl first) =
     inl (record { counts = disk_counts status from.faults from_new.faults first.from_faults; spared = first.to_faults })
 fails_alone status from from_new to to_new (inr second) =
     inr (record { counts = disk_counts status to.faults to_new.faults second.to_faults; spared = second.from_faults })
+
+-- ---- any disks
+
+stays_disk : (old new : DiskState) → KeepsDisk old new → StaysDisk old new
+stays_disk old new kept = record {
+  size = kept.size;
+  tells = kept.observable;
+  writes = kept.writes;
+  syncs = kept.syncs;
+}
+
+pub mirrors_any : {A B W : Type 0} (from_of : A → DiskState) (to_of : B → DiskState) (sink_of : W → SinkState)
+    (before : OutsidePair A B W) (after : PairOutcome A B W) → IsMirror from_of to_of sink_of before after
+    → MirrorsAny after.status after.done (from_of before.from) (from_of after.from) (to_of before.to) (to_of after.to)
+    (sink_of before.sink) (sink_of after.sink)
+mirrors_any from_of to_of sink_of before after is =
+    let sink = sink_of before.sink in
+    let counts = counts_mirror after.status after.done is.done in
+    record {
+      from_stays = stays_disk (from_of before.from) (from_of after.from) is.from_kept;
+      to_stays = stays_disk (to_of before.to) (to_of after.to) is.to_kept;
+      sink_tells = is.sink_observable;
+      ends = mirror_ends after.status is.ends;
+      disk_faults = fails_alone after.status (from_of before.from) (from_of after.from)
+          (to_of before.to) (to_of after.to) is.disk_faults;
+      sink_faults = sink_counts after.status sink.faults (sink_of after.sink).faults is.sink_faults;
+      no_image = λ told none. ⊎_elim (λ e. inl e) (λ fault. inr (inl fault))
+          ((is.judged_first told).no_image (λ observable. none));
+      line = λ told e.
+          let some = is.prints (is_mirrored after.status (inl e)) in (
+            some.count,
+            some.prints.whole told e ∙ ap (λ (text : List ℕ). sink.written ++ text) (line_of_count some.count),
+          );
+      in_part = λ told e.
+          let some = is.prints (is_mirrored after.status (inr (inl e))) in (
+            some.count,
+            subst (AppendsPrefix sink.written (sink_of after.sink).written) (line_of_count some.count)
+                (some.prints.in_part told e),
+          );
+      silent = λ other. ap sink_of (is.silent (λ so. other (mirrored_ends after.status so)));
+      one = counts.one;
+      none = counts.none;
+    }
 
 -- ---- what a crash leaves
 
@@ -223,9 +276,12 @@ module _ {A B W : Type 0} (from_of : A → DiskState) (to_of : B → DiskState) 
               (from_other from to told_from told_to sound_from sound_to) judged.unequal;
           refused = λ so. is.refused told_to (spares_second after.status so);
           spares_first = is.from_reads told_from;
+          lacks = λ e. to_pair from to told_from told_to sound_from sound_to (judged.no_memory e);
           apart = λ none. is.apart told_to (λ pair. let are = to_pair from to told_from told_to sound_from sound_to pair
               in none are.0 are.1 are.2 are.3);
           first_failed = spared_by_first after.status from from_new to to_new told_to is.disk_faults;
+          second_failed = λ rose. to_tree from to told_from told_to sound_from sound_to
+              (held_by_first after.status from from_new to to_new is.disk_faults rose);
           ends = mirror_ends after.status is.ends;
           represents = λ so. to_pair from to told_from told_to sound_from sound_to
               (judged.mirrored (is_mirrored after.status so));
@@ -242,10 +298,11 @@ module _ {A B W : Type 0} (from_of : A → DiskState) (to_of : B → DiskState) 
           none = counts.none;
           line = λ e t p represents.
               ((mirrored_so (inl e) t p represents).prints (is_mirrored after.status (inl e))).whole sink_told e
-              ∙ ap (λ (text : List ℕ). (sink_of before.sink).written ++ text) (line_of_mirror p from.bytes to.bytes);
+              ∙ ap (λ (text : List ℕ). (sink_of before.sink).written ++ text)
+              (line_of_count (slots_differing p.slots to.bytes from.bytes));
           in_part = λ e t p represents.
               subst (AppendsPrefix (sink_of before.sink).written (sink_of after.sink).written)
-              (line_of_mirror p from.bytes to.bytes)
+              (line_of_count (slots_differing p.slots to.bytes from.bytes))
               (((mirrored_so (inr (inl e)) t p represents).prints (is_mirrored after.status (inr (inl e)))).in_part
               sink_told e);
           silent = λ other. ap sink_of (is.silent (λ so. other (mirrored_ends after.status so)));

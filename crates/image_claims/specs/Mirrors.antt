@@ -1,18 +1,19 @@
 -- What mirroring one image onto another leaves, and what it costs.
-use Rattle.std.specs.Prelude.{◌≡◌, ◌≢◌, ◌⊎◌, ◌+◌, ◌*◌, ◌<◌, ◌++◌, ℕ, List, length, [], ◌∷◌, codes}
+use Rattle.std.specs.Prelude.{◌≡◌, ◌≢◌, ◌⊎◌, ◌+◌, ◌*◌, ◌<◌, ◌≤◌, ◌++◌, ℕ, List, length, [], ◌∷◌, codes}
 use Rattle.std.specs.Fmt.{decimal}
 use Rattle.store_model.specs.Commands.{line}
 use Rattle.store_model.specs.Parameters.{Parameters}
 use Rattle.store_model.specs.Trees.{Tree}
 use Rattle.store_model.specs.Images.{recovered, Represents}
 use Rattle.store_base.specs.Counts.{Rose}
-use Rattle.disk_model.specs.DiskState.{DiskState, MayLeaveOnly}
+use Rattle.disk_model.specs.DiskState.{DiskState, IsObservable, MayLeaveOnly}
 use Rattle.gate_journal.specs.Headers.{IsImageWith}
 use Rattle.gate_journal.specs.Phases.{HasEmptyJournal}
 use Rattle.gate_journal.specs.Places.{ReadsOnly}
 use Rattle.image_check.specs.Standing.{Stands}
 use Rattle.mirror_copy.specs.Differing.{slots_differing, rewrite_writes, rewrite_syncs}
 use Rattle.script_lines.specs.SinkState.{SinkState, AppendsPrefix}
+use Rattle.script_lines.specs.SinkState as sinks
 use Rattle.image_subcommands.specs.declared.status.Status.{Status}
 use Rattle.image_subcommands.specs.declared.status.Status.TheVariants.{Done, SinkFault, DiskFault, NotImage, Damaged}
 use Rattle.image_subcommands.specs.declared.status.Status.TheVariants.{NoMemory, Unequal}
@@ -31,9 +32,13 @@ abbrev pub AreOfOther : List ℕ → List ℕ → Type 0
 AreOfOther first second = (t : Tree) × (p : Parameters) × (q : Parameters) × Represents first t p
     × IsImageWith second q × (p ≢ q)
 
+-- the line that tells a number of slots
+unfoldable pub count_line : ℕ → List ℕ
+count_line count = line (codes "mirror " ++ decimal count)
+
 -- the line that tells in how many slots the images differed, each as recovery leaves it
-unfoldable pub mirror_line : Parameters → List ℕ → List ℕ → List ℕ
-mirror_line p first second = line (codes "mirror " ++ decimal (slots_differing p.slots second first))
+abbrev pub mirror_line : Parameters → List ℕ → List ℕ → List ℕ
+mirror_line p first second = count_line (slots_differing p.slots second first)
 
 -- The first image is mirrored onto the second.
 pub record MirrorsImage (status : Status) (done : ℕ) (from from_new to to_new : DiskState)
@@ -46,10 +51,14 @@ pub record MirrorsImage (status : Status) (done : ℕ) (from from_new to to_new 
   -- in these cases, and where memory ran out, the second is only read; the first is only read in any case
   pub refused : IsOneOf status (NotImage ∷ Damaged ∷ Unequal ∷ NoMemory ∷ []) → ReadsOnly to to_new
   pub spares_first : ReadsOnly from from_new
+  -- and memory runs out only for a pair
+  pub lacks : status ≡ NoMemory → (t : Tree) × (p : Parameters) × Represents from.bytes t p × IsImageWith to.bytes p
   -- so it is where they are no pair, also where a call of it failed, and where a call of the first failed
   pub apart : ((t : Tree) (p : Parameters) → Represents from.bytes t p → IsImageWith to.bytes p → ⊥)
       → ReadsOnly to to_new
   pub first_failed : from.faults < from_new.faults → ReadsOnly to to_new
+  -- and a call of the second fails only where the first holds a tree
+  pub second_failed : to.faults < to_new.faults → IsSome (Represents from.bytes)
   -- it ends by one of these
   pub ends : IsOneOf status mirror_endings
   -- done, or not printed: the second is the image of the first's tree, durably, whatever it held
@@ -87,6 +96,35 @@ pub record MirrorFails (status : Status) (from from_new to to_new : DiskState)
   pub sink_faults : CountsFault status SinkFault sink.faults sink_new.faults
   pub done_or_lacks : (t : Tree) (p : Parameters) → Represents from.bytes t p → IsImageWith to.bytes p
       → NoneOfPairFailed from from_new to to_new sink sink_new → IsDoneOrLacks status
+
+-- the disk has its size, tells its bytes where it did, and no count falls, so that another call can follow
+pub record StaysDisk (old new : DiskState) : Type 0 where
+  pub size : new.size ≡ old.size
+  pub tells : new.is_observable ≡ old.is_observable
+  pub writes : old.writes ≤ new.writes
+  pub syncs : old.syncs ≤ new.syncs
+
+-- A mirror of any two disks to any sink, whether they tell their bytes or not.
+pub record MirrorsAny (status : Status) (done : ℕ) (from from_new to to_new : DiskState)
+    (sink sink_new : SinkState) : Type 0 where
+  pub from_stays : StaysDisk from from_new
+  pub to_stays : StaysDisk to to_new
+  pub sink_tells : sink_new.is_observable ≡ sink.is_observable
+  -- it ends by one of these, and each failed call is the status, and no other
+  pub ends : IsOneOf status mirror_endings
+  pub disk_faults : FailsAlone status from.faults from_new.faults to.faults to_new.faults
+      ⊎ FailsAlone status to.faults to_new.faults from.faults from_new.faults
+  pub sink_faults : CountsFault status SinkFault sink.faults sink_new.faults
+  -- a first disk that tells that it is no image is refused, whatever the second is
+  pub no_image : IsObservable from → IsNone from.bytes → IsOneOf status (NotImage ∷ DiskFault ∷ [])
+  -- what is printed is a whole line or a front of one, that of some number of slots, and in place of a fault nothing
+  pub line : sinks.IsObservable sink → status ≡ Done
+      → (count : ℕ) × (sink_new.written ≡ sink.written ++ count_line count)
+  pub in_part : sinks.IsObservable sink → status ≡ SinkFault
+      → (count : ℕ) × AppendsPrefix sink.written sink_new.written (count_line count)
+  pub silent : (IsOneOf status (Done ∷ SinkFault ∷ []) → ⊥) → sink_new ≡ sink
+  pub one : IsOneOf status (Done ∷ SinkFault ∷ []) → done ≡ 1
+  pub none : (IsOneOf status (Done ∷ SinkFault ∷ []) → ⊥) → done ≡ 0
 
 -- the image is as long as the second and recovers to what that does
 pub record RecoversAlike (p : Parameters) (second image : List ℕ) : Type 0 where

@@ -6,10 +6,12 @@ ghost use Rattle.store_model.specs.Images.{Represents};
 ghost use Rattle.gate_journal.specs.Headers.{IsImageWith};
 ghost use Rattle.script_lines.specs.Memory.{sink_state};
 ghost use Rattle.image_claims.specs.Mirrors.{MirrorsImage, MirrorFails, MirrorsAllOrNone, MirrorsEither, CostsOfMirror};
+ghost use Rattle.image_claims.specs.Mirrors.{MirrorsAny};
 ghost use Rattle.script_claims.specs.Machines.{meaning};
 
+use disk_model::Disk as AnyDisk;
 use script_claims::Disk;
-use script_lines::MemSink;
+use script_lines::{MemSink, Sink};
 use std::alloc::Global;
 use store_top::{PairOutcome, top_pair};
 
@@ -35,6 +37,21 @@ pub fn mirror(alloc: Global, from: Disk, to: Disk, sink: MemSink) -> Mirrored
     ensures costs { (p : Parameters) → IsImageWith (meaning from).bytes p
         → IsImageWith (meaning to).bytes p
         → CostsOfMirror p (meaning from).bytes result.status (meaning to) (meaning result.to) }
+{
+    top_pair(alloc, from, to, sink)
+}
+
+/// Mirrors any disk onto any other, whether they tell their bytes or not. Each failed call is the status, and no
+/// other. Each of the three can be used by another call. What is printed is a line `mirror D`, or a front of it.
+pub fn mirror_anything<A: AnyDisk, B: AnyDisk, W: Sink>(
+    alloc: Global,
+    from: A,
+    to: B,
+    sink: W,
+) -> PairOutcome<A, B, W>
+    ensures { MirrorsAny result.status result.done (A.state from)
+        (A.state result.from) (B.state to)
+        (B.state result.to) (W.state sink) (W.state result.sink) }
 {
     top_pair(alloc, from, to, sink)
 }

@@ -7,9 +7,9 @@
 
 use crate::{
     Judged, Remade, Scrubs, call_anything, call_counted, call_unserved, check, check_at_cost,
-    check_behind_runs, check_then_run, format, format_at_cost, format_cut_short, mirror, number_of,
-    scrub, scrub_at_cost, scrub_cut_short, upgrade, upgrade_at_cost, upgrade_cut_short, wipe,
-    wipe_at_cost, wipe_cut_short, wipe_then_format,
+    check_behind_runs, check_then_run, format, format_at_cost, format_cut_short, mirror,
+    mirror_anything, number_of, scrub, scrub_at_cost, scrub_cut_short, upgrade, upgrade_at_cost,
+    upgrade_cut_short, wipe, wipe_at_cost, wipe_cut_short, wipe_then_format,
 };
 use disk_model::{FailingDisk, MemDisk, StopChoice};
 use script_claims::{Machine, Making};
@@ -204,6 +204,20 @@ fn an_image_is_mirrored(rt: HostRuntime) {
     let disk = to.into_disk();
     assert!(rt; disk.bytes() == first.as_slice());
     assert!(rt; (disk.write_count() == 7) & (disk.sync_count() == 6));
+}
+
+#[test]
+fn a_second_disk_of_another_length_is_only_read(rt: HostRuntime) {
+    let alloc = rt.alloc();
+    let (first, second) = (one_directory(&rt, alloc), zeros(&rt, alloc, 9));
+    let from = machine(&rt, alloc, &first, NEVER, "").disk;
+    let Machine { disk, sink, .. } = machine(&rt, alloc, &second, NEVER, "");
+    let ended = mirror_anything(alloc, from, disk, sink);
+    assert!(rt; (ended.status == Status::NotImage) & (ended.done == 0));
+    assert!(rt; ended.sink.written().is_empty());
+    let disk = ended.to.into_disk();
+    assert!(rt; disk.bytes() == second.as_slice());
+    assert!(rt; (disk.write_count() == 0) & (disk.sync_count() == 0));
 }
 
 /// Looks whether a check of these bytes ends so and prints this.

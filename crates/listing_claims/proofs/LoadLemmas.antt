@@ -1,5 +1,5 @@
 -- A listing is loaded: from what a load promises.
-use Rattle.std.proofs.Common.{◌≡◌, ◌⊎◌, ◌++◌, List, ℕ, inl, inr, refl, subst, ⊎_elim}
+use Rattle.std.proofs.Common.{◌≡◌, ◌⊎◌, ◌++◌, List, ℕ, length, inl, inr, refl, ap, subst, ⊎_elim, arith, length-append}
 use Rattle.store_model.specs.Parameters.{Parameters}
 use Rattle.store_model.specs.Trees.{Tree, empty_tree}
 use Rattle.store_model.specs.Images.{Represents}
@@ -11,10 +11,11 @@ use Rattle.image_subcommands.specs.Outside.{outside_of}
 use Rattle.listing_subcommands.specs.LoadCall.{IsLoad, LoadsFrom, KeepsTree, Lists, ListsNone, ListsTooMany}
 use Rattle.listing_subcommands.specs.LoadCall.{EndsBeforeTree, full_text}
 use Rattle.script_claims.specs.Machines.{Disk, Ended, bytes_of, meaning}
+use Rattle.script_claims.proofs.NothingLemmas.{comes_first}
 use Rattle.script_claims.proofs.RunWays.{image_of}
 use Rattle.listing_claims.specs.Loaded.{Says, SaysNone, SaysTooMany, IsUnjudged, LeavesTree, LoadsListing}
 use Rattle.listing_claims.specs.Loaded.{LoadsAllOrNothing, full_line}
-use Rattle.listing_claims.proofs.Statuses.{comes_first, loads_nothing, is_spared, unjudged}
+use Rattle.listing_claims.proofs.Statuses.{loads_nothing, is_spared, unjudged}
 
 -- ---- what lines say
 
@@ -32,6 +33,9 @@ says_none p script none t says = none (record { tree = t; under = says.under; li
 
 says_too_many : (p : Parameters) (script : List ℕ) → ListsTooMany p script → SaysTooMany p script
 says_too_many p script many = (many.tree, (says many.tree p script many.lists, many.more))
+
+lists_too_many : (p : Parameters) (script : List ℕ) → SaysTooMany p script → ListsTooMany p script
+lists_too_many p script many = record { tree = many.0; lists = lists many.0 p script many.1.0; more = many.1.1 }
 
 full_is : (t : Tree) (p : Parameters) → full_text t p ≡ full_line t p
 unfolding reply_text refusal_text
@@ -79,6 +83,23 @@ module _ (u : Tree) (p : Parameters) (disk : Disk) (source : SourceMemory) (sink
         listing_only = λ empty none. ⊎_elim (λ e. inl e) (λ ends. inr (unjudged after.status (not_refused empty) ends))
             (from.bad_listing.always (lists_none p source.left none));
         taken = λ e. load.whole refl (inr (inr (inl e)));
+        too_long = λ e.
+            let many = (load.limit refl).too_long e in
+            omega (
+              arith,
+              many.count_is,
+              ap length many.taken_is,
+              length-append many.taken after.source.left,
+            );
+        in_limit = λ other.
+            let few = (load.limit refl).within other in
+            omega (
+              arith,
+              few.1,
+              (few.2).count_is,
+              ap length (few.2).taken_is,
+              length-append (few.2).taken after.source.left,
+            );
         too_full = λ e. says_too_many p source.left (from.too_full.only e);
         full_only = λ empty t is more. ⊎_elim (λ e. inl e) (λ ends. inr (before_tree empty ends))
             (from.too_full.always (record { tree = t; lists = lists t p source.left is; more = more }));
@@ -96,6 +117,7 @@ module _ (u : Tree) (p : Parameters) (disk : Disk) (source : SourceMemory) (sink
             (λ e. leaves_tree (from.keeps_short e)) ends;
         left_full = λ full. leaves_tree (from.keeps_full full);
         left_unsaid = λ none. leaves_tree (from.keeps_unlisted (lists_none p source.left none));
+        left_too_many = λ many. leaves_tree (from.keeps_too_many (lists_too_many p source.left many));
         complete = λ empty t is room short none. from.complete empty t
             (lists t p source.left is) room short none.disk_spared none.source_spared;
       }

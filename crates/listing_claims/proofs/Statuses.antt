@@ -3,10 +3,11 @@ use Rattle.std.proofs.Common.{◌≡◌, ◌⊎◌, inl, inr, refl, sym, subst}
 use Rattle.std.proofs.lemmas.Bool.{false≢true}
 use Rattle.image_subcommands.specs.declared.status.Status.{Status}
 use Rattle.image_subcommands.specs.declared.status.Status.TheVariants as statuses
-use Rattle.image_subcommands.specs.Statuses.{Subcommand as words, IsStatusOf, MayComeFirst}
+use Rattle.image_subcommands.specs.Statuses.{Subcommand as words, IsStatusOf}
 use Rattle.listing_subcommands.specs.LoadCall.{LoadsNothing, EndsBeforeListing}
 use Rattle.listing_subcommands.specs.LoadCall.LoadsNothing.{SourceFault, SinkFault, TooLong, NotEmpty, BadListing}
 use Rattle.listing_subcommands.specs.LoadCall.LoadsNothing.{TooFull}
+use Rattle.script_claims.proofs.NothingLemmas.{comes_first}
 use Rattle.listing_claims.specs.Dumped.{IsPutOut}
 use Rattle.listing_claims.specs.Loaded.{IsNotLoaded, IsUnjudged}
 
@@ -29,24 +30,6 @@ dump_ends statuses.Unequal ends image whole = absurd (false≢true ends)
 dump_ends statuses.NotEmpty ends image whole = absurd (false≢true ends)
 dump_ends statuses.BadListing ends image whole = absurd (false≢true ends)
 dump_ends statuses.TooFull ends image whole = absurd (false≢true ends)
-
--- what may come before a disk is judged
-pub comes_first : (status : Status) → MayComeFirst status → (status ≡ statuses.DiskFault) ⊎ (status ≡ statuses.NoMemory)
-comes_first statuses.Done h = absurd (false≢true h)
-comes_first statuses.Usage h = absurd (false≢true h)
-comes_first statuses.SourceFault h = absurd (false≢true h)
-comes_first statuses.SinkFault h = absurd (false≢true h)
-comes_first statuses.DiskFault h = inl refl
-comes_first statuses.TooLong h = absurd (false≢true h)
-comes_first statuses.NotImage h = absurd (false≢true h)
-comes_first statuses.Damaged h = absurd (false≢true h)
-comes_first statuses.NoMemory h = inr refl
-comes_first statuses.AlreadyImage h = absurd (false≢true h)
-comes_first statuses.WrongLength h = absurd (false≢true h)
-comes_first statuses.Unequal h = absurd (false≢true h)
-comes_first statuses.NotEmpty h = absurd (false≢true h)
-comes_first statuses.BadListing h = absurd (false≢true h)
-comes_first statuses.TooFull h = absurd (false≢true h)
 
 -- nothing was loaded
 pub loads_nothing : (status : Status) → IsNotLoaded status → LoadsNothing status

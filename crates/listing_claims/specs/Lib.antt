@@ -2,4 +2,5 @@ pub mod Again
 pub mod Crashes
 pub mod Dumped
 pub mod Loaded
+pub mod Nothing
 pub mod Same

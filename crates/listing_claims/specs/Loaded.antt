@@ -80,6 +80,9 @@ pub record LoadsListing (u : Tree) (p : Parameters) (disk : Disk) (source : Sour
   pub listing_only : u ≡ empty_tree → SaysNone p source.left
       → (after.status ≡ statuses.BadListing) ⊎ IsUnjudged after.status
   pub taken : after.status ≡ statuses.BadListing → after.source.left ≡ []
+  -- the script that is too long; in every other case no more bytes were taken than one may have
+  pub too_long : after.status ≡ statuses.TooLong → script_limit < length source.left
+  pub in_limit : after.status ≢ statuses.TooLong → length source.left ≤ script_limit + length after.source.left
   -- the tree that is too large, and both numbers were printed
   pub too_full : after.status ≡ statuses.TooFull → SaysTooMany p source.left
   pub full_only : u ≡ empty_tree → (t : Tree) → Says p source.left t → p.slots < page_count t p
@@ -96,9 +99,11 @@ pub record LoadsListing (u : Tree) (p : Parameters) (disk : Disk) (source : Sour
   pub kept : IsNotLoaded after.status → HasImage after.disk u p
   pub no_memory : after.status ≡ statuses.NoMemory → HasImage after.disk u p ⊎ IsAsBefore disk after.disk
   pub left : IsNotLoaded after.status ⊎ (after.status ≡ statuses.NoMemory) → LeavesTree u p disk after
-  -- however the call ends, nothing is loaded into an image that is not empty, or of lines that say no tree
+  -- however the call ends, nothing is loaded into an image that is not empty, of lines that say no tree, or of those
+  -- of a tree that is too large
   pub left_full : u ≢ empty_tree → LeavesTree u p disk after
   pub left_unsaid : SaysNone p source.left → LeavesTree u p disk after
+  pub left_too_many : SaysTooMany p source.left → LeavesTree u p disk after
   -- a load of a listing whose tree fits into an empty image is done where the script keeps its limit, no call failed
   -- and memory was there
   pub complete : u ≡ empty_tree → (t : Tree) → Says p source.left t → page_count t p ≤ p.slots

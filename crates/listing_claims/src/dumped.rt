@@ -29,7 +29,7 @@ pub fn a_dump_says_its_tree(alloc: Global, disk: Disk, sink: MemSink) -> Result<
 }
 
 /// The command line of the one word `dump`.
-fn dump_word(alloc: Global) -> Result<Words, NoMemory>
+pub(crate) fn dump_word(alloc: Global) -> Result<Words, NoMemory>
     ensures { IfOk result (λ words. request_of words ≡ Some Dump) }
 {
     let mut words = Words::new(alloc);
@@ -38,6 +38,6 @@ fn dump_word(alloc: Global) -> Result<Words, NoMemory>
 }
 
 /// A source that has no byte.
-fn no_script(alloc: Global) -> MemSource {
+pub(crate) fn no_script(alloc: Global) -> MemSource {
     MemSource::new(Vec::new(alloc), Vec::new(alloc), Vec::new(alloc))
 }

@@ -6,7 +6,8 @@
 
 use crate::{
     Copied, LoadAndRun, a_crash_leaves_all_of_a_load_or_nothing, a_dump_is_loaded_again,
-    a_dump_says_its_tree, a_listing_is_loaded, a_load_is_a_run,
+    a_dump_on_no_tree_does_nothing, a_dump_says_its_tree, a_listing_is_loaded, a_load_is_a_run,
+    a_load_on_no_tree_does_nothing,
 };
 use disk_model::{FailingDisk, MemDisk};
 use script_claims::{Crash, Disk, Ended, Machine};
@@ -23,6 +24,9 @@ static A_AND_B: &str =
 
 /// Its dump.
 static LISTING: &str = "make /a\nmake /b\n";
+
+/// An image of that length whose slot counts no cell.
+static BROKEN: &str = "11:1 12:1 14:1 16384:1 16516:97 16641:1 16642:1";
 
 /// The same directories in the other order, which no dump has.
 static UNORDERED: &str = "make /b\nmake /a\n";
@@ -162,6 +166,25 @@ fn a_listing_is_loaded_by_one_commit_or_refused(rt: HostRuntime) {
         ..REFUSED
     };
     expect_load(&rt, alloc, EMPTY, TOO_MANY, &large);
+}
+
+#[test]
+fn nothing_is_done_without_a_tree(rt: HostRuntime) {
+    let alloc = rt.alloc();
+    let nothing = Wanted {
+        status: 8,
+        done: 0,
+        written: "",
+        image: BROKEN,
+        calls: [0, 1],
+    };
+    let (disk, sink) = (disk_of(&rt, alloc, BROKEN), sink_of(&rt, alloc));
+    let ended = a_dump_on_no_tree_does_nothing(alloc, disk, sink).expect(&rt, "memory");
+    expect_end(&rt, alloc, ended, &nothing);
+    let (disk, sink) = (disk_of(&rt, alloc, BROKEN), sink_of(&rt, alloc));
+    let source = source_of(&rt, alloc, LISTING);
+    let ended = a_load_on_no_tree_does_nothing(alloc, disk, source, sink).expect(&rt, "memory");
+    expect_end(&rt, alloc, ended, &nothing);
 }
 
 #[test]

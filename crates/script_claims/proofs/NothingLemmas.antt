@@ -17,7 +17,8 @@ use Rattle.script_claims.specs.Machines.{Disk, Ended, bytes_of, meaning}
 use Rattle.script_claims.specs.Nothing.{HasNoTree, ComesFirst, DoesNothing}
 use Rattle.script_claims.proofs.RunWays.{EndsAsRun}
 
-comes_first : (status : Status) → MayComeFirst status → ComesFirst status
+-- what may come before a disk is judged
+pub comes_first : (status : Status) → MayComeFirst status → ComesFirst status
 comes_first statuses.Done h = absurd (false≢true h)
 comes_first statuses.Usage h = absurd (false≢true h)
 comes_first statuses.SourceFault h = absurd (false≢true h)
@@ -71,7 +72,7 @@ refused_big statuses.BadListing runs never = absurd (false≢true runs)
 refused_big statuses.TooFull runs never = absurd (false≢true runs)
 
 -- an image that represents no tree is damaged
-damaged_with : (disk : Disk) (p : Parameters) → HasNoTree (bytes_of disk) → IsImageWith (bytes_of disk) p
+pub damaged_with : (disk : Disk) (p : Parameters) → HasNoTree (bytes_of disk) → IsImageWith (bytes_of disk) p
     → IsDamaged (meaning disk)
 damaged_with disk p none is = record {
   params = p;

@@ -1,6 +1,6 @@
 -- What a crash of a call that answers a script leaves to the next run. The texts of its answers, one for each line,
 -- and the trees after so many lines are those of its subcommand.
-use Rattle.std.specs.Prelude.{◌≡◌, ◌⊎◌, ◌≤◌, ◌+◌, ℕ, List, [], ◌++◌, take, drop}
+use Rattle.std.specs.Prelude.{◌≡◌, ◌⊎◌, ◌+◌, ℕ, List, [], ◌++◌, take, drop}
 use Rattle.std.specs.List.{concat}
 use Rattle.store_model.specs.Parameters.{Parameters}
 use Rattle.store_model.specs.Trees.{Tree}

@@ -1,4 +1,4 @@
-use Rattle.std.proofs.Common.{List, ℕ, sym, subst}
+use Rattle.std.proofs.Common.{sym, subst}
 use Rattle.store_model.specs.Images.{Represents}
 use Rattle.disk_model.specs.DiskState.{MayLeaveOnly}
 use Rattle.disk_model.specs.Memory.{Memory, memory_state}
