@@ -18,8 +18,6 @@ mod laws;
 mod lines;
 mod order;
 mod script;
-#[cfg(test)]
-mod tests;
 
 pub use comparing::compare;
 pub use difference::{AttributeDifference, Difference, Mark, Side};

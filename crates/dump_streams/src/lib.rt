@@ -14,8 +14,6 @@ mod room;
 mod source;
 mod stream;
 mod taker;
-#[cfg(test)]
-mod tests;
 mod writing;
 
 pub use draining::{DrainFault, drain};

@@ -11,8 +11,6 @@ mod groups;
 pub mod laws;
 mod lister;
 mod same;
-#[cfg(test)]
-mod tests;
 mod times;
 
 pub use content::{ContentTaker, Standing};

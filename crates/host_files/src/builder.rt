@@ -418,7 +418,7 @@ fn set_time_at(rt: &HostRuntime, text: &str, seconds: u64) -> io::Result<()> {
 }
 
 /// The seconds that decimal digits say, with no zero before them.
-pub(crate) fn seconds_in(digits: &[u8]) -> Option<u64> {
+fn seconds_in(digits: &[u8]) -> Option<u64> {
     if !digits.iter().all(|digit| digit.is_ascii_digit()) {
         return None;
     }

@@ -42,8 +42,9 @@ fn input_place(rt: &HostRuntime) -> Result<u64> {
     }
 }
 
-/// The place that the system tells of an open file.
-pub(crate) fn place_in(text: &str) -> Option<u64> {
+/// The place at which an open file stands, in bytes from its beginning, in the text that the system tells of it: the
+/// number behind `pos:`, in the first line that begins so. `None` where there is no such line, or no number in it.
+pub fn place_in(text: &str) -> Option<u64> {
     let line = text.lines().find(|line| line.starts_with(PLACE))?;
     line.strip_prefix(PLACE)?.trim().parse::<u64>().ok()
 }

@@ -17,14 +17,12 @@ mod opened;
 mod places;
 mod reading;
 mod spelled;
-#[cfg(test)]
-mod tests;
 mod wanted;
 mod writing;
 
 pub use builder::{NoFolder, StdBuilder};
 pub use folder::StdFolder;
-pub use input::second_look;
+pub use input::{place_in, second_look};
 pub use messages::Messages;
 pub use names::NameTaker;
 pub use spelled::Spelled;

@@ -12,8 +12,6 @@ mod memory;
 mod packing;
 mod pieces;
 mod stream;
-#[cfg(test)]
-mod tests;
 mod walk;
 
 pub use fault::FolderFault;

@@ -12,9 +12,6 @@ use path_keys::Path;
 use std::alloc::Global;
 use tree_pairs::Kind;
 
-#[cfg(test)]
-mod tests;
-
 /// The most entries that are looked for: an image of 65,536 slots has room for less.
 pub const MAX_FOUND: u32 = 16_777_216;
 

@@ -7,8 +7,6 @@ mod image_paths;
 mod laws;
 mod spelling;
 mod telling;
-#[cfg(test)]
-mod tests;
 
 pub use host_paths::{HostPathFault, host_path, host_text};
 pub use image_paths::{ImagePathFault, image_path};

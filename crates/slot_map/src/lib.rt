@@ -13,8 +13,6 @@ mod map;
 mod picture;
 mod rows;
 mod table;
-#[cfg(test)]
-mod tests;
 
 pub use fault::MapFault;
 pub use laws::an_image_has_one_picture;

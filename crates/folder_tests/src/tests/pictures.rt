@@ -1,8 +1,8 @@
 //! Pictures of images that were worked out by hand, and calls of the disk and of the sink that fail.
 
-use crate::{MapFault, write_map};
+use super::support::{NEVER, sink_of, text_of};
 use disk_model::{FailingDisk, MemDisk};
-use script_lines::MemSink;
+use slot_map::{MapFault, write_map};
 use std::alloc::Global;
 use std::process::Abort;
 
@@ -134,11 +134,6 @@ static MARKED: &[u8] = b"hstore image, version 1, 4 slots, 3 used, height 2, rul
     000000  ....\n\
     version .\n";
 
-/// The text that these bytes are.
-fn text_of(bytes: &[u8]) -> &str {
-    str::from_utf8(bytes).unwrap_or("bytes that are no text")
-}
-
 /// Writes bytes at a place.
 fn put(rt: &impl Abort, image: &mut [u8], at: usize, bytes: &[u8]) {
     for (k, byte) in bytes.iter().enumerate() {
@@ -170,17 +165,11 @@ fn worked(rt: &impl Abort, alloc: Global, changes: &[(usize, u8)]) -> MemDisk {
     disk_of(rt, alloc, WORKED_LEN, &WORKED, changes)
 }
 
-/// A sink whose put of this number fails.
-fn sink_of(rt: &impl Abort, alloc: Global, failing: u64) -> MemSink {
-    let calls = vec![in alloc; failing].expect(rt, "memory");
-    MemSink::new(alloc, 4096, calls).expect(rt, "memory")
-}
-
 #[test]
 fn images_are_shown_as_they_stand(rt: HostRuntime) {
     for (row, changes, picture) in &CHANGED {
         let mut disk = worked(&rt, rt.alloc(), changes);
-        let mut sink = sink_of(&rt, rt.alloc(), u64::MAX);
+        let mut sink = sink_of(&rt, rt.alloc(), NEVER);
         let want = if picture.is_empty() {
             Err(MapFault::NoImage)
         } else {
@@ -199,7 +188,7 @@ fn images_are_shown_as_they_stand(rt: HostRuntime) {
 #[test]
 fn the_rows_go_on_to_the_last_slot(rt: HostRuntime) {
     let mut disk = disk_of(&rt, rt.alloc(), LONG_LEN, &LONG, &[]);
-    let mut sink = sink_of(&rt, rt.alloc(), u64::MAX);
+    let mut sink = sink_of(&rt, rt.alloc(), NEVER);
     assert!(rt; write_map(&mut disk, &mut sink) == Ok(()));
     assert!(rt; sink.written() == LONG_PICTURE);
 }
@@ -208,7 +197,7 @@ fn the_rows_go_on_to_the_last_slot(rt: HostRuntime) {
 fn a_disk_of_another_length_is_no_image(rt: HostRuntime) {
     for len in [15, 4_096, 45_055, 45_057] {
         let mut disk = disk_of(&rt, rt.alloc(), len, &WORKED[..1], &[]);
-        let mut sink = sink_of(&rt, rt.alloc(), u64::MAX);
+        let mut sink = sink_of(&rt, rt.alloc(), NEVER);
         assert!(rt;
             write_map(&mut disk, &mut sink) == Err(MapFault::NoImage),
             "{len}"
@@ -224,7 +213,7 @@ fn each_read_that_fails_is_told(rt: HostRuntime) {
         let below = worked(&rt, rt.alloc(), &[]);
         let calls = vec![in rt.alloc(); call].expect(&rt, "memory");
         let mut disk = FailingDisk::new(below, calls, None);
-        let mut sink = sink_of(&rt, rt.alloc(), u64::MAX);
+        let mut sink = sink_of(&rt, rt.alloc(), NEVER);
         let result = write_map(&mut disk, &mut sink);
         if call < 8 {
             assert!(rt; result == Err(MapFault::Disk), "{call}");

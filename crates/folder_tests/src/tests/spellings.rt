@@ -1,6 +1,9 @@
 //! Names and spellings, worked out by hand.
 
-use crate::{HostPathFault, ImagePathFault, escape, host_path, host_text, image_path, unescape};
+use super::support::path;
+use host_names::{
+    HostPathFault, ImagePathFault, escape, host_path, host_text, image_path, unescape,
+};
 use path_keys::Path;
 use std::alloc::Global;
 
@@ -85,15 +88,15 @@ fn paths_lead_to_the_host_and_back(rt: HostRuntime) {
     assert!(rt; leads(rt.alloc(), b"/a%20b/%C3%A4", b"box/a b/\xc3\xa4"));
     assert!(rt; stands_at(b"/", b"a b", b"/a%20b"));
     assert!(rt; stands_at(b"/a%20b", b"\xc3\xa4", b"/a%20b/%C3%A4"));
-    let path = Path::parse(b"/a/%2F").expect(&rt, "a path");
-    let no_spelling = host_path(rt.alloc(), b"box", &path);
+    let unspelled = path(&rt, "/a/%2F");
+    let no_spelling = host_path(rt.alloc(), b"box", &unspelled);
     assert!(rt; matches!(no_spelling, Err(HostPathFault::NoSpelling)));
-    let path = Path::parse(b"/%FF").expect(&rt, "a path");
-    let not_utf8 = host_text(rt.alloc(), "box", &path);
+    let short = path(&rt, "/%FF");
+    let not_utf8 = host_text(rt.alloc(), "box", &short);
     assert!(rt; matches!(not_utf8, Err(HostPathFault::NotUtf8)));
     assert!(rt; image_path(&Path::root(), b"..") == Err(ImagePathFault::NoName));
     assert!(rt; image_path(&Path::root(), &[b'a'; 119]).is_ok());
     assert!(rt; image_path(&Path::root(), &[b'a'; 120]) == Err(ImagePathFault::TooLong));
-    assert!(rt; image_path(&path, &[b'a'; 116]) == Err(ImagePathFault::TooLong));
-    assert!(rt; image_path(&path, &[b'a'; 115]).is_ok());
+    assert!(rt; image_path(&short, &[b'a'; 116]) == Err(ImagePathFault::TooLong));
+    assert!(rt; image_path(&short, &[b'a'; 115]).is_ok());
 }

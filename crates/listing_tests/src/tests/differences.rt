@@ -1,0 +1,236 @@
+//! Pairs of listings written by hand, with their differences and the script from one to the other; and streams and a
+//! sink that fail.
+
+use super::support::{NEVER, long_listing, sink_of, stream_of, vec_of};
+use dump_diff::{
+    AdditionTaker, CompareFault, Differences, compare, write_differences, write_removals,
+};
+use dump_streams::{DrainFault, StreamFault, TakerFault, drain};
+use script_lines::{MemSink, SinkFault};
+use std::alloc::Global;
+use std::process::Abort;
+
+/// How many bytes a source gives at a time.
+const PIECE: usize = 10;
+
+/// Folders, files and attributes.
+static FIRST: &[u8] =
+    b"make /a\nset /a k 01\nset /a l 02\nwrite /a/b 0 61\nwrite /c 0 6263\nmake /d\nwrite /d/e 0 -\n";
+
+/// The differences of two listings.
+fn found_in(rt: &impl Abort, alloc: Global, first: &[u8], second: &[u8]) -> Differences {
+    let mut first = stream_of(rt, alloc, first, PIECE, NEVER);
+    let mut second = stream_of(rt, alloc, second, PIECE, NEVER);
+    compare(alloc, &mut first, &mut second)
+        .ok()
+        .expect(rt, "two listings")
+}
+
+/// Whether the differences are told by these lines.
+fn are_told(rt: &impl Abort, alloc: Global, found: &Differences, lines: &[u8]) -> bool {
+    let mut sink = sink_of(rt, alloc, NEVER);
+    let is_told = write_differences(found, &mut sink).is_ok();
+    is_told & (sink.written() == lines) & (found.is_empty() == lines.is_empty())
+}
+
+/// A sink to which the removals are written.
+fn removed(rt: &impl Abort, alloc: Global, found: &Differences) -> MemSink {
+    let mut sink = sink_of(rt, alloc, NEVER);
+    write_removals(found, &mut sink).ok().expect(rt, "a sink");
+    sink
+}
+
+/// Whether this is the script that leads to the second listing.
+fn is_script(
+    rt: &impl Abort,
+    alloc: Global,
+    found: Differences,
+    second: &[u8],
+    script: &[u8],
+) -> bool {
+    let sink = removed(rt, alloc, &found);
+    let mut taker = AdditionTaker::new(found, sink);
+    let drained = drain(&mut stream_of(rt, alloc, second, PIECE, NEVER), &mut taker);
+    drained.is_ok() & (taker.into_sink().written() == script)
+}
+
+/// Whether the listings differ as these lines say, and this script leads from the first to the second.
+fn differ_so(
+    rt: &impl Abort,
+    alloc: Global,
+    first: &[u8],
+    second: &[u8],
+    lines: &[u8],
+    script: &[u8],
+) -> bool {
+    let found = found_in(rt, alloc, first, second);
+    are_told(rt, alloc, &found, lines) && is_script(rt, alloc, found, second, script)
+}
+
+/// Rows parted by `#`: two listings, the lines that tell their differences, and the script from one to the other.
+const PAIRS: &str = "make /a\nwrite /a/b 0 61\nmake /c\n|\
+    make /c\n|\
+    D /a\nD /a/b\n|\
+    prune /a\n#\
+    make /c\n|\
+    make /a\nset /a k 01\nwrite /a/b 0 61\nmake /c\n|\
+    A /a\nA /a/b\n|\
+    make /a\nset /a k 01\nwrite /a/b 0 61\n#\
+    make /a\nwrite /a-b 0 61\n|\
+    make /a\nwrite /a/b 0 61\n|\
+    A /a/b\nD /a-b\n|\
+    prune /a-b\nwrite /a/b 0 61\n";
+
+/// Such rows, in which a path has another kind.
+const KINDS: &str = "make /a\nset /a k 01\nmake /a/b\nwrite /a/b/c 0 61\n|\
+    write /a 0 62\nset /a k 01\n|\
+    M /a\nD /a/b\nD /a/b/c\n|\
+    prune /a\nwrite /a 0 62\nset /a k 01\n#\
+    write /a 0 62\nset /a k 01\n|\
+    make /a\nset /a k 01\nwrite /a/c 0 61\n|\
+    M /a\nA /a/c\n|\
+    prune /a\nmake /a\nset /a k 01\nwrite /a/c 0 61\n";
+
+/// Such rows, in which attributes differ.
+const ATTRIBUTES: &str = "make /a\nset /a k 01\nset /a l 02\nset /a m 03\n|\
+    make /a\nset /a k 01\nset /a l 04\nset /a n 05\n|\
+    M /a\n|\
+    unset /a l\nunset /a m\nset /a l 04\nset /a n 05\n#\
+    write /a 0 61\nset /a k 01\nset /a l 01\n|\
+    write /a 0 62\nset /a k 02\nset /a l 01\n|\
+    M /a\n|\
+    cut /a 0\nunset /a k\nwrite /a 0 62\nset /a k 02\n";
+
+/// The fields of a row, and no text for each that it does not have.
+fn fields(row: &str) -> [&str; 4] {
+    let mut fields = [""; 4];
+    for (at, field) in row.split('|').enumerate() {
+        if at < 4 {
+            fields[at] = field;
+        }
+    }
+    fields
+}
+
+/// Looks whether two listings differ so as a row says.
+fn expect_row(rt: &impl Abort, alloc: Global, row: &str) {
+    let [first, second, lines, script] = fields(row);
+    let is_so = differ_so(
+        rt,
+        alloc,
+        first.as_bytes(),
+        second.as_bytes(),
+        lines.as_bytes(),
+        script.as_bytes(),
+    );
+    assert!(rt; is_so, "{row}");
+}
+
+/// Looks whether the listings of each row differ so.
+fn expect_rows(rt: &impl Abort, alloc: Global, rows: &str) {
+    for row in rows.split('#') {
+        expect_row(rt, alloc, row);
+    }
+}
+
+#[test]
+fn equal_trees_have_no_difference(rt: HostRuntime) {
+    assert!(rt; differ_so(&rt, rt.alloc(), FIRST, FIRST, b"", b""));
+    assert!(rt; differ_so(&rt, rt.alloc(), b"", b"", b"", b""));
+}
+
+#[test]
+fn entries_are_removed_and_added(rt: HostRuntime) {
+    expect_rows(&rt, rt.alloc(), PAIRS);
+}
+
+#[test]
+fn a_kind_changes(rt: HostRuntime) {
+    expect_rows(&rt, rt.alloc(), KINDS);
+}
+
+#[test]
+fn attributes_differ(rt: HostRuntime) {
+    expect_rows(&rt, rt.alloc(), ATTRIBUTES);
+}
+
+/// Whether long files with these bytes behind 2,048 are told to differ, and the script cuts and writes.
+fn long_files_differ(rt: &impl Abort, alloc: Global, first: &[u8], second: &[u8]) -> bool {
+    let first = long_listing(rt, alloc, first);
+    let second = long_listing(rt, alloc, second);
+    let mut script = vec_of(rt, alloc, b"cut /f 0\n");
+    script
+        .extend_from_slice(second.as_slice())
+        .expect(rt, "memory");
+    differ_so(
+        rt,
+        alloc,
+        first.as_slice(),
+        second.as_slice(),
+        b"M /f\n",
+        script.as_slice(),
+    )
+}
+
+/// What stands in two long files behind 2,048 bytes: rows parted by `#`.
+const ENDS: &str = "616263|616264#616263|6162#61|6162#61|#|61";
+
+#[test]
+fn long_files_differ_in_their_second_piece(rt: HostRuntime) {
+    for row in ENDS.split('#') {
+        let (first, second) = row.split_once('|').expect(&rt, "two fields");
+        assert!(rt;
+            long_files_differ(&rt, rt.alloc(), first.as_bytes(), second.as_bytes()),
+            "{row}"
+        );
+    }
+}
+
+/// How the comparison of two listings ends whose sources fail at these takes.
+fn fault_of(
+    rt: &impl Abort,
+    alloc: Global,
+    first: u64,
+    other: &[u8],
+    second: u64,
+) -> Option<CompareFault> {
+    let mut one = stream_of(rt, alloc, FIRST, PIECE, first);
+    let mut other = stream_of(rt, alloc, other, PIECE, second);
+    compare(alloc, &mut one, &mut other).err()
+}
+
+#[test]
+fn a_stream_fails_midway(rt: HostRuntime) {
+    let first = fault_of(&rt, rt.alloc(), 4, FIRST, NEVER);
+    assert!(rt; first == Some(CompareFault::First(StreamFault::Unreadable)));
+    let second = fault_of(&rt, rt.alloc(), NEVER, FIRST, 4);
+    assert!(rt; second == Some(CompareFault::Second(StreamFault::Unreadable)));
+}
+
+#[test]
+fn what_is_no_dump_is_not_compared(rt: HostRuntime) {
+    let fault = fault_of(&rt, rt.alloc(), NEVER, b"make /a\nremove /a\n", NEVER);
+    assert!(rt; fault == Some(CompareFault::Second(StreamFault::NoDump)));
+}
+
+/// Whether the differences are not told, nor removals written, where the second put fails.
+fn fail_to_be_written(rt: &impl Abort, alloc: Global, found: &Differences) -> bool {
+    let told = write_differences(found, &mut sink_of(rt, alloc, 1));
+    let removed = write_removals(found, &mut sink_of(rt, alloc, 1));
+    (told == Err(SinkFault)) & (removed == Err(SinkFault))
+}
+
+/// How additions end where the first put fails.
+fn additions_end(rt: &impl Abort, alloc: Global, found: Differences) -> Result<(), DrainFault> {
+    let mut taker = AdditionTaker::new(found, sink_of(rt, alloc, 0));
+    let mut stream = stream_of(rt, alloc, b"make /z\n", PIECE, NEVER);
+    drain(&mut stream, &mut taker)
+}
+
+#[test]
+fn a_sink_fails(rt: HostRuntime) {
+    let found = found_in(&rt, rt.alloc(), FIRST, b"make /z\n");
+    assert!(rt; fail_to_be_written(&rt, rt.alloc(), &found));
+    let ended = additions_end(&rt, rt.alloc(), found);
+    assert!(rt; ended == Err(DrainFault::Taker(TakerFault::Failed)));
+}
