@@ -1,13 +1,14 @@
--- The header of an image as it is read.
-use Rattle.std.proofs.Common.{◌≡◌, ℕ, ◌≤◌, List, length, take, drop, slice_index, true, false, not, ◌==◌, ◌&&◌, Bool}
-use Rattle.std.proofs.Common.{refl, sym, ap, ◌∙◌, arith}
+-- The header of an image as it is read, and its slots.
+use Rattle.std.proofs.Common.{◌≡◌, ℕ, ◌+◌, ◌-◌, ◌*◌, ◌/◌, ◌≤◌, List, length, take, drop, ◌++◌, slice_index}
+use Rattle.std.proofs.Common.{true, false, not, ◌==◌, ◌&&◌, if◌then◌else◌, Bool, refl, sym, ap, ◌∙◌, arith}
 use Rattle.std.specs.Int.{w32, from_be_bytes}
 use Rattle.std.proofs.lemmas.Nat.{from_be_bytes-to_be_bytes_4}
-use Rattle.std.proofs.lemmas.List.{drop-set-add, take-set-le}
+use Rattle.std.proofs.lemmas.List.{drop-set-add, take-set-le, take_at, take-take, drop-take, drop-drop}
 use Rattle.store_model.specs.Lists.{zero_filled}
-use Rattle.store_model.specs.Parameters.{Parameters, IsParameters, mark_at, image_len}
-use Rattle.store_model.specs.Images.{header, is_flag_set, is_marked, viewed_header}
+use Rattle.store_model.specs.Parameters.{Parameters, IsParameters, mark_at, shadow_at, table_at, image_len}
+use Rattle.store_model.specs.Images.{header, bytes_at, is_flag_set, is_marked, recovered_slot, viewed_header}
 use Rattle.gate_journal.specs.Headers.{as_read, IsImageWith}
+use Rattle.gate_journal.specs.ViewState.{HasRecovered}
 use Rattle.gate_journal.proofs.Areas.{marks_end, shadow_end, table_end}
 
 -- the version's byte does not lie in the number of slots
@@ -67,3 +68,33 @@ module _ (image block : List ℕ) (read : block ≡ take 4096 image) (p : Parame
 -- a disk of an image's length has a header at least, a flag and a mark behind the last slot's
 pub header_end : (slots : ℕ) → 4096 ≤ image_len slots
 header_end slots = omega (arith, table_end slots, shadow_end slots, marks_end slots)
+
+-- with the flag clear the table's slots are what recovery leaves, and lie one behind the other
+pub HasRecovered-table : (slots : ℕ) (image buffer : List ℕ) (first : ℕ) → is_flag_set image ≡ false
+    → buffer ≡ take (length buffer) (drop (table_at slots first) image)
+    → HasRecovered slots image first buffer (length buffer / 4096)
+unfolding recovered_slot table_at
+HasRecovered-table slots image buffer first flag read i below =
+    let long = length buffer in
+    let at = table_at slots first in
+    let there : table_at slots (first + i) ≡ at + 4096 * i = omega arith in
+    let left = long - 4096 * i in
+    let parts : long ≡ 4096 * i + left = omega (arith, below) in
+    let room : 4096 ≤ left = omega (arith, below) in
+    ap (λ (b : Bool). bytes_at image
+    (if b && is_marked image (first + i) then shadow_at slots (first + i) else table_at slots (first + i)) 4096) flag
+    ∙ ap (λ (n : ℕ). bytes_at image n 4096) there
+    ∙ ap (take 4096) (sym (drop-drop (4096 * i) at image))
+    ∙ sym (take-take 4096 left (drop (4096 * i) (drop at image)) room)
+    ∙ ap (take 4096) (sym (drop-take (4096 * i) left (drop at image)))
+    ∙ ap (λ (n : ℕ). bytes_at (take n (drop at image)) (4096 * i) 4096) (sym parts)
+    ∙ ap (λ (l : List ℕ). bytes_at l (4096 * i) 4096) (sym read)
+
+-- and where the buffer has what recovery leaves in one, that is the first
+pub HasRecovered-one : (slots : ℕ) (image bytes rest : List ℕ) (first : ℕ) → length bytes ≡ 4096
+    → recovered_slot slots image first ≡ bytes → HasRecovered slots image first (bytes ++ rest) 1
+HasRecovered-one slots image bytes rest first long is i below =
+    let here : first + i ≡ first = omega (arith, below) in
+    let from : 0 ≡ 4096 * i = omega (arith, below) in
+    ap (recovered_slot slots image) here ∙ is ∙ sym (take_at bytes rest 4096 long)
+    ∙ ap (λ (n : ℕ). bytes_at (bytes ++ rest) n 4096) from

@@ -1,5 +1,5 @@
 -- What the view on the slots means, and what its calls keep of the disk below.
-use Rattle.std.specs.Prelude.{◌≡◌, ℕ, zero, suc, ◌+◌, ◌<◌, ◌≤◌, List, map, length, drop, true, ◌&&◌, Bool}
+use Rattle.std.specs.Prelude.{◌≡◌, ℕ, zero, suc, ◌+◌, ◌*◌, ◌<◌, ◌≤◌, List, map, length, drop, true, ◌&&◌, Bool}
 use Rattle.std.specs.Prelude.{if◌then◌else◌}
 use Rattle.std.proofs.Common.{refl, ap, ◌∙◌, sym, arith, inl, inr, length-take, length-drop}
 use Rattle.std.proofs.lemmas.Bool.{cases_Bool}
@@ -21,6 +21,11 @@ viewed slots disk = record {
   faults = disk.faults;
   takes_none = true;
 }
+
+-- the first blocks of the buffer are what recovery leaves in so many slots, from this one on
+abbrev pub HasRecovered : ℕ → List ℕ → ℕ → List ℕ → ℕ → Type 0
+HasRecovered slots image first buffer count = (i : ℕ) → i < count
+    → recovered_slot slots image (first + i) ≡ bytes_at buffer (block_len * i) block_len
 
 length-map-numbers : (f : ℕ → List ℕ) (first count : ℕ) → length (map f (numbers_from first count)) ≡ count
 unfolding numbers_from

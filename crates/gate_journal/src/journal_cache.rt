@@ -35,7 +35,7 @@ impl JournalCache {
     }
 
     /// Whether the commit flag is set: it is read once.
-    fn is_flag_set<D: Disk>(&mut self, disk: &mut D) -> Result<bool, DiskFault>
+    pub(crate) fn is_flag_set<D: Disk>(&mut self, disk: &mut D) -> Result<bool, DiskFault>
         requires size { 4097 ≤ (D.state disk.old).size }
         requires cache { IsJournalCacheOf (D.state disk.old) self.old }
         ensures journal { ReadsJournal (D.state disk.old) (D.state disk.new) self.new result }

@@ -14,27 +14,31 @@ ghost use Rattle.gate_journal.specs.Recovery.{OutsideRedone, IsRedone, marked_co
 
 use disk_model::Disk;
 use store_base::{
-    DiskFault, ZEROS, gate_at, mark_at, shadow_at, table_at, version_at, version_byte,
+    DiskFault, READ_LEN, gate_at, mark_at, shadow_at, table_at, version_at, version_byte,
 };
-use store_model::{BLOCK, Slot, Version};
+use store_model::{BLOCK, Version};
 
-/// Whether each byte is zero, of at most those of a block.
+/// As many zeros as are read at once.
+static ZEROS: [u8; READ_LEN] = [0; READ_LEN];
+
+/// Whether each byte is zero, of at most as many as are read at once.
 fn is_zero(bytes: &[u8]) -> bool
-    requires { length bytes.now ≤ block_len }
+    requires { length bytes.now ≤ READ_LEN }
     ensures { IsTrue result ↔ IsZeroAt 0 (length bytes.now) bytes.now }
 {
     // Compared as a whole, which takes many bytes at once.
     bytes == &ZEROS[..bytes.len()]
 }
 
-/// Whether the block at this offset is zero. It is read into the buffer.
-fn is_block_zero<D: Disk>(disk: &mut D, at: u64, buffer: &mut Slot) -> Result<bool, DiskFault>
-    requires { at + block_len ≤ (D.state disk.old).size }
+/// Whether as many bytes at this offset are zero as the buffer has. They are read into it.
+fn is_range_zero<D: Disk>(disk: &mut D, at: u64, buffer: &mut [u8]) -> Result<bool, DiskFault>
+    requires few { length buffer.old ≤ READ_LEN }
+    requires within { at + length buffer.old ≤ (D.state disk.old).size }
     ensures call { IsCall (D.state disk.old) (D.state disk.new) result }
     ensures reads { IsObservable (D.state disk.old)
         → ReadsOnly (D.state disk.old) (D.state disk.new) }
     ensures value { IsObservable (D.state disk.old)
-        → IfOk result (λ zero. IsTrue zero ↔ IsZeroAt at block_len (D.state disk.old).bytes) }
+        → IfOk result (λ zero. IsTrue zero ↔ IsZeroAt at (length buffer.old) (D.state disk.old).bytes) }
 {
     disk.read_at(at, buffer)?;
     Ok(is_zero(buffer))
@@ -140,9 +144,12 @@ pub fn is_journal_zero<D: Disk>(disk: &mut D, slots: u32) -> Result<bool, DiskFa
     ensures value { IsObservable (D.state disk.old)
         → IfOk result (λ zero. IsTrue zero ↔ HasEmptyJournal slots (D.state disk.old).bytes) }
 {
-    let mut buffer = [0; BLOCK];
-    for block in 1..table_at(slots, 0) / BLOCK as u64 {
-        if !is_block_zero(disk, block * BLOCK as u64, &mut buffer)? {
+    let mut buffer = [0; READ_LEN];
+    let len = table_at(slots, 0) - gate_at();
+    for part in 0..len.div_ceil(READ_LEN as u64) {
+        let start = part * READ_LEN as u64;
+        let bytes = &mut buffer[..(len - start).min(READ_LEN as u64) as usize];
+        if !is_range_zero(disk, gate_at() + start, bytes)? {
             return Ok(false);
         }
     }

@@ -1,16 +1,16 @@
 //! The slots of the image that a disk recovers to, read without recovering it.
-ghost use Rattle.std.specs.Prelude.{◌≡◌, ◌+◌, ◌≤◌, OnOk, IfOk};
+ghost use Rattle.std.specs.Prelude.{◌≡◌, ◌+◌, ◌-◌, ◌*◌, ◌≤◌, length, OnOk, IfOk};
 ghost use Rattle.store_model.specs.Parameters.{IsParameters, image_len, block_len};
 ghost use Rattle.store_model.specs.Images.{bytes_at, recovered_slot};
 ghost use Rattle.disk_model.specs.DiskState.{DiskState, IsObservable};
 ghost use Rattle.gate_journal.specs.JournalCaches.{IsJournalCacheOf, HasSlot, ReadsJournal};
-ghost use Rattle.gate_journal.specs.ViewState.{viewed, viewed_count, viewed_whole, KeepsView, KeepsView-refl};
-ghost use Rattle.gate_journal.specs.ViewState.{KeepsView-trans};
+ghost use Rattle.gate_journal.specs.ViewState.{HasRecovered, viewed, viewed_count, viewed_whole};
+ghost use Rattle.gate_journal.specs.ViewState.{KeepsView, KeepsView-refl, KeepsView-trans};
 
 use crate::journal_cache::JournalCache;
 use disk_model::Disk;
 use store_base::{DiskFault, Fault, Params, ReadSlots, shadow_at, table_at};
-use store_model::Slot;
+use store_model::{BLOCK, Slot};
 
 /// Where the bytes lie that recovery leaves in this slot.
 fn recovered_place<D: Disk>(
@@ -48,6 +48,33 @@ pub fn read_recovered<D: Disk>(
 {
     let place = recovered_place(disk, cache, slots, slot)?;
     disk.read_at(place, into)
+}
+
+/// Reads what recovery leaves in slots one behind the other, from this one on, and says in how many: as many as the
+/// buffer has room for, or one where the commit flag is set, since then each may lie in the journal or in the table.
+fn read_some<D: Disk>(
+    disk: &mut D,
+    cache: &mut JournalCache,
+    slots: u32,
+    slot: u32,
+    into: &mut [u8],
+) -> Result<u32, DiskFault>
+    requires slot { HasSlot slots slot (D.state disk.old) cache.old }
+    requires room { block_len ≤ length into.old }
+    requires within { length into.old ≤ block_len * (slots - slot) }
+    ensures journal { ReadsJournal (D.state disk.old) (D.state disk.new) cache.new result }
+    ensures some { IfOk result (λ count. 1 ≤ count) }
+    ensures room { IfOk result (λ count. block_len * count ≤ length into.new) }
+    ensures slots { IsObservable (D.state disk.old)
+        → IfOk result (HasRecovered slots (D.state disk.old).bytes slot into.new) }
+{
+    if cache.is_flag_set(disk)? {
+        let place = recovered_place(disk, cache, slots, slot)?;
+        disk.read_at(place, &mut into[..BLOCK])?;
+        return Ok(1);
+    }
+    disk.read_at(table_at(slots, slot), into)?;
+    Ok((into.len() / BLOCK) as u32)
 }
 
 /// The slots of the image that a disk recovers to, read through the journal; the disk is not written.
@@ -118,6 +145,16 @@ impl<D: Disk> ReadSlots for View<D> {
 
     fn get(&mut self, at: u32, into: &mut Slot) -> Result<(), Fault> {
         Ok(read_recovered(
+            &mut self.disk,
+            &mut self.cache,
+            self.params.slots(),
+            at,
+            into,
+        )?)
+    }
+
+    fn get_some(&mut self, at: u32, into: &mut [u8]) -> Result<u32, Fault> {
+        Ok(read_some(
             &mut self.disk,
             &mut self.cache,
             self.params.slots(),

@@ -1,7 +1,8 @@
 -- What slots mean at one moment, and what a call on them does.
-use Rattle.std.specs.Prelude.{◌≡◌, ⊤, ℕ, Bool, IsTrue, List, length, Some, Result, OnOk, OnErr, IfErr, slice_get}
-use Rattle.std.specs.Prelude.{slice_set}
+use Rattle.std.specs.Prelude.{◌≡◌, ⊤, ℕ, ◌+◌, ◌*◌, ◌<◌, ◌≤◌, Bool, IsTrue, List, length, Some, Result}
+use Rattle.std.specs.Prelude.{OnOk, OnErr, IfOk, IfErr, slice_get, slice_set}
 use Rattle.store_model.specs.Parameters.{block_len}
+use Rattle.store_model.specs.Images.{bytes_at}
 use Rattle.store_base.specs.declared.store_fault.Fault.{Fault}
 use Rattle.store_base.specs.declared.store_fault.Fault.TheVariants.{Disk, NoMemory}
 use Rattle.store_base.specs.Faults.{disk_faults_after}
@@ -66,6 +67,23 @@ pub record SetsSlot {T : Type 0} (old new : SlotsState) (at : ℕ) (slot : List 
 pub record IsGet {T : Type 0} (old new : SlotsState) (at : ℕ) (buffer : List ℕ) (result : Result T Fault) : Type 0 where
   pub calls : AreSlotCalls old new result
   pub observed : IsObservable old → GetsSlot old new at buffer result
+
+-- the slots from a place on that fill so many first blocks of the buffer
+abbrev pub HoldsSlots : List (List ℕ) → ℕ → List ℕ → ℕ → Type 0
+HoldsSlots slots at buffer count =
+    (i : ℕ) → i < count → slice_get slots (at + i) ≡ Some (bytes_at buffer (block_len * i) block_len)
+
+-- what a read of some slots into a buffer does to slots that tell their bytes
+pub record GetsSome (old new : SlotsState) (at : ℕ) (buffer : List ℕ) (result : Result ℕ Fault) : Type 0 where
+  pub got : IfOk result (HoldsSlots old.slots at buffer)
+  pub slots : new.slots ≡ old.slots
+
+-- a read of slots, from one at this place on, into a buffer: how many is told, and there is room for them
+pub record IsGetSome (old new : SlotsState) (at : ℕ) (buffer : List ℕ) (result : Result ℕ Fault) : Type 0 where
+  pub calls : AreSlotCalls old new result
+  pub some : IfOk result (λ count. 1 ≤ count)
+  pub room : IfOk result (λ count. block_len * count ≤ length buffer)
+  pub observed : IsObservable old → GetsSome old new at buffer result
 
 -- a write of these bytes to the slot at this place
 pub record IsSet {T : Type 0} (old new : SlotsState) (at : ℕ) (slot : List ℕ) (result : Result T Fault) : Type 0 where

@@ -29,7 +29,7 @@ pub use key::Key;
 pub use label::{Label, Lead};
 pub use order::byte_order;
 pub use params::{BadParams, Params};
-pub use slots::{ReadSlots, Slots};
+pub use slots::{READ_LEN, ReadSlots, Slots};
 pub use store_fault::Fault;
 pub use store_model::{BLOCK, DrawKind, Refusal, Slot, Version};
 pub use value::{Bytes, Value};

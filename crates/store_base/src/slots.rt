@@ -1,10 +1,15 @@
 //! The slots that the calls on the table work on, wherever their bytes lie.
 
-ghost use Rattle.std.specs.Prelude.{◌<◌};
-ghost use Rattle.store_base.specs.SlotsState.{SlotsState, IsObservable, IsCounted, AreWhole, IsGet, IsSet};
+ghost use Rattle.std.specs.Prelude.{◌<◌, ◌≤◌, ◌*◌, ◌-◌, length};
+ghost use Rattle.store_model.specs.Parameters.{block_len};
+ghost use Rattle.store_base.specs.SlotsState.{SlotsState, IsObservable, IsCounted, AreWhole, IsGet, IsGetSome, IsSet};
 
 use crate::store_fault::Fault;
-use store_model::Slot;
+use store_model::{BLOCK, Slot};
+
+/// How many bytes are read by one call where many blocks are read one behind the other: four blocks. A longer read
+/// gains nothing.
+pub const READ_LEN: usize = 4 * BLOCK;
 
 /// Slots that can be read, numbered from 0.
 ///
@@ -24,6 +29,21 @@ pub trait ReadSlots {
         requires { at < (state self.old).count }
         ensures call { IsGet (state self.old) (state self.new) at into.new result }
         ensures follows { follows self.old self.new };
+
+    /// Reads slots one behind the other, from slot `at` on, into the first blocks of the buffer, and says how many: at
+    /// least one, and at most as many as the buffer has room for. The buffer has room for one, and for none behind the
+    /// last slot. After a fault it may hold anything, and the slots are as they were.
+    fn get_some(&mut self, at: u32, into: &mut [u8]) -> Result<u32, Fault>
+        requires room { block_len ≤ length into.old }
+        requires within { length into.old ≤ block_len * ((state self.old).count - at) }
+        ensures call { IsGetSome (state self.old) (state self.new) at into.new result }
+        ensures follows { follows self.old self.new }
+    {
+        let mut slot = [0; BLOCK];
+        self.get(at, &mut slot)?;
+        into[..BLOCK].copy_from_slice(&slot);
+        Ok(1)
+    }
 
     /// Slots that tell their bytes are as many as `count` says.
     ghost counted: { (slots : Self) → IsObservable (state slots) → IsCounted (state slots) };

@@ -101,12 +101,12 @@ pub record Visits (d : Draw) (height : ℕ) (round : Round) (old mid new : Slots
   pub below : at < round.count
   pub get : IsGet {T = Unit {0}} mid new at bytes (Ok tt)
 
-pub visits_at : (d : Draw) (height : ℕ) (round : Round) (old mid new : SlotsState) (before steps : ℕ) (reach : List ℕ)
-    (place run used at : ℕ) (bytes : List ℕ) → IsLawful d → round.count ≡ d.slots → old.count ≡ d.slots
-    → Checking d height round old mid before steps reach place run used → place < round.count → at ≡ slot_at round place
-    → at < round.count → IsGet {T = Unit {0}} mid new at bytes (Ok tt)
+pub visits_at : {T : Type 0} (d : Draw) (height : ℕ) (round : Round) (old mid new : SlotsState) (before steps : ℕ)
+    (reach : List ℕ) (place run used at : ℕ) (bytes : List ℕ) (value : T) → IsLawful d → round.count ≡ d.slots
+    → old.count ≡ d.slots → Checking d height round old mid before steps reach place run used → place < round.count
+    → at ≡ slot_at round place → at < round.count → IsGet {T = T} mid new at bytes (Ok value)
     → Visits d height round old mid new before steps reach place run used at bytes
-visits_at d height round old mid new before steps reach place run used at bytes law slots count checking
+visits_at d height round old mid new before steps reach place run used at bytes value law slots count checking
     within at_is below get =
     record {
       law = law;
@@ -117,7 +117,13 @@ visits_at d height round old mid new before steps reach place run used at bytes 
       within = within;
       at_is = at_is;
       below = below;
-      get = get;
+      get = record {
+        calls = AreSlotCalls-value mid new value tt get.calls;
+        observed = λ observable. record {
+          got = (get.observed observable).got;
+          slots = (get.observed observable).slots;
+        };
+      };
     }
 
 -- so it was read with those before it

@@ -1,3 +1,4 @@
 pub mod Contents
+pub mod Windows
 pub mod Rounds
 pub mod OrderCalls

@@ -6,15 +6,15 @@ ghost use Rattle.table_order.specs.OrderCalls.{ChecksOrder};
 ghost use Rattle.table_order.specs.Rounds.{ChecksRound};
 
 use crate::bar::find_bar;
-use crate::content::{Content, content_of};
+use crate::content::Content;
 use crate::round::{Round, way_between};
 use crate::way::{Standing, passed_from};
+use crate::window::Window;
 use label_index::{Entry, sort_entries};
 use ordered_table::{Steps, next_slot};
 use seeded_draw::{Draw, Front};
 use std::sync::ledger::Ledger;
 use store_base::{Fault, MAX_SLOTS, ReadSlots};
-use store_model::BLOCK;
 
 /// As `check_order`, on a round behind a slot that no page passes; the entries are in no order.
 fn check_round<S: ReadSlots, W: Draw, L: Ledger>(
@@ -36,7 +36,7 @@ fn check_round<S: ReadSlots, W: Draw, L: Ledger>(
         (λ used. AreNoted (W.digests draw.now) (S.state slots.old) (take used entries.new))) }
     ensures follows { S.follows slots.old slots.new }
 {
-    let mut there = [0; BLOCK];
+    let mut window = Window::new();
     // Of the page at each place, from which place on the labels up to its own are known to be smaller.
     let mut reach = [0; MAX_SLOTS as usize];
     // The place behind the last free slot.
@@ -46,8 +46,7 @@ fn check_round<S: ReadSlots, W: Draw, L: Ledger>(
     for place in 0..round.count {
         let at = round.slot(place);
         steps.tick();
-        slots.get(at, &mut there)?;
-        let label = match content_of(&there, height) {
+        let label = match window.content(slots, round.count, at, height)? {
             Content::Free => {
                 run = place + 1;
                 continue;

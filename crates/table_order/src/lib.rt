@@ -14,5 +14,6 @@ mod check;
 mod content;
 mod round;
 mod way;
+mod window;
 
 pub use check::check_order;

@@ -170,7 +170,7 @@ fn a_store_stops_at_a_fault_behind_a_write(rt: HostRuntime) {
 }
 
 /// How many calls of the disk it takes to open the image of one directory. Each of the two passes reads its slot.
-const OPENING: u64 = 11;
+const OPENING: u64 = 9;
 
 /// Whether the store answers a listing with the directory `/a`.
 fn lists_a(rt: &impl Abort, store: &mut FailingStore) -> bool {

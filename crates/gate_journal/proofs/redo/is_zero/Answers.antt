@@ -9,7 +9,7 @@ use Rattle.gate_journal.proofs.redo.is_zero.Goals as goal
 pub returns : goal.returns
 returns c =
     let bytes = c.args.bytes.now in
-    let front : take (length bytes) (zeros 4096) ≡ zeros (length bytes) =
-    take-replicate (length bytes) 4096 0 c.requires in
+    let front : take (length bytes) (zeros 16384) ≡ zeros (length bytes) =
+    take-replicate (length bytes) 16384 0 c.requires in
     let tells = slice_eq-Decides Decides-eqb _ _ _ c.eq.ensures in
     (λ same. zeros_zero bytes (tells.0 same ∙ front), λ zero. tells.1 (zero_zeros bytes zero ∙ sym front))

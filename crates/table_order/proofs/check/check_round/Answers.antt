@@ -3,8 +3,10 @@ use Rattle.std.proofs.lemmas.Result.{err_from_is_err_and}
 use Rattle.store_model.specs.Parameters.{slots_limit}
 use Rattle.label_index.specs.Indexes.{entry_of}
 use Rattle.table_order.specs.declared.way.Standing.{Standing}
+use Rattle.table_order.specs.Windows.{held_slot}
 use Rattle.table_order.proofs.Checking.{Stands, visits_at, checking_starts, checking_free, checking_page}
 use Rattle.table_order.proofs.Ending.{checks_other, checks_far, checks_greater, checks_fails, checks_all}
+use Rattle.table_order.proofs.Windowing.{window_kept}
 use Rattle.table_order.proofs.Noting.{noting_starts, noting_free, noting_page, noting_ends}
 use Rattle.table_order.proofs.check.check_round.Goals as goal
 
@@ -12,6 +14,10 @@ pub loop-place-init : goal.loop-place-init
 loop-place-init g c = (
   checking_starts (g.W.Draw.drawn c.args.draw.now) c.args.height c.args.round.now _ c.args.steps.now slots_limit,
   g.met.S.ReadSlots.follows_refl c.args.slots.now,
+  record {
+    room = omega (arith, c.new-window.ensures);
+    held = λ observable i below. absurd (omega (arith, below, c.new-window.ensures));
+  },
   noting_starts (g.W.Draw.digests c.args.draw.now)
       c.args.round.now (g.S.ReadSlots.state c.args.slots.now) c.args.entries.now,
 )
@@ -19,31 +25,34 @@ loop-place-init g c = (
 pub loop-place-preserved-in-Free : goal.loop-place-preserved-in-Free
 loop-place-preserved-in-Free g c = (
   checking_free _ _ _ _ _ _ _ _ _ _ _ _ _ _ _
-      (visits_at _ _ c.args.round.now _ _ _ _ _ _ _ _ _ _ c.get.new.into (g.met.W.Draw.lawful c.args.draw.now)
+      (visits_at _ _ c.args.round.now _ _ _ _ _ _ _ _ _ _ _ _ (g.met.W.Draw.lawful c.args.draw.now)
       c.requires.round c.requires.count c.loop-place.invariant.0 c.loop-place-test.true c.slot-at.ensures.value
-      c.slot-at.ensures.below c.in_ok-get.ensures.call) c.in-Free.ensures c.tick.ensures,
-  g.met.S.ReadSlots.follows_trans c.args.slots.now c.loop-place.slots c.get.new.self c.loop-place.invariant.1
-      c.in_ok-get.ensures.follows,
+      c.slot-at.ensures.below c.in_ok-content.ensures.call)
+      (rw c.in-Free.is at c.in_ok-content.ensures.tells) c.tick.ensures,
+  g.met.S.ReadSlots.follows_trans c.args.slots.now c.loop-place.slots c.content.new.slots c.loop-place.invariant.1
+      c.in_ok-content.ensures.follows,
+  c.in_ok-content.ensures.window,
   noting_free _ _ _ _ _ _ _ _ _ _ _ _ _ _
-      (visits_at _ _ c.args.round.now _ _ _ _ _ _ _ _ _ _ c.get.new.into (g.met.W.Draw.lawful c.args.draw.now)
+      (visits_at _ _ c.args.round.now _ _ _ _ _ _ _ _ _ _ _ _ (g.met.W.Draw.lawful c.args.draw.now)
       c.requires.round c.requires.count c.loop-place.invariant.0 c.loop-place-test.true c.slot-at.ensures.value
-      c.slot-at.ensures.below c.in_ok-get.ensures.call) c.loop-place.entries (g.W.Draw.digests c.args.draw.now)
-      c.loop-place.invariant.2 c.in-Free.ensures,
+      c.slot-at.ensures.below c.in_ok-content.ensures.call) c.loop-place.entries (g.W.Draw.digests c.args.draw.now)
+      c.loop-place.invariant.3 (rw c.in-Free.is at c.in_ok-content.ensures.tells),
 )
 
 pub returns-in-Other-clause-call : goal.returns-in-Other-clause-call
 returns-in-Other-clause-call g c = checks_other _ _ _ _ _ _ _ _ _ _ _ _ _ _ _
-    (visits_at _ _ c.args.round.now _ _ _ _ _ _ _ _ _ _ c.get.new.into (g.met.W.Draw.lawful c.args.draw.now)
+    (visits_at _ _ c.args.round.now _ _ _ _ _ _ _ _ _ _ _ _ (g.met.W.Draw.lawful c.args.draw.now)
     c.requires.round c.requires.count c.loop-place.invariant.0 c.loop-place-test.true c.slot-at.ensures.value
-    c.slot-at.ensures.below c.in_ok-get.ensures.call) c.in-Other.ensures c.tick.ensures
+    c.slot-at.ensures.below c.in_ok-content.ensures.call)
+    (rw c.in-Other.is at c.in_ok-content.ensures.tells) c.tick.ensures
 
 pub returns-then-place-run-clause-call : goal.returns-then-place-run-clause-call
 returns-then-place-run-clause-call g c =
     let stands : Stands (g.W.Draw.drawn c.args.draw.now)
-    c.args.height c.args.round.now c.get.new.into c.in-Held.label c.start_by.result
+    c.args.height c.args.round.now (held_slot c.content.new.self c.slot-at.result) c.in-Held.label c.start_by.result
     c.way_between-way.result c.slot-at.result =
     record {
-      held = c.in-Held.ensures;
+      held = rw c.in-Held.is at c.in_ok-content.ensures.tells;
       start_is = c.start_by.ensures;
       way_is = c.way_between-way.ensures.value;
       way_below = c.way_between-way.ensures.below;
@@ -54,9 +63,9 @@ returns-then-place-run-clause-call g c =
       way = c.way_between-way.result;
     } in
     checks_far _ _ _ _ _ _ _ _ _ _ _ _ _ _ _ _ page
-    (visits_at _ _ c.args.round.now _ _ _ _ _ _ _ _ _ _ c.get.new.into (g.met.W.Draw.lawful c.args.draw.now)
+    (visits_at _ _ c.args.round.now _ _ _ _ _ _ _ _ _ _ _ _ (g.met.W.Draw.lawful c.args.draw.now)
     c.requires.round c.requires.count c.loop-place.invariant.0 c.loop-place-test.true c.slot-at.ensures.value
-    c.slot-at.ensures.below c.in_ok-get.ensures.call) stands
+    c.slot-at.ensures.below c.in_ok-content.ensures.call) stands
     c.if-place-run.true (omega (arith, c.tick.ensures, c.tick-in-loop-place.ensures))
 
 pub returns-in_err-from-clause-call : goal.returns-in_err-from-clause-call
@@ -68,19 +77,19 @@ returns-in_err-from-clause-call g c =
       way = c.way_between-way.result;
     } in
     rw (p.1, p.2) (checks_fails _ _ _ _ _ _ _ _ _ _ _ _ _ _ _ _ _ page
-    c.in_err-from.field-0.0 (visits_at _ _ c.args.round.now _ _ _ _ _ _ _ _ _ _
-    c.get.new.into (g.met.W.Draw.lawful c.args.draw.now)
+    c.in_err-from.field-0.0
+    (visits_at _ _ c.args.round.now _ _ _ _ _ _ _ _ _ _ _ _ (g.met.W.Draw.lawful c.args.draw.now)
     c.requires.round c.requires.count c.loop-place.invariant.0 c.loop-place-test.true c.slot-at.ensures.value
-    c.slot-at.ensures.below c.in_ok-get.ensures.call) refl
+    c.slot-at.ensures.below c.in_ok-content.ensures.call) refl
     c.if-place-run.false (omega (arith, c.tick.ensures, c.tick-in-loop-place.ensures)) c.in_err-from.ensures.call)
 
 pub returns-in_default-clause-call : goal.returns-in_default-clause-call
 returns-in_default-clause-call g c =
     let stands : Stands (g.W.Draw.drawn c.args.draw.now)
-    c.args.height c.args.round.now c.get.new.into c.in-Held.label c.start_by.result
+    c.args.height c.args.round.now (held_slot c.content.new.self c.slot-at.result) c.in-Held.label c.start_by.result
     c.way_between-way.result c.slot-at.result =
     record {
-      held = c.in-Held.ensures;
+      held = rw c.in-Held.is at c.in_ok-content.ensures.tells;
       start_is = c.start_by.ensures;
       way_is = c.way_between-way.ensures.value;
       way_below = c.way_between-way.ensures.below;
@@ -93,18 +102,18 @@ returns-in_default-clause-call g c =
     let counts : c.tick-in-loop-place.new.self ≡ c.loop-place.steps + 2 =
     omega (arith, c.tick.ensures, c.tick-in-loop-place.ensures) in
     checks_greater _ _ _ _ _ _ _ _ _ _ _ _ _ _ _ _ _ _ page
-    (visits_at _ _ c.args.round.now _ _ _ _ _ _ _ _ _ _ c.get.new.into (g.met.W.Draw.lawful c.args.draw.now)
+    (visits_at _ _ c.args.round.now _ _ _ _ _ _ _ _ _ _ _ _ (g.met.W.Draw.lawful c.args.draw.now)
     c.requires.round c.requires.count c.loop-place.invariant.0 c.loop-place-test.true c.slot-at.ensures.value
-    c.slot-at.ensures.below c.in_ok-get.ensures.call) stands refl c.if-place-run.false counts
+    c.slot-at.ensures.below c.in_ok-content.ensures.call) stands refl c.if-place-run.false counts
     (rw c.in_default.is at c.in_ok-from.ensures.call)
 
 pub loop-place-preserved : goal.loop-place-preserved
 loop-place-preserved g c =
     let stands : Stands (g.W.Draw.drawn c.args.draw.now)
-    c.args.height c.args.round.now c.get.new.into c.in-Held.label c.start_by.result
+    c.args.height c.args.round.now (held_slot c.content.new.self c.slot-at.result) c.in-Held.label c.start_by.result
     c.way_between-way.result c.slot-at.result =
     record {
-      held = c.in-Held.ensures;
+      held = rw c.in-Held.is at c.in_ok-content.ensures.tells;
       start_is = c.start_by.ensures;
       way_is = c.way_between-way.ensures.value;
       way_below = c.way_between-way.ensures.below;
@@ -118,19 +127,25 @@ loop-place-preserved g c =
     omega (arith, c.tick.ensures, c.tick-in-loop-place.ensures) in
     let room : c.loop-place.place < length c.loop-place.reach =
     omega (arith, c.loop-place-test.true, c.requires.round, c.requires.most) in (
-      checking_page _ _ _ _ _ _ _ _ _ _ _ _ _ _ _ _ _ c.in-Some.from c.get.new.into page
-          (visits_at _ _ c.args.round.now _ _ _ _ _ _ _ _ _ _ c.get.new.into (g.met.W.Draw.lawful c.args.draw.now)
+      checking_page _ _ _ _ _ _ _ _ _ _ _ _ _ _ _ _ _ c.in-Some.from
+          (held_slot c.content.new.self c.slot-at.result) page
+          (visits_at _ _ c.args.round.now _ _ _ _ _ _ _ _ _ _ _ _ (g.met.W.Draw.lawful c.args.draw.now)
           c.requires.round c.requires.count c.loop-place.invariant.0 c.loop-place-test.true c.slot-at.ensures.value
-          c.slot-at.ensures.below c.in_ok-get.ensures.call) stands refl c.if-place-run.false room counts
+          c.slot-at.ensures.below c.in_ok-content.ensures.call) stands refl c.if-place-run.false room counts
           (rw c.in-Some.is at c.in_ok-from.ensures.call),
-      g.met.S.ReadSlots.follows_trans c.args.slots.now c.get.new.self c.passed_from.new.slots
-          (g.met.S.ReadSlots.follows_trans c.args.slots.now c.loop-place.slots c.get.new.self c.loop-place.invariant.1
-          c.in_ok-get.ensures.follows) c.in_ok-from.ensures.follows,
+      g.met.S.ReadSlots.follows_trans c.args.slots.now c.content.new.slots c.passed_from.new.slots
+          (g.met.S.ReadSlots.follows_trans c.args.slots.now c.loop-place.slots c.content.new.slots
+          c.loop-place.invariant.1
+          c.in_ok-content.ensures.follows) c.in_ok-from.ensures.follows,
+      window_kept (g.S.ReadSlots.state c.content.new.slots) (g.S.ReadSlots.state c.passed_from.new.slots)
+          c.content.new.self c.in_ok-from.ensures.call.calls.observable c.in_ok-from.ensures.call.reads
+          c.in_ok-content.ensures.window,
       noting_page _ _ _ _ _ _ _ _ _ _ _ _ _ _
-          (visits_at _ _ c.args.round.now _ _ _ _ _ _ _ _ _ _ c.get.new.into (g.met.W.Draw.lawful c.args.draw.now)
+          (visits_at _ _ c.args.round.now _ _ _ _ _ _ _ _ _ _ _ _ (g.met.W.Draw.lawful c.args.draw.now)
           c.requires.round c.requires.count c.loop-place.invariant.0 c.loop-place-test.true c.slot-at.ensures.value
-          c.slot-at.ensures.below c.in_ok-get.ensures.call) c.loop-place.entries (g.W.Draw.digests c.args.draw.now)
-          c.loop-place.invariant.2 c.in-Held.label c.new.result c.in-Held.ensures (c.new.ensures
+          c.slot-at.ensures.below c.in_ok-content.ensures.call) c.loop-place.entries (g.W.Draw.digests c.args.draw.now)
+          c.loop-place.invariant.3 c.in-Held.label c.new.result
+          (rw c.in-Held.is at c.in_ok-content.ensures.tells) (c.new.ensures
           ∙ ap (λ n. entry_of n c.slot-at.result) c.digest_from-digest.ensures.value)
           (omega (
             arith,
@@ -162,4 +177,4 @@ returns-clause-noted g c =
       c.loop-place.auto.place-end,
       c.requires.round,
       c.requires.room,
-    )) (g.met.S.ReadSlots.counted c.args.slots.now) c.loop-place.invariant.2
+    )) (g.met.S.ReadSlots.counted c.args.slots.now) c.loop-place.invariant.3

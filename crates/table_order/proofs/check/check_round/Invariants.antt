@@ -1,3 +1,4 @@
+use Rattle.table_order.specs.Windows.{IsWindowOf}
 use Rattle.table_order.proofs.Checking.{Checking}
 use Rattle.table_order.proofs.Noting.{Noting}
 use Rattle.table_order.proofs.check.check_round.Given as goal
@@ -7,4 +8,5 @@ invariant-loop-place g l =
     Checking (g.W.Draw.drawn l.draw) l.height l.round (g.S.ReadSlots.state l.fn.slots)
     (g.S.ReadSlots.state l.slots) l.fn.steps l.steps l.reach l.place l.run l.used
     × g.S.ReadSlots.follows l.fn.slots l.slots
+    × IsWindowOf (g.S.ReadSlots.state l.slots) l.window
     × Noting (g.W.Draw.digests l.draw) l.round (g.S.ReadSlots.state l.fn.slots) l.entries l.place l.used

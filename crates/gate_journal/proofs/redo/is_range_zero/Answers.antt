@@ -1,16 +1,16 @@
-use Rattle.std.proofs.Common.{◌≡◌, ◌∙◌, ℕ, length, sym, subst}
+use Rattle.std.proofs.Common.{◌≡◌, ℕ, length, sym, subst}
 use Rattle.gate_journal.specs.Places.{IsZeroAt}
 use Rattle.gate_journal.proofs.Reading.{zero_read, zero_buffer}
-use Rattle.gate_journal.proofs.redo.is_block_zero.Goals as goal
+use Rattle.gate_journal.proofs.redo.is_range_zero.Goals as goal
 
 pub returns-clause-value : goal.returns-clause-value
 returns-clause-value g c observable =
     let old = (g.D.Disk.state c.args.disk.now).bytes in
     let read = (c.in_ok-read_at.ensures.observed observable).read in
-    let long : length c.read_at.new.into ≡ 4096 = c.read_at.auto.into ∙ c.told-buffer in (
+    let long : length c.read_at.new.into ≡ length c.args.buffer.now = c.read_at.auto.into in (
       λ zero. subst (λ (n : ℕ). IsZeroAt c.args.at n old) long
           (zero_read old c.read_at.new.into c.args.at read (c.is_zero.ensures.0 zero)),
-      λ (zero : IsZeroAt c.args.at 4096 old).
+      λ (zero : IsZeroAt c.args.at (length c.args.buffer.now) old).
           c.is_zero.ensures.1 (zero_buffer old c.read_at.new.into c.args.at read
           (subst (λ (n : ℕ). IsZeroAt c.args.at n old) (sym long) zero)),
     )
