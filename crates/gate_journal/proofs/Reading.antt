@@ -2,7 +2,7 @@
 use Rattle.std.proofs.Common.{◌≡◌, ℕ, ◌+◌, ◌-◌, ◌<◌, ◌≤◌, List, length, take, drop, slice_index, sym, ap, ◌∙◌, subst}
 use Rattle.std.proofs.Common.{arith, Result, Ok, inl, inr, get_or-take, get_or-drop}
 use Rattle.std.proofs.lemmas.Bool.{cases_lt}
-use Rattle.std.proofs.lemmas.List.{ext_get_or, length-replicate, get_or-replicate}
+use Rattle.std.proofs.lemmas.List.{ext_get_or, length-replicate, get_or-replicate, length-take-le, length-drop}
 use Rattle.store_model.specs.Lists.{zeros}
 use Rattle.disk_model.specs.DiskState.{DiskState, IsObservable, IsDurable, IsSound}
 use Rattle.disk_model.specs.DiskCalls.{IsRead, overwrite}
@@ -60,6 +60,23 @@ zero_zeros bytes zero = ext_get_or 0 bytes (zeros (length bytes))
 pub zeros_zero : (bytes : List ℕ) → bytes ≡ zeros (length bytes) → IsZeroAt 0 (length bytes) bytes
 zeros_zero bytes is place low high = ap (λ (l : List ℕ). slice_index l place) is
     ∙ get_or-replicate (length bytes) place 0 0 (omega arith)
+
+-- a part of the bytes is zeros where they are zero there
+pub zero_part : (bytes : List ℕ) (start n : ℕ) → n ≤ length bytes - start
+    → take n (drop start bytes) ≡ zeros (length (take n (drop start bytes))) → IsZeroAt start n bytes
+zero_part bytes start n within zero =
+    let part = take n (drop start bytes) in
+    let long : length part ≡ n = length-take-le n (drop start bytes) (omega (arith, within, length-drop start bytes)) in
+    subst (λ (m : ℕ). IsZeroAt start m bytes) long
+    (zero_read bytes part start (ap (λ (m : ℕ). take m (drop start bytes)) (sym long)) (zeros_zero part zero))
+
+pub part_zero : (bytes : List ℕ) (start n : ℕ) → n ≤ length bytes - start → IsZeroAt 0 (length bytes) bytes
+    → take n (drop start bytes) ≡ zeros (length (take n (drop start bytes)))
+part_zero bytes start n within zero =
+    let part = take n (drop start bytes) in
+    let long : length part ≡ n = length-take-le n (drop start bytes) (omega (arith, within, length-drop start bytes)) in
+    zero_zeros part (zero_buffer bytes part start (ap (λ (m : ℕ). take m (drop start bytes)) (sym long))
+    (λ place low high. zero place (omega arith) (omega (arith, high, long, within, low))))
 
 -- zeros that were written
 pub zero_written : (old bytes : List ℕ) (at n : ℕ) → bytes ≡ zeros n → at + n ≤ length old

@@ -14,26 +14,27 @@ ghost use Rattle.gate_journal.specs.Recovery.{OutsideRedone, IsRedone, marked_co
 
 use disk_model::Disk;
 use store_base::{
-    DiskFault, READ_LEN, gate_at, mark_at, shadow_at, table_at, version_at, version_byte,
+    DiskFault, READ_LEN, are_zero, gate_at, mark_at, shadow_at, table_at, version_at, version_byte,
 };
 use store_model::{BLOCK, Version};
 
-/// As many zeros as are read at once.
-static ZEROS: [u8; READ_LEN] = [0; READ_LEN];
-
-/// Whether each byte is zero, of at most as many as are read at once.
+/// Whether each byte is zero. Bytes are compared by blocks: so the zeros that they are compared with are few, and stay
+/// in the processor's first cache.
 fn is_zero(bytes: &[u8]) -> bool
-    requires { length bytes.now ≤ READ_LEN }
     ensures { IsTrue result ↔ IsZeroAt 0 (length bytes.now) bytes.now }
 {
-    // Compared as a whole, which takes many bytes at once.
-    bytes == &ZEROS[..bytes.len()]
+    for block in 0..bytes.len().div_ceil(BLOCK) {
+        let start = block * BLOCK;
+        if !are_zero(&bytes[start..bytes.len().min(start + BLOCK)]) {
+            return false;
+        }
+    }
+    true
 }
 
 /// Whether as many bytes at this offset are zero as the buffer has. They are read into it.
 fn is_range_zero<D: Disk>(disk: &mut D, at: u64, buffer: &mut [u8]) -> Result<bool, DiskFault>
-    requires few { length buffer.old ≤ READ_LEN }
-    requires within { at + length buffer.old ≤ (D.state disk.old).size }
+    requires { at + length buffer.old ≤ (D.state disk.old).size }
     ensures call { IsCall (D.state disk.old) (D.state disk.new) result }
     ensures reads { IsObservable (D.state disk.old)
         → ReadsOnly (D.state disk.old) (D.state disk.new) }

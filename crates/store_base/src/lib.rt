@@ -33,7 +33,7 @@ pub use slots::{READ_LEN, ReadSlots, Slots};
 pub use store_fault::Fault;
 pub use store_model::{BLOCK, DrawKind, Refusal, Slot, Version};
 pub use value::{Bytes, Value};
-pub use zeros::{ZEROS, is_zero};
+pub use zeros::{ZEROS, are_zero, is_zero};
 
 /// What a call on a tree answers where no fault came: a value, or why the command is refused.
 pub type Answer<T> = Result<T, Refusal>;

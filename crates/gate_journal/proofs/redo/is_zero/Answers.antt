@@ -1,15 +1,16 @@
-use Rattle.std.proofs.Common.{◌≡◌, length, take, sym, ◌∙◌}
-use Rattle.std.proofs.lemmas.Bool.Decides.{Decides-eqb}
-use Rattle.std.proofs.lemmas.List.{take-replicate}
-use Rattle.std.proofs.lemmas.Slice.Eq.{slice_eq-Decides}
-use Rattle.store_model.specs.Lists.{zeros}
-use Rattle.gate_journal.proofs.Reading.{zero_zeros, zeros_zero}
+use Rattle.std.proofs.Common.{◌-◌, ◌*◌, inl, inr, arith}
+use Rattle.std.proofs.lemmas.Bool.{cases_lt}
+use Rattle.gate_journal.proofs.Reading.{zero_part}
 use Rattle.gate_journal.proofs.redo.is_zero.Goals as goal
 
-pub returns : goal.returns
-returns c =
+pub loop-block-preserved : goal.loop-block-preserved
+loop-block-preserved c place before within =
     let bytes = c.args.bytes.now in
-    let front : take (length bytes) (zeros 16384) ≡ zeros (length bytes) =
-    take-replicate (length bytes) 16384 0 c.requires in
-    let tells = slice_eq-Decides Decides-eqb _ _ _ c.eq.ensures in
-    (λ same. zeros_zero bytes (tells.0 same ∙ front), λ zero. tells.1 (zero_zeros bytes zero ∙ sym front))
+    let start = c.loop-block.block * 4096 in
+    elim (cases_lt place start) [
+      | inl earlier ↦ c.loop-block.invariant place (omega (arith, earlier)) within
+      | inr later ↦
+          zero_part bytes start (c.min.result - start) (omega (arith, c.min.ensures))
+          (c.are_zero.ensures.0 c.if-not-are_zero.false) place later
+          (omega (arith, before, within, c.min.ensures))
+    ]
