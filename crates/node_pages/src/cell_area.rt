@@ -2,13 +2,12 @@
 //! value, zero-filled to 256 bytes. Behind the last cell of a page stand zeros.
 
 ghost use Rattle.std.specs.Prelude.{◌≡◌, ◌↔◌, ◌*◌, ◌≤◌, [], length, IsTrue};
-ghost use Rattle.store_model.specs.Lists.{zeros};
 ghost use Rattle.std.specs.declared.cmp.Ordering.TheVariants.{Less};
 ghost use Rattle.store_model.specs.Paths.{key_cmp};
 ghost use Rattle.store_model.specs.Pages as model;
 ghost use Rattle.node_pages.specs.CellAreas as cells;
 
-use store_base::{Value, byte_order};
+use store_base::{Value, are_zero, byte_order};
 
 /// The bytes of a key.
 pub const KEY_LEN: usize = 124;
@@ -28,13 +27,6 @@ pub fn room(level: u8) -> u8
     ensures { result ≡ model.page_room level }
 {
     if level == 0 { 10 } else { 31 }
-}
-
-/// Whether the bytes are all zero.
-fn are_zero(bytes: &[u8]) -> bool
-    ensures { IsTrue result ↔ (bytes.now ≡ zeros (length bytes.now)) }
-{
-    bytes.iter().all(|byte| *byte == 0)
 }
 
 /// Whether these bytes are a value's: its length from 1 to 256, and no other bytes than zeros behind it.

@@ -22,7 +22,7 @@ pub use cell_area::room;
 pub use cells::Cells;
 pub use group::{append_group, cut_group, join_group};
 pub use map::MapPages;
-pub use page::{Page, decode_page, encode_page, label_in};
+pub use page::{Page, decode_page, encode_page, label_in, page_label};
 pub use pages::Pages;
 pub use reveal::{reveal_key, reveal_lead, reveal_pair, reveal_value};
 pub use sequence::{PageList, PairList, Sequence};

@@ -159,20 +159,31 @@ pub fn label_in(slot: &Slot) -> Option<Label>
     Label::from_bytes(&label)
 }
 
-/// Reads the page that a slot holds; `None` exactly where its bytes are no page's: byte 0 is not 1, the label's bytes
-/// are no label's, there is no cell or more than the level has room for, the length of a value is not 1 to 256 or
-/// other bytes than zeros fill it up, the keys do not strictly rise, or other bytes than zeros stand behind the last
-/// cell.
-pub fn decode_page(slot: &Slot) -> Option<Page>
-    ensures found { IfSome result (λ page. IsPage page × (page_bytes page ≡ slot.now)) }
+/// Reads the label of the page that a slot holds, and looks at all of the slot, but copies nothing.
+///
+/// `None` exactly where its bytes are no page's: byte 0 is not 1, the label's bytes are no label's, there is no cell or
+/// more than the level has room for, the length of a value is not 1 to 256 or other bytes than zeros fill it up, the
+/// keys do not strictly rise, or other bytes than zeros stand behind the last cell.
+pub fn page_label(slot: &Slot) -> Option<Label>
+    ensures found { IfSome result (λ label. cells.IsSlotOf label slot.now) }
     ensures only { (page : model.Page) → IsPage page
-        → page_bytes page ≡ slot.now → result ≡ Some page }
+        → page_bytes page ≡ slot.now → result ≡ Some page.label }
 {
     let label = label_in(slot)?;
     let (_, area) = slot.split_at(CELLS_AT);
     if !are_whole(label.level, slot[COUNT_AT], area) {
         return None;
     }
+    Some(label)
+}
+
+/// Reads the page that a slot holds; `None` exactly where its bytes are no page's, as `page_label` says.
+pub fn decode_page(slot: &Slot) -> Option<Page>
+    ensures found { IfSome result (λ page. IsPage page × (page_bytes page ≡ slot.now)) }
+    ensures only { (page : model.Page) → IsPage page
+        → page_bytes page ≡ slot.now → result ≡ Some page }
+{
+    let label = page_label(slot)?;
     Some(Page { label, slot: *slot })
 }
 

@@ -1,4 +1,4 @@
-use Rattle.std.proofs.Common.{refl, sym, ◌∙◌, rules}
+use Rattle.std.proofs.Common.{refl, rules}
 use Rattle.std.specs.Box.{with_value}
 use Rattle.node_pages.proofs.EntryLemmas.{no_page}
 use Rattle.node_pages.proofs.CellInserts.{inserted_in, cell_inserted, has_no_place}
