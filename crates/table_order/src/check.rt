@@ -15,6 +15,7 @@ use ordered_table::{Steps, next_slot};
 use seeded_draw::{Draw, Front};
 use std::sync::ledger::Ledger;
 use store_base::{Fault, MAX_SLOTS, ReadSlots};
+use store_model::BLOCK;
 
 /// As `check_order`, on a round behind a slot that no page passes; the entries are in no order.
 fn check_round<S: ReadSlots, W: Draw, L: Ledger>(
@@ -37,6 +38,7 @@ fn check_round<S: ReadSlots, W: Draw, L: Ledger>(
     ensures follows { S.follows slots.old slots.new }
 {
     let mut window = Window::new();
+    let mut there = [0; BLOCK];
     // Of the page at each place, from which place on the labels up to its own are known to be smaller.
     let mut reach = [0; MAX_SLOTS as usize];
     // The place behind the last free slot.
@@ -61,7 +63,8 @@ fn check_round<S: ReadSlots, W: Draw, L: Ledger>(
             return Ok(None);
         }
         let page = Standing { label, place, way };
-        let Some(from) = passed_from(slots, round, &page, &reach, steps)? else {
+        let Some(from) = passed_from(slots, round, &page, &reach, &window, &mut there, steps)?
+        else {
             return Ok(None);
         };
         reach[place as usize] = from as u16;

@@ -2,7 +2,7 @@
 
 ghost use Rattle.table_order.specs.Contents.{TellsContent};
 
-use node_pages::decode_page;
+use node_pages::page_label;
 use store_base::{Label, Slot, is_zero};
 
 /// What a slot may hold.
@@ -23,8 +23,8 @@ pub(crate) fn content_of(slot: &Slot, height: u8) -> Content
     if is_zero(slot) {
         return Content::Free;
     }
-    match decode_page(slot) {
-        Some(page) if page.level() < height => Content::Held(page.label()),
+    match page_label(slot) {
+        Some(label) if label.level < height => Content::Held(label),
         _ => Content::Other,
     }
 }

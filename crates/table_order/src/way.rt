@@ -8,13 +8,15 @@ ghost use Rattle.store_model.specs.Labels.{label_bytes};
 ghost use Rattle.store_model.specs.Pages.{Page, IsPage};
 ghost use Rattle.store_model.specs.Images.{slot_bytes};
 ghost use Rattle.table_order.specs.Rounds.{HoldsLess, Passes};
+ghost use Rattle.table_order.specs.Windows.{IsWindowOf};
 
 use crate::round::Round;
+use crate::window::Window;
 use ordered_table::{Steps, order_of};
 use std::cmp::Ordering;
 use std::sync::ledger::Ledger;
 use store_base::{Fault, Label, ReadSlots};
-use store_model::{BLOCK, Slot};
+use store_model::Slot;
 
 /// A page in its slot.
 #[derive(Drop)]
@@ -38,7 +40,8 @@ fn holds_less(slot: &Slot, wanted: &[u8; 130]) -> bool
 /// where one does not.
 ///
 /// `reach` tells of each place before the page's from where on the labels up to it are known to be smaller than the one
-/// there; these are jumped over. Each slot that is read counts as a step.
+/// there; these are jumped over. Each slot that is looked at counts as a step. It is read into `there`, or copied where
+/// the window has it.
 ///
 /// The way has to lie behind place 0. A fault of the slots ends the call.
 pub(crate) fn passed_from<S: ReadSlots, L: Ledger>(
@@ -46,6 +49,8 @@ pub(crate) fn passed_from<S: ReadSlots, L: Ledger>(
     round: &Round,
     page: &Standing,
     reach: &[u16],
+    window: &Window,
+    there: &mut Slot,
     steps: &mut Steps<L>,
 ) -> Result<Option<u32>, Fault>
     requires count { (S.state slots.old).count ≡ round.now.count }
@@ -53,17 +58,17 @@ pub(crate) fn passed_from<S: ReadSlots, L: Ledger>(
     requires way { page.now.way ≤ page.now.place }
     requires room { page.now.place ≤ length reach.now }
     requires back { (place : ℕ) → place < page.now.place → slice_index reach.now place ≤ place }
+    requires window { IsWindowOf (S.state slots.old) window.now }
     ensures call { Passes round.now (S.state slots.old)
         (S.state slots.new) page.now reach.now steps.old steps.new result }
     ensures follows { S.follows slots.old slots.new }
 {
     let wanted = page.label.to_bytes();
-    let mut there = [0; BLOCK];
     let mut from = page.place;
     while page.place - from < page.way {
         steps.tick();
-        slots.get(round.slot(from - 1), &mut there)?;
-        if !holds_less(&there, &wanted) {
+        window.get(slots, round.slot(from - 1), there)?;
+        if !holds_less(there, &wanted) {
             return Ok(None);
         }
         from = u32::from(reach[from as usize - 1]);

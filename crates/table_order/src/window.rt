@@ -1,6 +1,6 @@
 //! Slots that are read ahead.
 
-ghost use Rattle.std.specs.Prelude.{◌≡◌, ◌≤◌, ◌<◌, ◌+◌, ◌*◌, IfOk, OnOk, replicate};
+ghost use Rattle.std.specs.Prelude.{◌≡◌, ◌↔◌, ◌≤◌, ◌<◌, ◌+◌, ◌*◌, IsTrue, IfOk, OnOk, replicate};
 ghost use Rattle.store_model.specs.Parameters.{slots_limit, block_len};
 ghost use Rattle.store_base.specs.SlotsState.{IsGet};
 ghost use Rattle.table_order.specs.Contents.{TellsContent};
@@ -33,6 +33,14 @@ impl Window {
         }
     }
 
+    /// Whether the window has slot `at`.
+    fn has(&self, at: u32) -> bool
+        requires { block_len * self.now.count ≤ READ_LEN }
+        ensures { IsTrue result ↔ Holds self.now at }
+    {
+        self.first <= at && at - self.first < self.count
+    }
+
     /// Sees to it that the window has slot `at`: reads it and slots behind it, unless it has it.
     fn load<S: ReadSlots>(&mut self, slots: &mut S, count: u32, at: u32) -> Result<(), Fault>
         requires count { (S.state slots.old).count ≡ count }
@@ -45,7 +53,7 @@ impl Window {
         ensures holds { OnOk result (Holds self.new at) }
         ensures follows { S.follows slots.old slots.new }
     {
-        if self.first <= at && at - self.first < self.count {
+        if self.has(at) {
             return Ok(());
         }
         // Nothing is kept of a read that fails.
@@ -65,6 +73,26 @@ impl Window {
     {
         let (slots, _) = self.bytes.as_chunks();
         &slots[(at - self.first) as usize]
+    }
+
+    /// Reads slot `at` into the buffer; where the window has it, it is copied. After a fault the buffer may hold
+    /// anything.
+    pub(crate) fn get<S: ReadSlots>(
+        &self,
+        slots: &mut S,
+        at: u32,
+        into: &mut Slot,
+    ) -> Result<(), Fault>
+        requires below { at < (S.state slots.old).count }
+        requires window { IsWindowOf (S.state slots.old) self.now }
+        ensures call { IsGet (S.state slots.old) (S.state slots.new) at into.new result }
+        ensures follows { S.follows slots.old slots.new }
+    {
+        if self.has(at) {
+            *into = *self.slot(at);
+            return Ok(());
+        }
+        slots.get(at, into)
     }
 
     /// What slot `at` holds, of so many, in a table of lists of this height.

@@ -2,12 +2,14 @@ use Rattle.std.proofs.Common.{◌-◌, arith}
 use Rattle.std.proofs.lemmas.Result.{err_from_is_err_and}
 use Rattle.table_order.specs.Rounds.{slot_at}
 use Rattle.table_order.proofs.Passing.{passing_starts, get_at, passing_more, passes_not, passes_fails}
+use Rattle.table_order.proofs.Windowing.{window_kept}
 use Rattle.table_order.proofs.way.passed_from.Goals as goal
 
 pub loop-from-init : goal.loop-from-init
 loop-from-init g c = (
   passing_starts c.args.round.now _ c.args.page.now c.args.reach.now c.args.steps.now,
   g.met.S.ReadSlots.follows_refl c.args.slots.now,
+  c.requires.window,
 )
 
 pub returns-in_err-get-clause-call : goal.returns-in_err-get-clause-call
@@ -46,6 +48,9 @@ loop-from-preserved g c = (
         tells = c.holds_less.ensures;
         ticked = c.tick.ensures;
       }) c.if-not-holds_less.false c.requires.back c.from-from.ensures,
-  g.met.S.ReadSlots.follows_trans c.args.slots.now c.loop-from.slots c.get.new.self c.loop-from.invariant.1
+  g.met.S.ReadSlots.follows_trans c.args.slots.now c.loop-from.slots c.get.new.slots c.loop-from.invariant.1
       c.in_ok-get.ensures.follows,
+  window_kept (g.S.ReadSlots.state c.loop-from.slots) (g.S.ReadSlots.state c.get.new.slots) c.args.window.now
+      c.in_ok-get.ensures.call.calls.observable (λ observable. (c.in_ok-get.ensures.call.observed observable).slots)
+      c.loop-from.invariant.2,
 )
