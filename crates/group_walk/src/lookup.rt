@@ -8,18 +8,19 @@ use crate::guide::Guide;
 use label_index::find_page;
 use node_pages::Page;
 use seeded_draw::{Draw, Front};
-use store_base::{Fault, Label, ReadSlots};
+use store_base::{Fault, Label, ReadSlots, Slot};
 
 /// The page of the label; `None` exactly where the slots hold no such page.
 ///
 /// There have to be as many slots as the draw's, and the entries have to be an index of them by its digests. The
-/// front keeps what was digested of the label that was looked for last. A fault of the slots ends the call; it writes
-/// nothing.
+/// front keeps what was digested of the label that was looked for last. Slots are read into the buffer. A fault of the
+/// slots ends the call; it writes nothing.
 pub(crate) fn look_up<S: ReadSlots, W: Draw>(
     slots: &mut S,
     guide: &Guide<'_, W>,
     label: &Label,
     front: &mut Front,
+    slot: &mut Slot,
 ) -> Result<Option<Page>, Fault>
     requires count { (S.state slots.old).count ≡ (W.drawn guide.now.draw.now).slots }
     requires index { IsIndexOf (W.digests guide.now.draw.now)
@@ -29,5 +30,5 @@ pub(crate) fn look_up<S: ReadSlots, W: Draw>(
     ensures follows { S.follows slots.old slots.new }
 {
     let digest = guide.draw.digest_from(front, label);
-    find_page(slots, guide.entries, label, digest)
+    find_page(slots, guide.entries, label, digest, slot)
 }

@@ -3,7 +3,7 @@
 ghost use Rattle.std.specs.Prelude.{◌≡◌, ◌<◌, ◌^◌, None};
 
 use seeded_draw::Front;
-use store_base::Key;
+use store_base::{BLOCK, Key, Slot};
 
 /// How far a walk has come.
 #[derive(Drop)]
@@ -16,6 +16,8 @@ pub(crate) struct Progress {
     pub(crate) front: Front,
     /// What the digests of labels are taken from that begin alike.
     pub(crate) label_front: Front,
+    /// Room for the slot that is read.
+    pub(crate) slot: Slot,
     ghost in_range: { left < 2 ^ 32 },
 }
 
@@ -30,6 +32,7 @@ impl Progress {
             last: None,
             front: Front::new(),
             label_front: Front::new(),
+            slot: [0; BLOCK],
         }
     }
 }

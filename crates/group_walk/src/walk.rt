@@ -154,17 +154,18 @@ fn walk_group<S: ReadSlots, W: Draw, P: TakesPairs>(
     let mut index = 0;
     'runs: loop {
         let label = label_in_group(level, lead, index);
-        let Some(page) = look_up(slots, guide, &label, &mut met.label_front)? else {
+        let found = look_up(slots, guide, &label, &mut met.label_front, &mut met.slot)?;
+        let Some(page) = &found else {
             return Ok(may_end(lead, index));
         };
         if met.left == 0 {
             return Ok(false);
         }
         met.left -= 1;
-        if !walk_cells(slots, guide, &page, met, sink)? {
+        if !walk_cells(slots, guide, page, met, sink)? {
             return Ok(false);
         }
-        if is_last(level, &page) {
+        if is_last(level, page) {
             return Ok(true);
         }
         index += 1;

@@ -7,7 +7,7 @@ ghost use Rattle.label_index.specs.Lookups.{LooksUp};
 use crate::entry::Entry;
 use crate::read::page_in;
 use node_pages::Page;
-use store_base::{Fault, Label, ReadSlots};
+use store_base::{Fault, Label, ReadSlots, Slot};
 
 /// Where the entries of the digest begin, or those of the next greater one.
 fn first_of(entries: &[Entry], digest: u64) -> usize
@@ -20,13 +20,15 @@ fn first_of(entries: &[Entry], digest: u64) -> usize
 /// Finds the page of the label, which has this digest, by an index of the slots; `None` exactly where no slot holds
 /// such a page. The digest has to be the one that the index was made with.
 ///
-/// It reads the slots of the entries that have this digest, one after another, until one holds the page. The slots
-/// that entries name have to be there. A fault of the slots ends the call; it writes nothing, and takes no memory.
+/// It reads the slots of the entries that have this digest into the buffer, one after another, until one holds the
+/// page. The slots that entries name have to be there. A fault of the slots ends the call; it writes nothing, and takes
+/// no memory.
 pub fn find_page<S: ReadSlots>(
     slots: &mut S,
     entries: &[Entry],
     label: &Label,
     digest: u64,
+    slot: &mut Slot,
 ) -> Result<Option<Page>, Fault>
     requires { AreThere (S.state slots.old).count entries.now }
     ensures call { LooksUp (S.state slots.old)
@@ -39,8 +41,10 @@ pub fn find_page<S: ReadSlots>(
         if entry.digest != digest {
             return Ok(None);
         }
-        if let Some(page) = page_in(slots, entry.slot, label)? {
-            return Ok(Some(page));
+        // What was found is handed on as it came: a page is not taken out of it and put into another answer.
+        match page_in(slots, entry.slot, label, slot) {
+            Ok(None) => {}
+            found => return found,
         }
     }
     Ok(None)

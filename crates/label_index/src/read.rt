@@ -8,7 +8,7 @@ ghost use Rattle.label_index.specs.Lookups.{ReadsPage};
 
 use node_pages::{Page, decode_page, label_in};
 use store_base::{Fault, Label, ReadSlots};
-use store_model::{BLOCK, Slot};
+use store_model::Slot;
 
 /// The page of the label, where a slot holds it.
 fn page_of_label(slot: &Slot, label: &Label) -> Option<Page>
@@ -23,17 +23,18 @@ fn page_of_label(slot: &Slot, label: &Label) -> Option<Page>
     }
 }
 
-/// The page of the label where slot `at` holds it. A fault of the slots ends the call; it writes nothing.
+/// The page of the label where slot `at`, which is read into the buffer, holds it. A fault of the slots ends the call;
+/// it writes nothing.
 pub(crate) fn page_in<S: ReadSlots>(
     slots: &mut S,
     at: u32,
     label: &Label,
+    slot: &mut Slot,
 ) -> Result<Option<Page>, Fault>
     requires { at < (S.state slots.old).count }
     ensures call { ReadsPage (S.state slots.old) (S.state slots.new) at label.now result }
     ensures follows { S.follows slots.old slots.new }
 {
-    let mut slot = [0; BLOCK];
-    slots.get(at, &mut slot)?;
-    Ok(page_of_label(&slot, label))
+    slots.get(at, slot)?;
+    Ok(page_of_label(slot, label))
 }

@@ -40,6 +40,14 @@ impl Front {
         }
     }
 
+    /// Makes a front of the same message. It takes no memory, and digests nothing.
+    pub fn copy(&self) -> Front {
+        Front {
+            bytes: self.bytes,
+            hasher: copy_of(&self.hasher),
+        }
+    }
+
     /// Digests the first bytes of a message, if they were not digested last.
     fn begin(&mut self, bytes: &[u8])
         requires { length bytes.now ≡ FRONT_LEN }

@@ -7,9 +7,9 @@ ghost use Rattle.store_base.specs.SlotsState.{SlotsState, IsObservable, IsCounte
 use crate::store_fault::Fault;
 use store_model::{BLOCK, Slot};
 
-/// How many bytes are read by one call where many blocks are read one behind the other: four blocks. A longer read
-/// gains nothing.
-pub const READ_LEN: usize = 4 * BLOCK;
+/// How many bytes are read by one call where many blocks are read one behind the other: 16 blocks. A longer read gains
+/// nothing.
+pub const READ_LEN: usize = 16 * BLOCK;
 
 /// Slots that can be read, numbered from 0.
 ///

@@ -28,7 +28,7 @@ chunk_at n (suc count) (suc i) xs below =
     ∙ ap (λ (m : ℕ). take n (drop m xs)) next
 
 -- slots that were read into the first bytes of a window
-pub window_read : (old new : SlotsState) (at count : ℕ) (buffer rest : List ℕ) → length buffer ≤ 16384
+pub window_read : (old new : SlotsState) (at count : ℕ) (buffer rest : List ℕ) → length buffer ≤ 65536
     → IsGetSome old new at buffer (Ok count)
     → IsWindowOf new (record { first = at; count = count; bytes = buffer ++ rest })
 window_read old new at count buffer rest long get = record {

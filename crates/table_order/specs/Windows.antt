@@ -7,7 +7,7 @@ use Rattle.table_order.specs.declared.window.Window.{Window}
 
 -- the window has the bytes that the slots have
 pub record IsWindowOf (state : SlotsState) (window : Window) : Type 0 where
-  pub room : block_len * window.count ≤ 16384
+  pub room : block_len * window.count ≤ 65536
   pub held : IsObservable state → HoldsSlots state.slots window.first window.bytes window.count
 
 -- the window has this slot

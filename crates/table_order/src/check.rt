@@ -7,12 +7,13 @@ ghost use Rattle.table_order.specs.Rounds.{ChecksRound};
 
 use crate::bar::find_bar;
 use crate::content::Content;
+use crate::fronts::Fronts;
 use crate::round::{Round, way_between};
 use crate::way::{Standing, passed_from};
 use crate::window::Window;
 use label_index::{Entry, sort_entries};
 use ordered_table::{Steps, next_slot};
-use seeded_draw::{Draw, Front};
+use seeded_draw::Draw;
 use std::sync::ledger::Ledger;
 use store_base::{Fault, MAX_SLOTS, ReadSlots};
 use store_model::BLOCK;
@@ -44,7 +45,7 @@ fn check_round<S: ReadSlots, W: Draw, L: Ledger>(
     // The place behind the last free slot.
     let mut run = 0;
     let mut used = 0;
-    let mut front = Front::new();
+    let mut fronts = Fronts::new();
     for place in 0..round.count {
         let at = round.slot(place);
         steps.tick();
@@ -57,7 +58,7 @@ fn check_round<S: ReadSlots, W: Draw, L: Ledger>(
             Content::Other => return Ok(None),
         };
         steps.tick();
-        let digest = draw.digest_from(&mut front, &label);
+        let digest = fronts.digest(draw, &label);
         let way = way_between(draw.start_by(&label, digest), at, round.count);
         if place - run < way {
             return Ok(None);

@@ -12,6 +12,7 @@
 mod bar;
 mod check;
 mod content;
+mod fronts;
 mod round;
 mod way;
 mod window;

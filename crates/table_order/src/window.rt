@@ -35,7 +35,6 @@ impl Window {
 
     /// Whether the window has slot `at`.
     fn has(&self, at: u32) -> bool
-        requires { block_len * self.now.count ≤ READ_LEN }
         ensures { IsTrue result ↔ Holds self.now at }
     {
         self.first <= at && at - self.first < self.count

@@ -6,5 +6,5 @@ use Rattle.gate_journal.proofs.redo.is_journal_zero.Given as goal
 abbrev pub invariant-loop-part : goal.invariant-loop-part
 invariant-loop-part g l =
     let old = g.D.Disk.state l.fn.disk in
-    ReadsSoFar ((place : ℕ) → 4096 ≤ place → place < 4096 + 16384 * l.part → place < table_at l.slots 0
+    ReadsSoFar ((place : ℕ) → 4096 ≤ place → place < 4096 + 65536 * l.part → place < table_at l.slots 0
     → slice_index old.bytes place ≡ 0) old (g.D.Disk.state l.disk)

@@ -154,7 +154,7 @@ walk_group-returns-in_default-clause-call g t c =
       last = refl;
     })
     (subst (λ (o : Option Page). FindsPage d now seen c.label_in_group-label.result (Ok o))
-    c.in_default.is c.in_ok-page.ensures.call) c.may_end.ensures
+    c.in_default.is c.in_ok-found.ensures.call) c.may_end.ensures
 
 pub walk_group-returns-then-met-eq0-clause-call : goal.walk_group-returns-then-met-eq0-clause-call
 walk_group-returns-then-met-eq0-clause-call g t c =
@@ -167,7 +167,7 @@ walk_group-returns-then-met-eq0-clause-call g t c =
     (g.P.TakesPairs.took c.args.sink.now) (g.P.TakesPairs.took c.runs.sink)
     c.runs.invariant.0 c.label_in_group-label.result c.label_in_group-label.ensures c.in-Some.page
     (subst (λ (o : Option Page). FindsPage d now seen c.label_in_group-label.result (Ok o))
-    c.in-Some.is c.in_ok-page.ensures.call) (record { left = refl; last = refl }) c.if-met-eq0.true
+    c.in-Some.is c.in_ok-found.ensures.call) (record { left = refl; last = refl }) c.if-met-eq0.true
 
 pub walk_group-returns-in_err-walk_cells-clause-call :
     goal.walk_group-returns-in_err-walk_cells-clause-call
@@ -184,7 +184,7 @@ walk_group-returns-in_err-walk_cells-clause-call g t c =
     (g.P.TakesPairs.took c.args.sink.now) (g.P.TakesPairs.took c.runs.sink)
     c.runs.invariant.0 c.label_in_group-label.result c.label_in_group-label.ensures c.in-Some.page
     (subst (λ (o : Option Page). FindsPage d now seen c.label_in_group-label.result (Ok o))
-    c.in-Some.is c.in_ok-page.ensures.call)
+    c.in-Some.is c.in_ok-found.ensures.call)
     (progress c.walk_cells.new.met.left c.walk_cells.new.met.last) (g.S.ReadSlots.state c.walk_cells.new.slots)
     (g.P.TakesPairs.took c.walk_cells.new.sink) (record {
       left = omega (arith, some);
@@ -205,7 +205,7 @@ walk_group-returns-then-not-branch-clause-call g t c =
     (g.P.TakesPairs.took c.args.sink.now) (g.P.TakesPairs.took c.runs.sink)
     c.runs.invariant.0 c.label_in_group-label.result c.label_in_group-label.ensures c.in-Some.page
     (subst (λ (o : Option Page). FindsPage d now seen c.label_in_group-label.result (Ok o))
-    c.in-Some.is c.in_ok-page.ensures.call)
+    c.in-Some.is c.in_ok-found.ensures.call)
     (progress c.walk_cells.new.met.left c.walk_cells.new.met.last) new (g.P.TakesPairs.took c.walk_cells.new.sink)
     (record { left = omega (arith, some); last = refl })
     (subst (λ (b : Bool). WalksCells d seen new c.in-Some.page taken
@@ -225,7 +225,7 @@ walk_group-returns-then-is_last-clause-call g t c =
     (g.P.TakesPairs.took c.args.sink.now) (g.P.TakesPairs.took c.runs.sink)
     c.runs.invariant.0 c.label_in_group-label.result c.label_in_group-label.ensures c.in-Some.page
     (subst (λ (o : Option Page). FindsPage d now seen c.label_in_group-label.result (Ok o))
-    c.in-Some.is c.in_ok-page.ensures.call)
+    c.in-Some.is c.in_ok-found.ensures.call)
     (progress c.walk_cells.new.met.left c.walk_cells.new.met.last) new (g.P.TakesPairs.took c.walk_cells.new.sink)
     (record { left = omega (arith, some); last = refl })
     (subst (λ (b : Bool). WalksCells d seen new c.in-Some.page taken
@@ -242,14 +242,14 @@ walk_group-runs-preserved g t c =
     let taken : Progress = record { left = c.runs.met.left - 1; last = c.runs.met.last } in
     let some = c.if-met-eq0.false in
     let follows = g.met.S.ReadSlots.follows_trans c.args.slots.now c.runs.slots c.look_up.new.slots c.runs.invariant.1
-    c.in_ok-page.ensures.follows in (
+    c.in_ok-found.ensures.follows in (
       runs_next d (g.S.ReadSlots.state c.args.slots.now) now seen c.args.level (model_lead c.args.lead.now)
           c.runs.index (progress c.args.met.now.left c.args.met.now.last)
           (progress c.runs.met.left c.runs.met.last) taken
           (g.P.TakesPairs.took c.args.sink.now) (g.P.TakesPairs.took c.runs.sink)
           c.runs.invariant.0 c.label_in_group-label.result c.label_in_group-label.ensures c.in-Some.page
           (subst (λ (o : Option Page). FindsPage d now seen c.label_in_group-label.result (Ok o))
-          c.in-Some.is c.in_ok-page.ensures.call)
+          c.in-Some.is c.in_ok-found.ensures.call)
           (progress c.walk_cells.new.met.left c.walk_cells.new.met.last) new (g.P.TakesPairs.took c.walk_cells.new.sink)
           (record { left = omega (arith, some); last = refl })
           (subst (λ (b : Bool). WalksCells d seen new c.in-Some.page taken

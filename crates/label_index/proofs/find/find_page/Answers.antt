@@ -1,6 +1,5 @@
-use Rattle.std.proofs.Common.{◌<◌, Option, Ok, length, slice_index_or, subst, arith}
+use Rattle.std.proofs.Common.{◌<◌, Ok, length, slice_index_or, ap, ◌∙◌, subst, arith}
 use Rattle.std.proofs.lemmas.List.{get_or_default}
-use Rattle.store_model.specs.Pages.{Page}
 use Rattle.label_index.specs.declared.entry.Entry.{Entry}
 use Rattle.label_index.specs.Lookups.{ReadsPage}
 use Rattle.label_index.proofs.Looking.{looks_next, looks_beyond}
@@ -29,10 +28,10 @@ loop-at-preserved g c =
     let new = g.S.ReadSlots.state c.page_in.new.slots in
     let entry = slice_index_or entries at blank in
     let within : at < length entries = omega (arith, c.loop-at-test.true) in
-    let read = subst (λ (found : Option Page). ReadsPage mid new entry.slot c.args.label.now (Ok found))
-    c.in_default.is c.in_ok-page.ensures.call in (
+    let read = subst (ReadsPage mid new entry.slot c.args.label.now) (c.in-Ok-None.is ∙ ap Ok c.in-Ok-None.field-0-is)
+    c.page_in.ensures.call in (
       looks_next old mid new entries c.args.label.now c.args.digest at entry
           (λ e. get_or_default entries at e blank within) c.loop-at.invariant.0 read,
       g.met.S.ReadSlots.follows_trans c.args.slots.now c.loop-at.slots c.page_in.new.slots c.loop-at.invariant.1
-          c.in_ok-page.ensures.follows,
+          c.page_in.ensures.follows,
     )

@@ -146,7 +146,7 @@ loop-place-preserved g c =
           c.slot-at.ensures.below c.in_ok-content.ensures.call) c.loop-place.entries (g.W.Draw.digests c.args.draw.now)
           c.loop-place.invariant.3 c.in-Held.label c.new.result
           (rw c.in-Held.is at c.in_ok-content.ensures.tells) (c.new.ensures
-          ∙ ap (λ n. entry_of n c.slot-at.result) c.digest_from-digest.ensures.value)
+          ∙ ap (λ n. entry_of n c.slot-at.result) c.digest-digest.ensures.value)
           (omega (
             arith,
             c.loop-place.invariant.0.used_within,
