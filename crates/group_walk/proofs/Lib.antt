@@ -13,3 +13,4 @@ pub mod GroupSteps
 pub mod GroupAhead
 pub mod GroupEnds
 pub mod TableSteps
+pub mod StepLemmas

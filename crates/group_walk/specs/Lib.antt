@@ -1,3 +1,4 @@
+pub mod Costs
 pub mod Lookups
 pub mod Streams
 pub mod Walked

@@ -1,8 +1,9 @@
 //! The walk down from the start of each level.
 
-ghost use Rattle.std.specs.Prelude.{◌≡◌, ◌↔◌, ◌⊎◌, ◌<◌, IsTrue};
+ghost use Rattle.std.specs.Prelude.{◌≡◌, ◌↔◌, ◌⊎◌, ℕ, ◌+◌, ◌*◌, ◌<◌, ◌≤◌, IsTrue};
 ghost use Rattle.store_base.specs.Leads.{model_lead};
-ghost use Rattle.label_index.specs.Indexes.{IsIndexOf};
+ghost use Rattle.label_index.specs.Indexes.{IsIndexOf, AreFewAlike};
+ghost use Rattle.group_walk.specs.Costs.{TakesSteps, vain_of};
 ghost use Rattle.group_walk.specs.Walked.{IsInPlace, IsStart};
 ghost use Rattle.group_walk.specs.Streams.{IsAbove, progress};
 ghost use Rattle.group_walk.specs.Walks.{WalksGroup, WalksCells, WalksCell, WalksTable};
@@ -13,8 +14,10 @@ use crate::progress::Progress;
 use crate::sink::TakesPairs;
 use label_index::Entry;
 use node_pages::{Cell, Page};
+use ordered_table::Steps;
 use seeded_draw::{Draw, Front};
 use skip_groups::{is_last, label_in_group};
+use std::sync::ledger::Ledger;
 use store_base::{Fault, Key, Label, Lead, ReadSlots};
 
 /// Whether the key of cell `i` of a page belongs there: the first cell of a group that a key leads is the leader's, and
@@ -67,14 +70,16 @@ fn may_end(lead: &Lead, runs: u32) -> bool
 }
 
 /// Goes down from a cell of the level to the group that it leads on the level below, and on level 0 hands its pair on.
+/// Each label that is looked for counts as a step, and so does each look at a slot.
 #[cycle(walk)]
-fn walk_cell<S: ReadSlots, W: Draw, P: TakesPairs>(
+fn walk_cell<S: ReadSlots, W: Draw, P: TakesPairs, L: Ledger>(
     slots: &mut S,
     guide: &Guide<'_, W>,
     level: u8,
     cell: &Cell,
     met: &mut Progress,
     sink: &mut P,
+    steps: &mut Steps<L>,
 ) -> Result<bool, Fault>
     requires count { (S.state slots.old).count ≡ (W.drawn guide.now.draw.now).slots }
     requires index { IsIndexOf (W.digests guide.now.draw.now)
@@ -83,11 +88,21 @@ fn walk_cell<S: ReadSlots, W: Draw, P: TakesPairs>(
         (S.state slots.new) level cell.now (progress met.old.left met.old.last)
         (progress met.new.left met.new.last)
         (P.took sink.old) (P.took sink.new) result }
+    ensures steps { TakesSteps guide.now.entries.now steps.old steps.new met.old.left
+        met.new.left 0 result }
     ensures follows { S.follows slots.old slots.new }
     ensures keeps { P.keeps sink.old sink.new }
 {
     if level > 0 {
-        return walk_group(slots, guide, level - 1, &Lead::Key(cell.key), met, sink);
+        return walk_group(
+            slots,
+            guide,
+            level - 1,
+            &Lead::Key(cell.key),
+            met,
+            sink,
+            steps,
+        );
     }
     let Some(value) = &cell.value else {
         return Ok(false);
@@ -99,12 +114,13 @@ fn walk_cell<S: ReadSlots, W: Draw, P: TakesPairs>(
 
 /// Walks over the cells of a page, and all below them.
 #[cycle(walk)]
-fn walk_cells<S: ReadSlots, W: Draw, P: TakesPairs>(
+fn walk_cells<S: ReadSlots, W: Draw, P: TakesPairs, L: Ledger>(
     slots: &mut S,
     guide: &Guide<'_, W>,
     page: &Page,
     met: &mut Progress,
     sink: &mut P,
+    steps: &mut Steps<L>,
 ) -> Result<bool, Fault>
     requires count { (S.state slots.old).count ≡ (W.drawn guide.now.draw.now).slots }
     requires index { IsIndexOf (W.digests guide.now.draw.now)
@@ -113,6 +129,8 @@ fn walk_cells<S: ReadSlots, W: Draw, P: TakesPairs>(
         (S.state slots.new) page.now (progress met.old.left met.old.last)
         (progress met.new.left met.new.last)
         (P.took sink.old) (P.took sink.new) result }
+    ensures steps { TakesSteps guide.now.entries.now steps.old steps.new met.old.left
+        met.new.left 0 result }
     ensures follows { S.follows slots.old slots.new }
     ensures keeps { P.keeps sink.old sink.new }
 {
@@ -122,7 +140,7 @@ fn walk_cells<S: ReadSlots, W: Draw, P: TakesPairs>(
         if !is_next(guide.draw, &label, i, &cell, &met.last, &mut met.front) {
             return Ok(false);
         }
-        if !walk_cell(slots, guide, page.level(), &cell, met, sink)? {
+        if !walk_cell(slots, guide, page.level(), &cell, met, sink, steps)? {
             return Ok(false);
         }
     }
@@ -132,13 +150,14 @@ fn walk_cells<S: ReadSlots, W: Draw, P: TakesPairs>(
 /// Walks over the group that `lead` leads on the level, and all below it. Each run is looked for behind a full one; a
 /// group that a key leads has to be there.
 #[cycle(walk)]
-fn walk_group<S: ReadSlots, W: Draw, P: TakesPairs>(
+fn walk_group<S: ReadSlots, W: Draw, P: TakesPairs, L: Ledger>(
     slots: &mut S,
     guide: &Guide<'_, W>,
     level: u8,
     lead: &Lead,
     met: &mut Progress,
     sink: &mut P,
+    steps: &mut Steps<L>,
 ) -> Result<bool, Fault>
     requires count { (S.state slots.old).count ≡ (W.drawn guide.now.draw.now).slots }
     requires index { IsIndexOf (W.digests guide.now.draw.now)
@@ -148,13 +167,23 @@ fn walk_group<S: ReadSlots, W: Draw, P: TakesPairs>(
         (model_lead lead.now) (progress met.old.left met.old.last)
         (progress met.new.left met.new.last)
         (P.took sink.old) (P.took sink.new) result }
+    ensures steps { TakesSteps guide.now.entries.now steps.old steps.new met.old.left
+        met.new.left (vain_of (model_lead lead.now)) result }
     ensures follows { S.follows slots.old slots.new }
     ensures keeps { P.keeps sink.old sink.new }
 {
     let mut index = 0;
     'runs: loop {
         let label = label_in_group(level, lead, index);
-        let found = look_up(slots, guide, &label, &mut met.label_front, &mut met.slot)?;
+        steps.tick();
+        let found = look_up(
+            slots,
+            guide,
+            &label,
+            &mut met.label_front,
+            &mut met.slot,
+            steps,
+        )?;
         let Some(page) = &found else {
             return Ok(may_end(lead, index));
         };
@@ -162,7 +191,7 @@ fn walk_group<S: ReadSlots, W: Draw, P: TakesPairs>(
             return Ok(false);
         }
         met.left -= 1;
-        if !walk_cells(slots, guide, page, met, sink)? {
+        if !walk_cells(slots, guide, page, met, sink, steps)? {
             return Ok(false);
         }
         if is_last(level, page) {
@@ -175,27 +204,33 @@ fn walk_group<S: ReadSlots, W: Draw, P: TakesPairs>(
 /// Walks down from the start of each level, and says whether all pages of a table, so many, are met on the way and
 /// meet the conditions. It hands the pairs of level 0 on, in the order of their keys.
 ///
+/// Each label that it looks for counts as a step, and so does each look at a slot. These are at most twice the pages
+/// and once the levels, times one more than entries have one digest.
+///
 /// There have to be as many slots as the draw's, and the entries have to be an index of the pages in them, by the
 /// draw's digests. A fault of the slots ends the call; it writes nothing.
-pub fn walk_groups<S: ReadSlots, W: Draw, P: TakesPairs>(
+pub fn walk_groups<S: ReadSlots, W: Draw, P: TakesPairs, L: Ledger>(
     slots: &mut S,
     draw: &W,
     entries: &[Entry],
     used: u32,
     sink: &mut P,
+    steps: &mut Steps<L>,
 ) -> Result<bool, Fault>
     requires count { (S.state slots.old).count ≡ (W.drawn draw.now).slots }
     requires index { IsIndexOf (W.digests draw.now) (S.state slots.old) entries.now }
     ensures call { WalksTable (W.drawn draw.now) (S.state slots.old)
         (S.state slots.new) used (P.took sink.old)
         (P.took sink.new) result }
+    ensures steps { (most : ℕ) → AreFewAlike entries.now most
+        → steps.new ≤ steps.old + (2 * used + (W.drawn draw.now).height) * (1 + most) }
     ensures follows { S.follows slots.old slots.new }
     ensures keeps { P.keeps sink.old sink.new }
 {
     let mut met = Progress::none_of(used);
     let guide = Guide { draw, entries };
     for level in 0..draw.height() {
-        if !walk_group(slots, &guide, level, &Lead::Start, &mut met, sink)? {
+        if !walk_group(slots, &guide, level, &Lead::Start, &mut met, sink, steps)? {
             return Ok(false);
         }
     }

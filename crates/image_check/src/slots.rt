@@ -18,39 +18,16 @@ use std::sync::ledger::{Blank, Ledger};
 use store_base::{Fault, MAX_SLOTS, Params, ReadSlots};
 use table_order::check_order;
 
-/// As `count_pages`, with a ledger for steps that nobody counts.
-fn count_by<S: ReadSlots, L: Ledger>(
-    slots: &mut S,
-    draw: &AnyDraw,
-    height: u8,
-    entries: &mut [Entry],
-    blank: Blank,
-) -> Result<Option<u32>, Fault>
-    requires name { blank.name ≡ L.name }
-    requires parts { blank.parts ≡ L.parts }
-    requires some { 0 < L.parts }
-    requires count { (S.state slots.old).count ≡ (any_draw draw.now).slots }
-    requires most { (any_draw draw.now).slots ≤ MAX_SLOTS }
-    requires room { (any_draw draw.now).slots ≤ length entries.old }
-    ensures call { FindsOrder (any_draw draw.now) height (S.state slots.old)
-        (S.state slots.new) result }
-    ensures index { IfOk result
-        (λ found. IfSome found
-        (λ used. IsIndexOf (any_digest draw.now) (S.state slots.old) (take used entries.new))) }
-    ensures follows { S.follows slots.old slots.new }
-{
-    check_order(slots, draw, height, entries, &mut Steps::<L>::new(blank))
-}
-
 /// How many pages slots hold that are a table in order, with pages of levels below the height; `None` exactly where
 /// they are not. Where it counts pages it leaves an index of them in the first entries, one for each page.
 ///
 /// There has to be an entry for each slot at least. A fault of the slots is handed on.
-fn count_pages<S: ReadSlots>(
+fn count_pages<S: ReadSlots, L: Ledger>(
     slots: &mut S,
     draw: &AnyDraw,
     height: u8,
     entries: &mut [Entry],
+    steps: &mut Steps<L>,
 ) -> Result<Option<u32>, Fault>
     requires count { (S.state slots.old).count ≡ (any_draw draw.now).slots }
     requires most { (any_draw draw.now).slots ≤ MAX_SLOTS }
@@ -62,28 +39,39 @@ fn count_pages<S: ReadSlots>(
         (λ used. IsIndexOf (any_digest draw.now) (S.state slots.old) (take used entries.new))) }
     ensures follows { S.follows slots.old slots.new }
 {
-    count_by::<S, Brand>(slots, draw, height, entries, Blank::new(1))
+    check_order(slots, draw, height, entries, steps)
 }
 
-/// Finds what slots hold: `None` exactly where they are the layout of no tree. There have to be as many slots as the
-/// parameters say. A fault of the slots is handed on, and the slots are as they were. It takes no memory itself.
+/// As `find_contents`, with a ledger for the steps of the check.
 // A megabyte of entries is on the stack while it runs, and not in the frame of whoever calls it.
 #[inline(never)]
-pub fn find_contents<S: ReadSlots>(
+fn find_by<S: ReadSlots, L: Ledger>(
     slots: &mut S,
     params: &Params,
+    blank: Blank,
 ) -> Result<Option<Contents>, Fault>
-    requires { (S.state slots.old).count ≡ params.now.slots }
+    requires name { blank.name ≡ L.name }
+    requires parts { blank.parts ≡ L.parts }
+    requires some { 0 < L.parts }
+    requires count { (S.state slots.old).count ≡ params.now.slots }
     ensures call { FindsContents params.now (S.state slots.old) (S.state slots.new) result }
     ensures follows { S.follows slots.old slots.new }
 {
+    let mut steps = Steps::<L>::new(blank);
     let draw = AnyDraw::new(params);
     let mut entries = [Entry::BLANK; MAX_SLOTS as usize];
-    let Some(used) = count_pages(slots, &draw, params.height(), &mut entries)? else {
+    let Some(used) = count_pages(slots, &draw, params.height(), &mut entries, &mut steps)? else {
         return Ok(None);
     };
     let mut pairs = TreePairs::new(params.version());
-    if !walk_groups(slots, &draw, &entries[..used as usize], used, &mut pairs)? {
+    if !walk_groups(
+        slots,
+        &draw,
+        &entries[..used as usize],
+        used,
+        &mut pairs,
+        &mut steps,
+    )? {
         return Ok(None);
     }
     let Some(counts) = pairs.counts() else {
@@ -94,6 +82,19 @@ pub fn find_contents<S: ReadSlots>(
         used,
         counts,
     }))
+}
+
+/// Finds what slots hold: `None` exactly where they are the layout of no tree. There have to be as many slots as the
+/// parameters say. A fault of the slots is handed on, and the slots are as they were. It takes no memory itself.
+pub fn find_contents<S: ReadSlots>(
+    slots: &mut S,
+    params: &Params,
+) -> Result<Option<Contents>, Fault>
+    requires { (S.state slots.old).count ≡ params.now.slots }
+    ensures call { FindsContents params.now (S.state slots.old) (S.state slots.new) result }
+    ensures follows { S.follows slots.old slots.new }
+{
+    find_by::<S, Brand>(slots, params, Blank::new(1))
 }
 
 /// Checks slots: `Clean` exactly where they are the layout of a tree, and else `Damaged`; it never answers `NotImage`.

@@ -1,3 +1,4 @@
+pub mod Alike
 pub mod Looking
 pub mod Noted
 pub mod Reading

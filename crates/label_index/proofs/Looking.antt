@@ -24,7 +24,7 @@ pub record LooksTo (old now : SlotsState) (entries : List Entry) (l : Label) (di
   pub vain : IsObservable old → AreRising entries → AreVain old.slots entries l digest past
 
 -- a number is below another one, or is not
-below_or_from : (k at : ℕ) → (k < at) ⊎ (at ≤ k)
+pub below_or_from : (k at : ℕ) → (k < at) ⊎ (at ≤ k)
 below_or_from k zero = inr (omega arith)
 below_or_from zero (suc at) = inl (omega arith)
 below_or_from (suc k) (suc at) =

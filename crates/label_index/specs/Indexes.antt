@@ -1,5 +1,5 @@
 -- Indexes of the pages that lie in slots, by digests of their labels.
-use Rattle.std.specs.Prelude.{◌≡◌, ℕ, ◌<◌, ◌≤◌, List, length, slice_get, slice_index_or, Some}
+use Rattle.std.specs.Prelude.{◌≡◌, ℕ, ◌+◌, ◌<◌, ◌≤◌, List, length, slice_get, slice_index_or, Some}
 use Rattle.std.specs.List.{All, Contains}
 use Rattle.std.specs.List.Sorted.{IsPermutation, IsNonDecreasingBy}
 use Rattle.store_model.specs.Labels.{Label}
@@ -49,6 +49,12 @@ pub record AreNoted (digests : Label → ℕ) (state : SlotsState) (entries : Li
 pub record IsSortOf (old new : List Entry) : Type 0 where
   pub same : IsPermutation old new
   pub rising : AreRising new
+
+-- of more entries than so many, one behind the other, the first and the last have two digests: where digests don't
+-- fall, no digest has more entries
+abbrev pub AreFewAlike : List Entry → ℕ → Type 0
+AreFewAlike entries most = (k : ℕ) (e : Entry) → k + most < length entries
+    → (slice_index_or entries k e).digest ≡ (slice_index_or entries (k + most) e).digest → ⊥
 
 -- before this number the digests are below the given one, and from there on they are not
 abbrev pub IsPast : List Entry → ℕ → ℕ → Type 0

@@ -1,12 +1,14 @@
 //! The lookup of a page by its label.
 
-ghost use Rattle.std.specs.Prelude.{◌≡◌, ◌<◌, ◌≤◌, length};
-ghost use Rattle.label_index.specs.Indexes.{AreThere, IsPast};
+ghost use Rattle.std.specs.Prelude.{◌≡◌, ℕ, ◌+◌, ◌<◌, ◌≤◌, length};
+ghost use Rattle.label_index.specs.Indexes.{AreThere, AreFewAlike, IsPast};
 ghost use Rattle.label_index.specs.Lookups.{LooksUp};
 
 use crate::entry::Entry;
 use crate::read::page_in;
 use node_pages::Page;
+use ordered_table::Steps;
+use std::sync::ledger::Ledger;
 use store_base::{Fault, Label, ReadSlots, Slot};
 
 /// Where the entries of the digest begin, or those of the next greater one.
@@ -21,18 +23,20 @@ fn first_of(entries: &[Entry], digest: u64) -> usize
 /// such a page. The digest has to be the one that the index was made with.
 ///
 /// It reads the slots of the entries that have this digest into the buffer, one after another, until one holds the
-/// page. The slots that entries name have to be there. A fault of the slots ends the call; it writes nothing, and takes
-/// no memory.
-pub fn find_page<S: ReadSlots>(
+/// page. Each look at a slot counts as a step. The slots that entries name have to be there. A fault of the slots ends
+/// the call; it writes nothing, and takes no memory.
+pub fn find_page<S: ReadSlots, L: Ledger>(
     slots: &mut S,
     entries: &[Entry],
     label: &Label,
     digest: u64,
     slot: &mut Slot,
+    steps: &mut Steps<L>,
 ) -> Result<Option<Page>, Fault>
     requires { AreThere (S.state slots.old).count entries.now }
     ensures call { LooksUp (S.state slots.old)
         (S.state slots.new) entries.now label.now digest result }
+    ensures steps { (most : ℕ) → AreFewAlike entries.now most → steps.new ≤ steps.old + most }
     ensures follows { S.follows slots.old slots.new }
 {
     let first = first_of(entries, digest);
@@ -41,6 +45,7 @@ pub fn find_page<S: ReadSlots>(
         if entry.digest != digest {
             return Ok(None);
         }
+        steps.tick();
         // What was found is handed on as it came: a page is not taken out of it and put into another answer.
         match page_in(slots, entry.slot, label, slot) {
             Ok(None) => {}

@@ -3,8 +3,8 @@ use Rattle.std.proofs.Common.{Some, None, Ok}
 use Rattle.store_model.specs.Parameters.{Parameters}
 use Rattle.store_model.specs.Trees.{Tree}
 use Rattle.store_base.specs.SlotsState.{SlotsState, IsObservable}
-use Rattle.layout_scratch.specs.SlotReads.{ReadsSlots}
-use Rattle.layout_scratch.proofs.ReadLemmas.{reads_then, reads_answered}
+use Rattle.layout_opinion.specs.SlotReads.{ReadsSlots}
+use Rattle.layout_opinion.proofs.ReadLemmas.{reads_then, reads_answered}
 use Rattle.layout_conditions.specs.Layouts.{HaveLayout}
 use Rattle.layout_opinion.specs.declared.opinion.TreeSize.{TreeSize}
 use Rattle.layout_opinion.specs.Opinions.{HaveTree, JudgesSlots}

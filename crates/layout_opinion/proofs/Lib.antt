@@ -6,3 +6,5 @@ pub mod Judged
 pub mod SlotLemmas
 pub mod TablePairs
 pub mod Walk
+pub mod ComparedSlots
+pub mod ReadLemmas

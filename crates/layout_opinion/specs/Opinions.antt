@@ -5,7 +5,7 @@ use Rattle.store_model.specs.Trees.{Tree}
 use Rattle.store_model.specs.Pages.{page_count}
 use Rattle.store_base.specs.declared.store_fault.Fault.{Fault}
 use Rattle.store_base.specs.SlotsState.{SlotsState, IsObservable}
-use Rattle.layout_scratch.specs.SlotReads.{ReadsSlots}
+use Rattle.layout_opinion.specs.SlotReads.{ReadsSlots}
 use Rattle.layout_conditions.specs.Layouts.{HaveLayout}
 use Rattle.tree_reader.specs.Counts.{AreCounts}
 use Rattle.layout_opinion.specs.declared.opinion.TreeSize.{TreeSize}

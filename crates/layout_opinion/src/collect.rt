@@ -7,7 +7,7 @@ ghost use Rattle.store_model.specs.Pages as pages;
 ghost use Rattle.store_model.specs.Placement.{Table};
 ghost use Rattle.store_model.specs.Images.{slot_bytes, slots_of};
 ghost use Rattle.store_base.specs.SlotsState.{IsObservable};
-ghost use Rattle.layout_scratch.specs.SlotReads.{ReadsSlots};
+ghost use Rattle.layout_opinion.specs.SlotReads.{ReadsSlots};
 ghost use Rattle.layout_opinion.specs.Collected.{MayHold, pair_of, pairs_in, pairs_of_table, most_table_pairs};
 
 use node_pages::{Cell, Page, decode_page, label_in};

@@ -9,6 +9,7 @@
 mod attributes;
 mod blocks;
 mod collect;
+mod compare;
 mod entry;
 mod opinion;
 mod order;

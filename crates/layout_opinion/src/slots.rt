@@ -11,10 +11,11 @@ ghost use Rattle.tree_reader.specs.ReaderCalls.{AreCounted};
 ghost use Rattle.layout_opinion.specs.Opinions.{JudgesSlots};
 
 use crate::collect::read_pairs;
+use crate::compare::are_layout;
 use crate::opinion::TreeSize;
 use crate::order::{do_rise, list_of, sort_pairs};
 use crate::tree::count_tree;
-use layout_scratch::{ScratchFault, are_layout, build};
+use layout_scratch::{ScratchFault, build};
 use node_pages::PairList;
 use std::alloc::Global;
 use store_base::{Fault, Key, NoMemory, Params, ReadSlots, Value};

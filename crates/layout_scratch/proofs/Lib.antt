@@ -11,5 +11,3 @@ pub mod CountedKeys
 pub mod Rising
 pub mod SortedPairs
 pub mod WholeCut
-pub mod ComparedSlots
-pub mod ReadLemmas

@@ -2,10 +2,9 @@
 //! pages, and the pages placed by rank.
 //!
 //! Start at `build`. This is the plain program of the layout: what a store in place must come to, and what loads many
-//! pairs at once. Slots can be compared with it (`are_layout`).
+//! pairs at once.
 #![tactic(auto)]
 
-mod compare;
 mod count;
 mod counter;
 mod cut;
@@ -16,7 +15,6 @@ mod layout;
 mod place;
 mod ranked;
 
-pub use compare::are_layout;
 pub use counter::PageCounter;
 pub use fault::ScratchFault;
 pub use from_pairs::{build, build_sorted};

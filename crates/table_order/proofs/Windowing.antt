@@ -6,7 +6,7 @@ use Rattle.std.specs.Simd.{first_chunks}
 use Rattle.std.proofs.lemmas.List.{drop-append-le, take-append-le, drop-drop, length-drop}
 use Rattle.store_model.specs.Images.{bytes_at}
 use Rattle.store_base.specs.SlotsState.{SlotsState, IsObservable, IsGetSome}
-use Rattle.table_order.specs.Windows.{IsWindowOf}
+use Rattle.table_order.specs.Windows.{IsWindowOf, window_len}
 use Rattle.table_order.specs.declared.window.Window.{Window}
 
 -- a part of the bytes in front
@@ -28,7 +28,7 @@ chunk_at n (suc count) (suc i) xs below =
     ∙ ap (λ (m : ℕ). take n (drop m xs)) next
 
 -- slots that were read into the first bytes of a window
-pub window_read : (old new : SlotsState) (at count : ℕ) (buffer rest : List ℕ) → length buffer ≤ 65536
+pub window_read : (old new : SlotsState) (at count : ℕ) (buffer rest : List ℕ) → length buffer ≤ window_len
     → IsGetSome old new at buffer (Ok count)
     → IsWindowOf new (record { first = at; count = count; bytes = buffer ++ rest })
 window_read old new at count buffer rest long get = record {

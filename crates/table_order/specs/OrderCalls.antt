@@ -24,7 +24,7 @@ Checks d height slots found = MatchOption found
     ((table : Table) → IsOrderedBelow d height slots table → ⊥)
     (λ used. (table : Table) × IsOrderedBelow d height slots table × (used ≡ length (pages_in table)))
 
--- what the check of the order does, with a step for each slot that is read and for each start that is drawn
+-- what the check of the order does, with a step for each look at a slot and for each start that is drawn
 pub record ChecksOrder (d : Draw) (height : ℕ) (old new : SlotsState) (before after : ℕ)
     (result : Result (Option ℕ) Fault) : Type 0 where
   pub calls : AreSlotCalls old new result

@@ -34,7 +34,7 @@ HoldsSmaller table slot l = (other : Page) × HoldsPage table slot other × (lab
 abbrev pub IsBar : Table → ℕ → Type 0
 IsBar table slot = (at : ℕ) (page : Page) → HoldsPage table at page → HoldsSmaller table slot page.label → ⊥
 
--- what the search for a slot that no page passes does, with a step for each read
+-- what the search for a slot that no page passes does, with a step for each look at a slot
 pub record FindsBar (old new : SlotsState) (before after : ℕ) (result : Result ℕ Fault) : Type 0 where
   pub calls : AreSlotCalls old new result
   pub reads : IsObservable old → new.slots ≡ old.slots
@@ -75,7 +75,7 @@ pub record JumpsLeft (reach : List ℕ) (run from steps most : ℕ) : Type 0 whe
   pub back : LeadsBack reach run from jumps
   pub counted : steps + jumps ≤ most
 
--- what going back over the way of a page does, with a step for each read
+-- what going back over the way of a page does, with a step for each look at a slot
 pub record Passes (round : Round) (old new : SlotsState) (page : Standing) (reach : List ℕ) (before after : ℕ)
     (result : Result (Option ℕ) Fault) : Type 0 where
   pub calls : AreSlotCalls old new result

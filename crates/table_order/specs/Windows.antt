@@ -5,9 +5,13 @@ use Rattle.store_model.specs.Images.{bytes_at}
 use Rattle.store_base.specs.SlotsState.{SlotsState, IsObservable, HoldsSlots}
 use Rattle.table_order.specs.declared.window.Window.{Window}
 
+-- how many bytes a window has: those of one read
+abbrev pub window_len : ℕ
+window_len = 65536
+
 -- the window has the bytes that the slots have
 pub record IsWindowOf (state : SlotsState) (window : Window) : Type 0 where
-  pub room : block_len * window.count ≤ 65536
+  pub room : block_len * window.count ≤ window_len
   pub held : IsObservable state → HoldsSlots state.slots window.first window.bytes window.count
 
 -- the window has this slot

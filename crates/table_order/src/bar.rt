@@ -10,7 +10,7 @@ use store_base::{Fault, Label, Lead, ReadSlots};
 use store_model::BLOCK;
 
 /// Finds a slot that no page of a table in order passes on its way from its start: the first one that is free, or,
-/// where none is, that of the greatest label. Each slot that is read counts as a step.
+/// where none is, that of the greatest label. Each look at a slot counts as a step.
 ///
 /// There has to be a slot. A fault of the slots ends the call.
 pub(crate) fn find_bar<S: ReadSlots, L: Ledger>(

@@ -92,7 +92,8 @@ fn sort_noted(entries: &mut [Entry], found: &Result<Option<u32>, Fault>)
 /// Where it counts pages it leaves an index of them in the first entries, one for each page, by the draw's digests of
 /// their labels. So each label is digested once, for its start and for the index.
 ///
-/// Each slot that is read and each start that is drawn counts as a step: they are at most four for each slot.
+/// Each look at a slot and each start that is drawn counts as a step: they are at most four for each slot. One read may
+/// serve several looks.
 ///
 /// There have to be as many slots as the draw's, at most `MAX_SLOTS`, and an entry for each at least. A fault of the
 /// slots ends the call, and the slots are as they were. The call takes no memory, so want of memory comes only from

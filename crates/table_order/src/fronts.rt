@@ -10,7 +10,7 @@ use store_base::Label;
 /// How many fronts there are: one for each checksum of a byte.
 const FRONT_COUNT: usize = 256;
 
-/// So many first bytes of a label lie in what a front digests.
+/// A front is found by so many first bytes of a label. What it digests is longer.
 const FRONT_PART: usize = 88;
 
 /// What digests of labels are taken from that begin alike, as those of the pages of one file, in whatever order they

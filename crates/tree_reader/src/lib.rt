@@ -12,10 +12,8 @@ mod attributes;
 mod counts;
 mod first;
 mod reader;
-mod whole;
 
 pub use attributes::{has_attributes, is_above};
 pub use counts::Counts;
 pub use first::Entry;
 pub use reader::TreeReader;
-pub use whole::count_tree;

@@ -137,7 +137,14 @@ fn walk_in<L: Ledger>(
     let Some(pages) = check_order(slots, draw, draw.height(), &mut entries, &mut steps)? else {
         return Err(Fault::Disk);
     };
-    walk_groups(slots, draw, &entries[..pages as usize], used, fronts)
+    walk_groups(
+        slots,
+        draw,
+        &entries[..pages as usize],
+        used,
+        fronts,
+        &mut steps,
+    )
 }
 
 /// As `walk_in`, with a ledger for steps that nobody counts.

@@ -1,5 +1,6 @@
 //! The check of a table's order: held to what the order says, slot by slot, over all tables of four slots; and on
-//! tables of 1,024 slots, also such as are made to take work, with its reads and the starts that it draws counted.
+//! tables of 1,024 slots, also such as are made to take work, with its reads, the starts that it draws and the labels
+//! that it digests counted.
 
 ghost use Rattle.std.specs.Prelude.{◌≡◌, ◌≤◌, ◌<◌};
 ghost use Rattle.seeded_draw.specs.AnyDrawn.{any_draw, any_digest, any_is_lawful};
@@ -19,11 +20,39 @@ use test_samples::{key, slot_with, start_label};
 /// What a slot holds: a page of this rank that starts in this slot, or nothing.
 pub(super) type Entry = Option<(u16, u32)>;
 
-/// A draw that counts the starts that it draws.
+/// A draw that counts the starts that it draws, and the labels that it digests. Digests are what costs under `sha256`.
 #[derive(Drop)]
 pub(super) struct CountedDraw {
     pub(super) draw: AnyDraw,
-    pub(super) starts: std::cell::Cell<u64>,
+    starts: std::cell::Cell<u64>,
+    digests: std::cell::Cell<u64>,
+}
+
+impl CountedDraw {
+    /// Makes a draw that has counted nothing.
+    pub(super) fn new(draw: AnyDraw) -> CountedDraw
+        ensures { result.draw ≡ draw }
+    {
+        CountedDraw {
+            draw,
+            starts: std::cell::Cell::new(0),
+            digests: std::cell::Cell::new(0),
+        }
+    }
+
+    /// What was counted, with so many reads.
+    pub(super) fn counts(&self, reads: u64) -> Counts {
+        Counts {
+            reads,
+            starts: self.starts.get(),
+            digests: self.digests.get(),
+        }
+    }
+}
+
+/// Adds one to a count.
+fn count(so_far: &std::cell::Cell<u64>) {
+    so_far.set(so_far.get().saturating_add(1));
 }
 
 impl Draw for CountedDraw {
@@ -42,16 +71,18 @@ impl Draw for CountedDraw {
     }
 
     fn start(&self, label: &Label) -> u32 {
-        self.starts.set(self.starts.get().saturating_add(1));
+        count(&self.starts);
+        count(&self.digests);
         self.draw.start(label)
     }
 
     fn start_by(&self, label: &Label, digest: u64) -> u32 {
-        self.starts.set(self.starts.get().saturating_add(1));
+        count(&self.starts);
         self.draw.start_by(label, digest)
     }
 
     fn digest_from(&self, front: &mut Front, label: &Label) -> u64 {
+        count(&self.digests);
         self.draw.digest_from(front, label)
     }
 
@@ -60,12 +91,35 @@ impl Draw for CountedDraw {
     }
 }
 
-/// What a check answered, with its reads and the starts that it drew.
+/// How many slots a check read, how many starts it drew, and how many labels it digested.
+#[derive(Clone, Copy)]
+pub(super) struct Counts {
+    pub(super) reads: u64,
+    pub(super) starts: u64,
+    pub(super) digests: u64,
+}
+
+/// Holds what was counted of a table to the most that is wanted. The words and the number say which table it is.
+pub(super) fn hold(rt: &impl Abort, words: &str, number: u32, counts: Counts, most: Counts) {
+    let Counts {
+        reads,
+        starts,
+        digests,
+    } = counts;
+    assert!(rt;
+        reads <= most.reads && starts <= most.starts && digests <= most.digests,
+        "{words} {number}: {reads} reads, {starts} starts, {digests} digests; {}, {}, {} at most wanted",
+        most.reads,
+        most.starts,
+        most.digests
+    );
+}
+
+/// What a check answered, and what was counted of it.
 #[derive(Clone, Copy)]
 struct Checked {
     used: Option<u32>,
-    reads: u64,
-    starts: u64,
+    counts: Counts,
 }
 
 /// The label of this rank that starts in this slot under `ruler`, of a number of slots that divides 1,024.
@@ -132,16 +186,12 @@ fn check_slots(rt: &impl Abort, mut slots: MemSlots, draw: AnyDraw) -> Checked
     requires { (mem_state slots).count ≡ (any_draw draw).slots }
 {
     assert!(rt; draw.slots() <= MANY);
-    let counted = CountedDraw {
-        draw,
-        starts: std::cell::Cell::new(0),
-    };
+    let counted = CountedDraw::new(draw);
     let before = slots.calls();
     let used = used(&mut slots, &counted).expect(rt, "a check");
     Checked {
         used,
-        reads: slots.calls().saturating_sub(before),
-        starts: counted.starts.get(),
+        counts: counted.counts(slots.calls().saturating_sub(before)),
     }
 }
 
@@ -220,17 +270,14 @@ fn all_tables_of_four_slots(rt: HostRuntime) {
             entry(number / 2197),
         ];
         let wanted = pages_in_order(&entries);
-        let check = check_entries(&rt, rt.alloc(), 4, &entries);
-        let Checked {
-            used,
-            reads,
-            starts,
-        } = check;
+        let Checked { used, counts } = check_entries(&rt, rt.alloc(), 4, &entries);
         assert_eq!(&rt; used, wanted, "the pages of table {number}");
-        assert!(&rt;
-            reads <= 12 && starts <= 4,
-            "{reads} reads and {starts} starts of table {number}, at most 12 and 4 wanted"
-        );
+        let most = Counts {
+            reads: 12,
+            starts: 4,
+            digests: 4,
+        };
+        hold(&rt, "table", number, counts, most);
         if wanted.is_some() {
             in_order = in_order.saturating_add(1);
         }
@@ -241,6 +288,13 @@ fn all_tables_of_four_slots(rt: HostRuntime) {
 
 /// How many slots the tables have that are made to take work.
 pub(super) const MANY: u32 = 1024;
+
+/// The most that is wanted of a check of the order of such a table.
+const MOST: Counts = Counts {
+    reads: 3 * 1024,
+    starts: 1024,
+    digests: 1024,
+};
 
 /// A table that takes a square of its slots where a check jumps back over pages alone whose own way is known. Half of
 /// the pages stand where they start, and of the others one by turns starts before all and one just behind that half.
@@ -269,22 +323,19 @@ fn ways_that_are_jumped_over(rt: HostRuntime) {
     for (turn, is_marred) in [(0, false), (700, false), (0, true), (700, true)] {
         let entries = jumps(rt.alloc(), turn, is_marred).expect(&rt, "memory");
         let wanted = if is_marred { None } else { Some(MANY) };
-        let check = check_entries(&rt, rt.alloc(), MANY, &entries);
-        let Checked {
-            used,
-            reads,
-            starts,
-        } = check;
+        let Checked { used, counts } = check_entries(&rt, rt.alloc(), MANY, &entries);
         let found = [pages_in_order(&entries), used];
         assert_eq!(&rt;
             found,
             [wanted; 2],
             "a table turned by {turn}, marred: {is_marred}"
         );
-        assert!(&rt;
-            reads <= 3 * 1024 && starts <= 1024,
-            "{reads} reads and {starts} starts at {turn}, at most 3,072 and 1,024 wanted"
-        );
+        let words = if is_marred {
+            "marred, turned by"
+        } else {
+            "turned by"
+        };
+        hold(&rt, words, turn, counts, MOST);
     }
 }
 
@@ -323,16 +374,9 @@ fn check_pages(rt: &impl Abort, alloc: Global, kind: DrawKind, pages: u32) -> Ch
 fn full_tables_and_almost_full_ones(rt: HostRuntime) {
     for kind in [DrawKind::Ruler, DrawKind::Sha256] {
         for pages in [MANY, MANY - 1, MANY / 2] {
-            let Checked {
-                used,
-                reads,
-                starts,
-            } = check_pages(&rt, rt.alloc(), kind, pages);
+            let Checked { used, counts } = check_pages(&rt, rt.alloc(), kind, pages);
             assert_eq!(&rt; used, Some(pages), "{pages} pages, {kind:?}");
-            assert!(&rt;
-                reads <= 3 * 1024 && starts <= 1024,
-                "{reads} reads and {starts} starts of {pages} pages, at most 3,072 and 1,024 wanted"
-            );
+            hold(&rt, "pages:", pages, counts, MOST);
         }
     }
 }

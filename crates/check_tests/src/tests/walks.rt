@@ -1,12 +1,13 @@
-//! The check of a table's order, and the walk over its groups behind it: their reads of slots and the starts that
-//! they draw, on full tables of 1,024 slots, also such as are made to take work. The limits are eight reads and four
-//! starts for each slot; what is held here is half of the one and a quarter of the other.
+//! The check of a table's order, and the walk over its groups behind it: their reads of slots, the starts that they
+//! draw and the labels that they digest, on full tables of 1,024 slots, also such as are made to take work. The limits
+//! are eight reads, four starts and four digests for each slot. What is held here is half of the first, a quarter of
+//! the second and the whole of the third.
 
 ghost use Rattle.std.specs.Prelude.{◌≡◌, ◌≤◌, ◌<◌};
 ghost use Rattle.seeded_draw.specs.AnyDrawn.{any_draw};
 ghost use Rattle.ordered_table.specs.MemSlots.{mem_state};
 
-use super::orders::{CountedDraw, MANY, jumps, slots_with};
+use super::orders::{CountedDraw, Counts, MANY, hold, jumps, slots_with};
 use group_walk::{TakesPairs, walk_groups};
 use label_index::Entry;
 use ordered_table::{MemSlots, Steps};
@@ -40,14 +41,20 @@ impl TakesPairs for PairCount {
     }
 }
 
-/// What a check answered, the pairs that it came to, its reads, and the starts that it drew.
+/// What a check answered, the pairs that it came to, and what was counted of it.
 #[derive(Clone, Copy)]
 struct Checked {
     is_whole: bool,
     pairs: u32,
-    reads: u64,
-    starts: u64,
+    counts: Counts,
 }
+
+/// The most that is wanted of a check and the walk behind it.
+const MOST: Counts = Counts {
+    reads: 4 * 1024,
+    starts: 1024,
+    digests: 4 * 1024,
+};
 
 /// Whether the slots are a table in order, and the walk comes to all of its pages.
 fn check_by<L: Ledger>(
@@ -67,7 +74,14 @@ fn check_by<L: Ledger>(
     let Some(used) = check_order(slots, draw, draw.height(), &mut entries, &mut steps)? else {
         return Ok(false);
     };
-    walk_groups(slots, draw, &entries[..used as usize], used, sink)
+    walk_groups(
+        slots,
+        draw,
+        &entries[..used as usize],
+        used,
+        sink,
+        &mut steps,
+    )
 }
 
 /// As `check_by`, with a ledger for the steps.
@@ -83,18 +97,14 @@ fn count_check(rt: &impl Abort, mut slots: MemSlots, draw: AnyDraw) -> Checked
     requires { (mem_state slots).count ≡ (any_draw draw).slots }
 {
     assert!(rt; draw.slots() <= MANY);
-    let counted = CountedDraw {
-        draw,
-        starts: std::cell::Cell::new(0),
-    };
+    let counted = CountedDraw::new(draw);
     let mut sink = PairCount { pairs: 0 };
     let before = slots.calls();
     let is_whole = check(&mut slots, &counted, &mut sink).expect(rt, "a check");
     Checked {
         is_whole,
         pairs: sink.pairs,
-        reads: slots.calls().saturating_sub(before),
-        starts: counted.starts.get(),
+        counts: counted.counts(slots.calls().saturating_sub(before)),
     }
 }
 
@@ -121,18 +131,14 @@ fn hold_full_table(rt: &impl Abort, alloc: Global, kind: DrawKind, height: u8, k
     let Checked {
         is_whole,
         pairs,
-        reads,
-        starts,
+        counts,
     } = count_check(rt, slots, AnyDraw::new(&params));
     let count = keys.len();
     assert!(rt;
         is_whole && pairs as usize == count,
         "whole: {is_whole}, with {pairs} pairs, {count} wanted"
     );
-    assert!(rt;
-        reads <= 4 * 1024 && starts <= 1024,
-        "{reads} reads and {starts} starts, at most 4,096 and 1,024 wanted"
-    );
+    hold(rt, "pairs:", pairs, counts, MOST);
 }
 
 /// So many keys of three letters below `@`, in their order.
@@ -199,15 +205,16 @@ fn ways_made_for_jumping_back(rt: HostRuntime) {
         let slots = slots_with(&rt, rt.alloc(), draw.slots(), &entries);
         let Checked {
             is_whole,
-            reads,
-            starts,
+            counts,
             ..
         } = count_check(&rt, slots, draw);
         // No start leads to its groups, so the walk comes to none of its pages.
         assert!(&rt; !is_whole, "turned by {turn}, marred: {is_marred}");
-        assert!(&rt;
-            reads <= 4 * 1024 && starts <= 1024,
-            "{reads} reads and {starts} starts at {turn}, at most 4,096 and 1,024 wanted"
-        );
+        let words = if is_marred {
+            "marred, turned by"
+        } else {
+            "turned by"
+        };
+        hold(&rt, words, turn, counts, MOST);
     }
 }

@@ -115,7 +115,7 @@ fn expect_fault(rt: &impl Abort, machine: &mut Machine, from: u64) {
 #[test]
 fn a_fault_of_the_disk_ends_the_commands(rt: HostRuntime) {
     let mut machine = Machine::new(rt.alloc());
-    for from in 66..70 {
+    for from in 60..64 {
         expect_fault(&rt, &mut machine, from);
     }
 }

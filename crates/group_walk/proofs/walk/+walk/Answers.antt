@@ -1,9 +1,10 @@
-use Rattle.std.proofs.Common.{◌≡◌, ℕ, ◌-◌, Bool, List, [], ◌∷◌, ◌++◌, Option, Some, None, Ok, true, false, refl, sym}
-use Rattle.std.proofs.Common.{ap, subst, ◌∙◌, arith}
+use Rattle.std.proofs.Common.{◌≡◌, ℕ, ◌+◌, ◌-◌, Bool, List, [], ◌∷◌, ◌++◌, Option, Some, None, Ok, true, false, refl}
+use Rattle.std.proofs.Common.{sym, ap, subst, ◌∙◌, arith}
+use Rattle.std.proofs.lemmas.Bool.{false≢true}
 use Rattle.std.proofs.lemmas.Result.{err_from_is_err_and}
 use Rattle.store_base.specs.Leads.{model_lead}
 use Rattle.store_model.specs.Labels.{Label}
-use Rattle.store_model.specs.Labels.Lead.{Leader}
+use Rattle.store_model.specs.Labels.Lead.{Start, Leader}
 use Rattle.store_model.specs.Pairs.{Pair}
 use Rattle.store_model.specs.Pages.{Cell, Page}
 use Rattle.group_walk.specs.Lookups.{FindsPage}
@@ -14,6 +15,8 @@ use Rattle.group_walk.proofs.BelowCells.{walks_group_below, walks_pair, walks_no
 use Rattle.group_walk.proofs.CellSteps.{cells_begin, cells_next, cells_refuted, cells_wrong, cells_done}
 use Rattle.group_walk.proofs.GroupSteps.{runs_begin}
 use Rattle.group_walk.proofs.GroupEnds.{runs_absent, runs_overfull, runs_failed, runs_next, runs_done, runs_refuted}
+use Rattle.group_walk.proofs.StepLemmas.{keeps_first, keeps_then, looks_once, runs_first, runs_vain, runs_end, runs_met}
+use Rattle.group_walk.proofs.StepLemmas.{runs_below, runs_early, runs_whole}
 use Rattle.group_walk.proofs.walk.+walk.Goals as goal
 
 pub walk_cell-returns-then-level-gt0-clause-call : goal.walk_cell-returns-then-level-gt0-clause-call
@@ -54,6 +57,7 @@ walk_cells-loop-i-init g t c = (
       c.args.page.now (progress c.args.met.now.left c.args.met.now.last) _,
   g.met.S.ReadSlots.follows_refl c.args.slots.now,
   g.met.P.TakesPairs.keeps_refl c.args.sink.now,
+  keeps_first c.args.guide.now.entries.now c.args.steps.now c.args.met.now.left,
 )
 
 pub walk_cells-returns-then-not-is_next-clause-call :
@@ -122,6 +126,9 @@ walk_cells-loop-i-preserved g t c =
           c.in_ok-walk_cell.ensures.follows,
       g.met.P.TakesPairs.keeps_trans c.args.sink.now c.loop-i.sink c.walk_cell.new.sink c.loop-i.invariant.2
           c.in_ok-walk_cell.ensures.keeps,
+      keeps_then c.args.guide.now.entries.now c.args.steps.now c.loop-i.steps c.walk_cell.new.steps
+          c.args.met.now.left c.loop-i.met.left c.walk_cell.new.met.left 0 c.loop-i.invariant.3
+          (c.in_ok-walk_cell.ensures.steps.whole c.if-not-branch.false),
     )
 
 pub walk_cells-returns-clause-call : goal.walk_cells-returns-clause-call
@@ -137,6 +144,7 @@ walk_group-runs-init g t c = (
       (progress c.args.met.now.left c.args.met.now.last) _,
   g.met.S.ReadSlots.follows_refl c.args.slots.now,
   g.met.P.TakesPairs.keeps_refl c.args.sink.now,
+  runs_first c.args.guide.now.entries.now c.args.steps.now c.args.met.now.left,
 )
 
 pub walk_group-returns-in_default-clause-call :
@@ -235,12 +243,17 @@ walk_group-returns-then-is_last-clause-call g t c =
 
 pub walk_group-runs-preserved : goal.walk_group-runs-preserved
 walk_group-runs-preserved g t c =
+    let entries = c.args.guide.now.entries.now in
+    let looks = looks_once entries c.runs.steps c.tick.new.self c.look_up.new.steps c.tick.ensures
+    c.in_ok-found.ensures.steps in
+    let some = c.if-met-eq0.false in
+    let met = runs_met entries c.args.steps.now c.runs.steps c.look_up.new.steps c.args.met.now.left c.runs.met.left
+    (c.runs.met.left - 1) c.runs.index c.runs.invariant.3 looks (omega (arith, some)) in
     let d = g.W.Draw.drawn c.args.guide.now.draw.now in
     let now = g.S.ReadSlots.state c.runs.slots in
     let seen = g.S.ReadSlots.state c.look_up.new.slots in
     let new = g.S.ReadSlots.state c.walk_cells.new.slots in
     let taken : Progress = record { left = c.runs.met.left - 1; last = c.runs.met.last } in
-    let some = c.if-met-eq0.false in
     let follows = g.met.S.ReadSlots.follows_trans c.args.slots.now c.runs.slots c.look_up.new.slots c.runs.invariant.1
     c.in_ok-found.ensures.follows in (
       runs_next d (g.S.ReadSlots.state c.args.slots.now) now seen c.args.level (model_lead c.args.lead.now)
@@ -260,6 +273,9 @@ walk_group-runs-preserved g t c =
           c.in_ok-walk_cells.ensures.follows,
       g.met.P.TakesPairs.keeps_trans c.args.sink.now c.runs.sink c.walk_cells.new.sink c.runs.invariant.2
           c.in_ok-walk_cells.ensures.keeps,
+      runs_below entries c.args.steps.now c.look_up.new.steps c.walk_cells.new.steps c.args.met.now.left
+          (c.runs.met.left - 1) c.walk_cells.new.met.left (c.runs.index + 1) met
+          (c.in_ok-walk_cells.ensures.steps.whole c.if-not-branch.false),
     )
 
 pub walk_cell-returns-in_default-clause-call : goal.walk_cell-returns-in_default-clause-call
@@ -272,3 +288,73 @@ walk_cell-returns-in_default-clause-call g t c =
     subst (λ (n : ℕ). WalksCell d state state n c.args.cell.now (progress c.args.met.now.left c.args.met.now.last)
     (progress c.args.met.now.left c.args.met.now.last) took took (Ok false)) (sym zero_is)
     (walks_no_pair d state c.args.cell.now (progress c.args.met.now.left c.args.met.now.last) took none)
+
+pub walk_group-returns-in_default-clause-steps : goal.walk_group-returns-in_default-clause-steps
+walk_group-returns-in_default-clause-steps g t c =
+    let entries = c.args.guide.now.entries.now in
+    let looks = looks_once entries c.runs.steps c.tick.new.self c.look_up.new.steps c.tick.ensures
+    c.in_ok-found.ensures.steps in
+    record {
+      most = runs_vain entries c.args.steps.now c.runs.steps c.look_up.new.steps c.args.met.now.left c.runs.met.left
+          c.runs.index c.runs.invariant.3 looks;
+      whole = λ yes. runs_end entries c.args.steps.now c.runs.steps c.look_up.new.steps c.args.met.now.left
+          c.runs.met.left c.runs.index (model_lead c.args.lead.now) c.runs.invariant.3 looks (c.may_end.ensures.0 yes);
+    }
+
+pub walk_group-returns-then-met-eq0-clause-steps : goal.walk_group-returns-then-met-eq0-clause-steps
+walk_group-returns-then-met-eq0-clause-steps g t c =
+    let entries = c.args.guide.now.entries.now in
+    let looks = looks_once entries c.runs.steps c.tick.new.self c.look_up.new.steps c.tick.ensures
+    c.in_ok-found.ensures.steps in
+    record {
+      most = runs_vain entries c.args.steps.now c.runs.steps c.look_up.new.steps c.args.met.now.left c.runs.met.left
+          c.runs.index c.runs.invariant.3 looks;
+      whole = λ no. absurd (false≢true no);
+    }
+
+pub walk_group-returns-in_err-walk_cells-clause-steps : goal.walk_group-returns-in_err-walk_cells-clause-steps
+walk_group-returns-in_err-walk_cells-clause-steps g t c =
+    let entries = c.args.guide.now.entries.now in
+    let looks = looks_once entries c.runs.steps c.tick.new.self c.look_up.new.steps c.tick.ensures
+    c.in_ok-found.ensures.steps in
+    let some = c.if-met-eq0.false in
+    let met = runs_met entries c.args.steps.now c.runs.steps c.look_up.new.steps c.args.met.now.left c.runs.met.left
+    (c.runs.met.left - 1) c.runs.index c.runs.invariant.3 looks (omega (arith, some)) in
+    let p = err_from_is_err_and c.from_residual-in_err-walk_cells.result c.from_residual-in_err-walk_cells.ensures.1 in
+    rw (p.1, p.2) (record {
+      most = runs_early entries c.args.steps.now c.look_up.new.steps c.walk_cells.new.steps c.args.met.now.left
+          (c.runs.met.left - 1) c.walk_cells.new.met.left c.runs.index met c.in_err-walk_cells.ensures.steps.most;
+      whole = tt;
+    })
+
+pub walk_group-returns-then-not-branch-clause-steps : goal.walk_group-returns-then-not-branch-clause-steps
+walk_group-returns-then-not-branch-clause-steps g t c =
+    let entries = c.args.guide.now.entries.now in
+    let looks = looks_once entries c.runs.steps c.tick.new.self c.look_up.new.steps c.tick.ensures
+    c.in_ok-found.ensures.steps in
+    let some = c.if-met-eq0.false in
+    let met = runs_met entries c.args.steps.now c.runs.steps c.look_up.new.steps c.args.met.now.left c.runs.met.left
+    (c.runs.met.left - 1) c.runs.index c.runs.invariant.3 looks (omega (arith, some)) in
+    record {
+      most = runs_early entries c.args.steps.now c.look_up.new.steps c.walk_cells.new.steps c.args.met.now.left
+          (c.runs.met.left - 1) c.walk_cells.new.met.left c.runs.index met c.in_ok-walk_cells.ensures.steps.most;
+      whole = λ no. absurd (false≢true no);
+    }
+
+pub walk_group-returns-then-is_last-clause-steps : goal.walk_group-returns-then-is_last-clause-steps
+walk_group-returns-then-is_last-clause-steps g t c =
+    let entries = c.args.guide.now.entries.now in
+    let looks = looks_once entries c.runs.steps c.tick.new.self c.look_up.new.steps c.tick.ensures
+    c.in_ok-found.ensures.steps in
+    let some = c.if-met-eq0.false in
+    let met = runs_met entries c.args.steps.now c.runs.steps c.look_up.new.steps c.args.met.now.left c.runs.met.left
+    (c.runs.met.left - 1) c.runs.index c.runs.invariant.3 looks (omega (arith, some)) in
+    let below = runs_below entries c.args.steps.now c.look_up.new.steps c.walk_cells.new.steps c.args.met.now.left
+    (c.runs.met.left - 1) c.walk_cells.new.met.left (c.runs.index + 1) met
+    (c.in_ok-walk_cells.ensures.steps.whole c.if-not-branch.false) in
+    record {
+      most = runs_whole entries c.args.steps.now c.walk_cells.new.steps c.args.met.now.left c.walk_cells.new.met.left
+          (c.runs.index + 1) Start below;
+      whole = λ yes. runs_whole entries c.args.steps.now c.walk_cells.new.steps c.args.met.now.left
+          c.walk_cells.new.met.left (c.runs.index + 1) (model_lead c.args.lead.now) below;
+    }

@@ -1,8 +1,10 @@
 use Rattle.std.proofs.Common.{◌+◌, ◌*◌}
 use Rattle.store_base.specs.Leads.{model_lead}
+use Rattle.group_walk.specs.Costs.{KeepsTo}
 use Rattle.group_walk.specs.Streams.{progress}
 use Rattle.group_walk.proofs.CellSteps.{CellsSoFar}
 use Rattle.group_walk.proofs.GroupSteps.{RunsSoFar}
+use Rattle.group_walk.proofs.StepLemmas.{RunsKeepTo}
 use Rattle.group_walk.proofs.walk.+walk.Given as goal
 
 -- a walk goes down by level, and on each from a group to its pages to their cells
@@ -21,6 +23,7 @@ invariant-walk_cells-loop-i g l =
     (g.S.ReadSlots.state l.slots) l.fn.page l.i (progress l.fn.met.left l.fn.met.last)
     (progress l.met.left l.met.last) (g.P.TakesPairs.took l.fn.sink) (g.P.TakesPairs.took l.sink)
     × g.S.ReadSlots.follows l.fn.slots l.slots × g.P.TakesPairs.keeps l.fn.sink l.sink
+    × KeepsTo l.fn.guide.entries.now l.fn.steps l.steps l.fn.met.left l.met.left 0
 
 abbrev pub invariant-walk_group-runs : goal.invariant-walk_group-runs
 invariant-walk_group-runs g l =
@@ -28,6 +31,7 @@ invariant-walk_group-runs g l =
     (g.S.ReadSlots.state l.slots) l.fn.level (model_lead l.fn.lead) l.index (progress l.fn.met.left l.fn.met.last)
     (progress l.met.left l.met.last) (g.P.TakesPairs.took l.fn.sink) (g.P.TakesPairs.took l.sink)
     × g.S.ReadSlots.follows l.fn.slots l.slots × g.P.TakesPairs.keeps l.fn.sink l.sink
+    × RunsKeepTo l.fn.guide.entries.now l.fn.steps l.steps l.fn.met.left l.met.left l.index
 
 -- each run is one page less that is left
 abbrev pub decreases-walk_group-runs : goal.decreases-walk_group-runs

@@ -1,3 +1,4 @@
+use Rattle.group_walk.specs.Costs.{KeepsTo}
 use Rattle.group_walk.specs.Streams.{progress}
 use Rattle.group_walk.proofs.TableSteps.{LevelsSoFar}
 use Rattle.group_walk.proofs.walk.walk_groups.Given as goal
@@ -8,3 +9,4 @@ invariant-loop-level g l =
     (g.S.ReadSlots.state l.slots) l.level l.fn.used (progress l.met.left l.met.last) (g.P.TakesPairs.took l.fn.sink)
     (g.P.TakesPairs.took l.sink)
     × g.S.ReadSlots.follows l.fn.slots l.slots × g.P.TakesPairs.keeps l.fn.sink l.sink
+    × KeepsTo l.fn.entries l.fn.steps l.steps l.fn.used l.met.left l.level

@@ -1,7 +1,8 @@
-use Rattle.std.proofs.Common.{◌<◌, Ok, length, slice_index_or, ap, ◌∙◌, subst, arith}
+use Rattle.std.proofs.Common.{◌+◌, ◌<◌, Ok, length, slice_index_or, ap, ◌∙◌, subst, arith}
 use Rattle.std.proofs.lemmas.List.{get_or_default}
 use Rattle.label_index.specs.declared.entry.Entry.{Entry}
 use Rattle.label_index.specs.Lookups.{ReadsPage}
+use Rattle.label_index.proofs.Alike.{looked_at_next, looked_at_few}
 use Rattle.label_index.proofs.Looking.{looks_next, looks_beyond}
 use Rattle.label_index.proofs.find.find_page.Goals as goal
 
@@ -34,4 +35,42 @@ loop-at-preserved g c =
           (λ e. get_or_default entries at e blank within) c.loop-at.invariant.0 read,
       g.met.S.ReadSlots.follows_trans c.args.slots.now c.loop-at.slots c.page_in.new.slots c.loop-at.invariant.1
           c.page_in.ensures.follows,
+      looked_at_next entries c.args.digest c.first_of-first.result at c.args.steps.now c.loop-at.steps
+          c.tick.new.self c.loop-at.invariant.2
+          (λ e. ap (λ (x : Entry). x.digest) (get_or_default entries at e blank within) ∙ c.if-entry-digest.false)
+          c.tick.ensures,
     )
+
+pub returns-then-entry-digest-clause-steps : goal.returns-then-entry-digest-clause-steps
+returns-then-entry-digest-clause-steps g c most few =
+    looked_at_few c.args.entries.now c.args.digest c.first_of-first.result c.loop-at.at c.args.steps.now c.loop-at.steps
+    most c.loop-at.invariant.2 (omega (arith, c.loop-at-test.true)) few
+
+pub returns-in_default-clause-steps : goal.returns-in_default-clause-steps
+returns-in_default-clause-steps g c most few =
+    let entries = c.args.entries.now in
+    let at = c.loop-at.at in
+    let first = c.first_of-first.result in
+    let within : at < length entries = omega (arith, c.loop-at-test.true) in
+    looked_at_few entries c.args.digest first (at + 1) c.args.steps.now c.tick.new.self most
+    (looked_at_next entries c.args.digest first at c.args.steps.now c.loop-at.steps c.tick.new.self
+    c.loop-at.invariant.2
+    (λ e. ap (λ (x : Entry). x.digest) (get_or_default entries at e blank within) ∙ c.if-entry-digest.false)
+    c.tick.ensures) (omega (arith, within)) few
+
+pub returns-in_default-2-clause-steps : goal.returns-in_default-2-clause-steps
+returns-in_default-2-clause-steps g c most few =
+    let entries = c.args.entries.now in
+    let at = c.loop-at.at in
+    let first = c.first_of-first.result in
+    let within : at < length entries = omega (arith, c.loop-at-test.true) in
+    looked_at_few entries c.args.digest first (at + 1) c.args.steps.now c.tick.new.self most
+    (looked_at_next entries c.args.digest first at c.args.steps.now c.loop-at.steps c.tick.new.self
+    c.loop-at.invariant.2
+    (λ e. ap (λ (x : Entry). x.digest) (get_or_default entries at e blank within) ∙ c.if-entry-digest.false)
+    c.tick.ensures) (omega (arith, within)) few
+
+pub returns-clause-steps : goal.returns-clause-steps
+returns-clause-steps g c most few =
+    looked_at_few c.args.entries.now c.args.digest c.first_of-first.result c.loop-at.at c.args.steps.now c.loop-at.steps
+    most c.loop-at.invariant.2 (omega (arith, c.loop-at.auto.at-end)) few

@@ -4,7 +4,7 @@ use Rattle.std.proofs.lemmas.Option.{slice_get_read}
 use Rattle.store_model.specs.Lists.{run_count}
 use Rattle.store_model.specs.Pairs.{Pair, file_block}
 use Rattle.layout_opinion.proofs.FileBlocks.{AreRead, read_none, read_more, block_is}
-use Rattle.layout_scratch.proofs.ComparedSlots.{differ_bytes, same_bytes_by_test}
+use Rattle.layout_opinion.proofs.ComparedSlots.{differ_bytes, same_bytes_by_test}
 use Rattle.layout_opinion.proofs.blocks.are_blocks.Goals as goal
 use Rattle.layout_opinion.proofs.blocks.are_blocks.Goals.{then-ne-via-then-ne}
 use Rattle.layout_opinion.proofs.blocks.are_blocks.Goals.{then-ne-via-else-ne+then-as_slice-expected}

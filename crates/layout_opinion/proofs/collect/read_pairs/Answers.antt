@@ -4,7 +4,7 @@ use Rattle.std.proofs.lemmas.List.{length-map}
 use Rattle.std.proofs.lemmas.Option.{slice_get-get_or}
 use Rattle.store_model.specs.Images.{slot_bytes}
 use Rattle.layout_opinion.specs.Collected.{MayHold}
-use Rattle.layout_scratch.proofs.ReadLemmas.{reads_more, reads_failed, reads_no_memory, reads_answered, read_at_first}
+use Rattle.layout_opinion.proofs.ReadLemmas.{reads_more, reads_failed, reads_no_memory, reads_answered, read_at_first}
 use Rattle.layout_opinion.proofs.SlotLemmas.{all_at, pairs_one_more, read_as}
 use Rattle.layout_opinion.proofs.collect.read_pairs.Goals as goal
 

@@ -4,7 +4,7 @@ use Rattle.store_model.specs.Images.{slots_of}
 use Rattle.store_model.specs.Placement.{Table}
 use Rattle.store_base.specs.SlotsState.{IsObservable}
 use Rattle.layout_opinion.specs.Collected.{MayHold, pairs_of_table}
-use Rattle.layout_scratch.proofs.ReadLemmas.{ReadSoFar}
+use Rattle.layout_opinion.proofs.ReadLemmas.{ReadSoFar}
 use Rattle.layout_opinion.proofs.collect.read_pairs.Given as goal
 
 -- the slots were only read, and the pairs are those of the slots so far

@@ -2,9 +2,9 @@ use Rattle.std.proofs.Common.{◌≡◌, ℕ, Some, List, length, slice_get, ref
 use Rattle.std.proofs.lemmas.List.{length-map}
 use Rattle.std.proofs.lemmas.Option.{same_Some}
 use Rattle.store_model.specs.Images.{slot_bytes, slots_of}
-use Rattle.layout_scratch.proofs.ReadLemmas.{reads_more, read_at_first, same_gets}
-use Rattle.layout_scratch.proofs.ComparedSlots.{layout_at, differ_bytes, same_bytes_by_test}
-use Rattle.layout_scratch.proofs.compare.are_layout.Goals as goal
+use Rattle.layout_opinion.proofs.ReadLemmas.{reads_more, read_at_first, same_gets}
+use Rattle.layout_opinion.proofs.ComparedSlots.{layout_at, differ_bytes, same_bytes_by_test}
+use Rattle.layout_opinion.proofs.compare.are_layout.Goals as goal
 
 pub returns-then-ne-clause-answer : goal.returns-then-ne-clause-answer
 returns-then-ne-clause-answer g c observable =

@@ -9,11 +9,11 @@ use Rattle.image_check.specs.declared.contents.Contents.{Contents}
 use Rattle.image_check.specs.Orders.{FindsOrder}
 use Rattle.image_check.specs.TreePairs.{TookPairs}
 use Rattle.image_check.proofs.Calls.{nothing_in_order, nothing_walked, nothing_counted, found_all}
-use Rattle.image_check.proofs.slots.find_contents.Goals as goal
+use Rattle.image_check.proofs.slots.find_by.Goals as goal
 
 pub count_pages-requires-clause-count : goal.count_pages-requires-clause-count
 unfolding draw_of
-count_pages-requires-clause-count g c = c.requires ∙ sym (ap (λ (d : Draw). d.slots) c.new-draw.ensures)
+count_pages-requires-clause-count g c = c.requires.count ∙ sym (ap (λ (d : Draw). d.slots) c.new-draw.ensures)
 
 pub count_pages-requires-clause-most : goal.count_pages-requires-clause-most
 unfolding draw_of
@@ -37,7 +37,7 @@ walk_groups-requires-clause-index g c =
 
 pub walk_groups-requires-clause-count : goal.walk_groups-requires-clause-count
 unfolding draw_of
-walk_groups-requires-clause-count g c = c.in_ok-used.ensures.call.reads.calls.count ∙ c.requires
+walk_groups-requires-clause-count g c = c.in_ok-used.ensures.call.reads.calls.count ∙ c.requires.count
     ∙ sym (ap (λ (d : Draw). d.slots) c.new-draw.ensures)
 
 pub returns-in_default-clause-call : goal.returns-in_default-clause-call

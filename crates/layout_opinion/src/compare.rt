@@ -3,14 +3,14 @@
 ghost use Rattle.std.specs.Prelude.{◌≡◌, ◌↔◌, IsTrue, IfOk, length};
 ghost use Rattle.store_model.specs.Images.{slots_of};
 ghost use Rattle.store_base.specs.SlotsState.{IsObservable};
-ghost use Rattle.layout_scratch.specs.SlotReads.{ReadsSlots};
+ghost use Rattle.layout_opinion.specs.SlotReads.{ReadsSlots};
 
-use crate::layout::Layout;
+use layout_scratch::Layout;
 use store_base::{Fault, Params, ReadSlots};
 use store_model::BLOCK;
 
 /// Whether slots are just those of a layout. A fault of the slots is handed on.
-pub fn are_layout<S: ReadSlots>(
+pub(crate) fn are_layout<S: ReadSlots>(
     slots: &mut S,
     params: &Params,
     layout: &Layout,

@@ -9,7 +9,7 @@ use Rattle.store_base.specs.declared.store_fault.Fault.{Fault}
 use Rattle.store_base.specs.declared.store_fault.Fault.TheVariants.{NoMemory}
 use Rattle.store_base.specs.Faults.{disk_faults_after}
 use Rattle.store_base.specs.SlotsState.{SlotsState, IsObservable, IsGet}
-use Rattle.layout_scratch.specs.SlotReads.{ReadsSlots}
+use Rattle.layout_opinion.specs.SlotReads.{ReadsSlots}
 
 -- reads of which none failed so far
 abbrev pub HaveRead : SlotsState → SlotsState → Type 0

@@ -1,8 +1,8 @@
 use Rattle.std.proofs.Common.{◌≡◌, ℕ, ◌<◌, slice_get}
 use Rattle.store_model.specs.Images.{slots_of}
 use Rattle.store_base.specs.SlotsState.{IsObservable}
-use Rattle.layout_scratch.proofs.ReadLemmas.{ReadSoFar}
-use Rattle.layout_scratch.proofs.compare.are_layout.Given as goal
+use Rattle.layout_opinion.proofs.ReadLemmas.{ReadSoFar}
+use Rattle.layout_opinion.proofs.compare.are_layout.Given as goal
 
 -- the slots were only read, and those so far are the layout's
 abbrev pub invariant-loop-at : goal.invariant-loop-at
