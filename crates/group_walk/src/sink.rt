@@ -3,7 +3,7 @@
 ghost use Rattle.std.specs.Prelude.{◌++◌, ◌∷◌, [], List};
 ghost use Rattle.store_model.specs.Pairs.{Pair};
 
-use store_base::{Key, Value};
+use store_base::Key;
 
 /// What takes the pairs of a list one after another. It need not keep them.
 pub trait TakesPairs {
@@ -13,8 +13,8 @@ pub trait TakesPairs {
     /// What stays the same of it, whichever pairs it takes.
     ghost keeps: { Self → Self → Type 0 };
 
-    /// Takes one more pair.
-    fn take(&mut self, key: &Key, value: &Value)
+    /// Takes one more pair: a key and the bytes of its value, however many.
+    fn take(&mut self, key: &Key, value: &[u8])
         ensures keeps { keeps self.old self.new }
         ensures took { (pairs : List Pair) → took self.old pairs
             → took self.new (pairs ++ (key.now, value.now) ∷ []) };

@@ -2,6 +2,7 @@
 
 ghost use Rattle.std.specs.Prelude.{◌≡◌, ◌↔◌, ◌⊎◌, ℕ, ◌+◌, ◌*◌, ◌<◌, ◌≤◌, IsTrue};
 ghost use Rattle.store_base.specs.Leads.{model_lead};
+ghost use Rattle.node_pages.specs.CellRefs.{cell_of};
 ghost use Rattle.label_index.specs.Indexes.{IsIndexOf, AreFewAlike};
 ghost use Rattle.group_walk.specs.Costs.{TakesSteps, vain_of};
 ghost use Rattle.group_walk.specs.Walked.{IsInPlace, IsStart};
@@ -13,7 +14,7 @@ use crate::lookup::look_up;
 use crate::progress::Progress;
 use crate::sink::TakesPairs;
 use label_index::Entry;
-use node_pages::{Cell, Page};
+use node_pages::{CellRef, Page};
 use ordered_table::Steps;
 use seeded_draw::{Draw, Front};
 use skip_groups::{is_last, label_in_group};
@@ -42,21 +43,21 @@ fn is_above(last: &Option<Key>, key: &Key) -> bool
     }
 }
 
-/// Whether cell `i` of a page belongs there, behind the last key.
+/// Whether the key of cell `i` of a page belongs there, behind the last key.
 fn is_next<W: Draw>(
     draw: &W,
     label: &Label,
     i: u32,
-    cell: &Cell,
+    key: &Key,
     last: &Option<Key>,
     front: &mut Front,
 ) -> bool
     ensures { IsTrue result
         ↔ (IsInPlace (W.drawn draw.now)
-        label.now.level label.now.lead label.now.index i cell.now.key
-        × IsAbove last.now cell.now.key) }
+        label.now.level label.now.lead label.now.index i key.now
+        × IsAbove last.now key.now) }
 {
-    is_in_place(draw, label, i, &cell.key, front) && is_above(last, &cell.key)
+    is_in_place(draw, label, i, key, front) && is_above(last, key)
 }
 
 /// Whether a group may have so many runs: one that a key leads has some.
@@ -76,7 +77,7 @@ fn walk_cell<S: ReadSlots, W: Draw, P: TakesPairs, L: Ledger>(
     slots: &mut S,
     guide: &Guide<'_, W>,
     level: u8,
-    cell: &Cell,
+    cell: &CellRef<'_>,
     met: &mut Progress,
     sink: &mut P,
     steps: &mut Steps<L>,
@@ -85,7 +86,8 @@ fn walk_cell<S: ReadSlots, W: Draw, P: TakesPairs, L: Ledger>(
     requires index { IsIndexOf (W.digests guide.now.draw.now)
         (S.state slots.old) guide.now.entries.now }
     ensures call { WalksCell (W.drawn guide.now.draw.now) (S.state slots.old)
-        (S.state slots.new) level cell.now (progress met.old.left met.old.last)
+        (S.state slots.new) level
+        (cell_of cell.now) (progress met.old.left met.old.last)
         (progress met.new.left met.new.last)
         (P.took sink.old) (P.took sink.new) result }
     ensures steps { TakesSteps guide.now.entries.now steps.old steps.new met.old.left
@@ -104,7 +106,7 @@ fn walk_cell<S: ReadSlots, W: Draw, P: TakesPairs, L: Ledger>(
             steps,
         );
     }
-    let Some(value) = &cell.value else {
+    let Some(value) = cell.value else {
         return Ok(false);
     };
     sink.take(&cell.key, value);
@@ -136,8 +138,8 @@ fn walk_cells<S: ReadSlots, W: Draw, P: TakesPairs, L: Ledger>(
 {
     let label = page.label();
     for i in 0..page.len() {
-        let cell = page.cell(i);
-        if !is_next(guide.draw, &label, i, &cell, &met.last, &mut met.front) {
+        let cell = page.cell_ref(i);
+        if !is_next(guide.draw, &label, i, &cell.key, &met.last, &mut met.front) {
             return Ok(false);
         }
         if !walk_cell(slots, guide, page.level(), &cell, met, sink, steps)? {
@@ -176,12 +178,14 @@ fn walk_group<S: ReadSlots, W: Draw, P: TakesPairs, L: Ledger>(
     'runs: loop {
         let label = label_in_group(level, lead, index);
         steps.tick();
-        let found = look_up(
+        let mut found = None;
+        look_up(
             slots,
             guide,
             &label,
             &mut met.label_front,
             &mut met.slot,
+            &mut found,
             steps,
         )?;
         let Some(page) = &found else {

@@ -5,7 +5,7 @@ ghost use Rattle.std.proofs.Common.{◌∙◌};
 ghost use Rattle.image_check.specs.TreePairs.{TookPairs, TellsTree};
 
 use group_walk::TakesPairs;
-use store_base::{Key, Value};
+use store_base::Key;
 use store_model::Version;
 use tree_reader::{Counts, TreeReader};
 
@@ -50,7 +50,7 @@ impl TakesPairs for TreePairs {
 
     ghost keeps_trans = { λ old mid new first second. second ∙ first };
 
-    fn take(&mut self, key: &Key, value: &Value) {
+    fn take(&mut self, key: &Key, value: &[u8]) {
         if !self.is_refused {
             self.is_refused = !self.reader.add(key, value);
         }

@@ -1,11 +1,16 @@
 -- What a lookup of a page in the slots does.
-use Rattle.std.specs.Prelude.{◌≡◌, ℕ, Option, Some, None, Result, IfSome, IfOk, List}
+use Rattle.std.specs.Prelude.{◌≡◌, ℕ, Option, Some, None, Result, Ok, Err, IfSome, IfOk, List}
 use Rattle.store_model.specs.Labels.{Label}
 use Rattle.store_model.specs.Pages.{Page}
 use Rattle.store_base.specs.declared.store_fault.Fault.{Fault}
 use Rattle.store_base.specs.SlotsState.{SlotsState, IsObservable, AreSlotCalls}
 use Rattle.label_index.specs.declared.entry.Entry.{Entry}
 use Rattle.label_index.specs.Indexes.{LiesIn, Indexes}
+
+-- the answer of a call that leaves what it found in a place: that, or its fault
+abbrev pub answer_of : {T : Type 0} → Result (Unit {0}) Fault → Option T → Result (Option T) Fault
+answer_of (Ok done) found = Ok found
+answer_of (Err fault) found = Err fault
 
 -- reads of slots, of which the first that fails is the last
 pub record ReadsOnly {T : Type 0} (old new : SlotsState) (result : Result T Fault) : Type 0 where

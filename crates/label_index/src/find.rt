@@ -2,7 +2,7 @@
 
 ghost use Rattle.std.specs.Prelude.{◌≡◌, ℕ, ◌+◌, ◌<◌, ◌≤◌, length};
 ghost use Rattle.label_index.specs.Indexes.{AreThere, AreFewAlike, IsPast};
-ghost use Rattle.label_index.specs.Lookups.{LooksUp};
+ghost use Rattle.label_index.specs.Lookups.{LooksUp, answer_of};
 
 use crate::entry::Entry;
 use crate::read::page_in;
@@ -19,8 +19,9 @@ fn first_of(entries: &[Entry], digest: u64) -> usize
     entries.partition_point(|entry| entry.digest < digest)
 }
 
-/// Finds the page of the label, which has this digest, by an index of the slots; `None` exactly where no slot holds
-/// such a page. The digest has to be the one that the index was made with.
+/// Looks for the page of the label, which has this digest, by an index of the slots. It leaves in `found` that page, or
+/// `None` exactly where no slot holds such a page: so no page is copied on its way out. The digest has to be the one
+/// that the index was made with. After a fault `found` may be anything.
 ///
 /// It reads the slots of the entries that have this digest into the buffer, one after another, until one holds the
 /// page. Each look at a slot counts as a step. The slots that entries name have to be there. A fault of the slots ends
@@ -31,26 +32,27 @@ pub fn find_page<S: ReadSlots, L: Ledger>(
     label: &Label,
     digest: u64,
     slot: &mut Slot,
+    found: &mut Option<Page>,
     steps: &mut Steps<L>,
-) -> Result<Option<Page>, Fault>
+) -> Result<(), Fault>
     requires { AreThere (S.state slots.old).count entries.now }
     ensures call { LooksUp (S.state slots.old)
-        (S.state slots.new) entries.now label.now digest result }
+        (S.state slots.new) entries.now label.now digest (answer_of result found.new) }
     ensures steps { (most : ℕ) → AreFewAlike entries.now most → steps.new ≤ steps.old + most }
     ensures follows { S.follows slots.old slots.new }
 {
+    *found = None;
     let first = first_of(entries, digest);
     for at in first..entries.len() {
         let entry = entries[at];
         if entry.digest != digest {
-            return Ok(None);
+            return Ok(());
         }
         steps.tick();
-        // What was found is handed on as it came: a page is not taken out of it and put into another answer.
-        match page_in(slots, entry.slot, label, slot) {
-            Ok(None) => {}
-            found => return found,
+        page_in(slots, entry.slot, label, slot, found)?;
+        if found.is_some() {
+            return Ok(());
         }
     }
-    Ok(None)
+    Ok(())
 }

@@ -5,5 +5,6 @@ pub mod LastPages
 pub mod PagesState
 pub mod EntryPlaces
 pub mod CellAreas
+pub mod CellRefs
 pub mod PageSlots
 pub mod Insertions

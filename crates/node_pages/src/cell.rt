@@ -13,6 +13,15 @@ pub struct Cell {
     pub value: Option<Value>,
 }
 
+/// A cell of a page: its key, copied, and the bytes of its value, which the page lends.
+#[derive(Clone, Copy)]
+pub struct CellRef<'a> {
+    /// The key.
+    pub key: Key,
+    /// The bytes of its value, which is there at level 0 alone.
+    pub value: Option<&'a [u8]>,
+}
+
 impl Model for Cell {
     ghost use Rattle.store_model.specs.Pages as model;
 

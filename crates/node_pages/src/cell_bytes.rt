@@ -1,13 +1,15 @@
 //! Cells read from their bytes, and written, over others or behind them.
 
-ghost use Rattle.std.specs.Prelude.{◌≡◌, ◌+◌, ◌*◌, ◌≤◌, ◌++◌, length, take, drop, Some, OnOk, OnErr};
+ghost use Rattle.std.specs.Prelude.{◌≡◌, ◌+◌, ◌*◌, ◌≤◌, ◌++◌, length, take, drop, Some, IfSome, OnOk, OnErr};
+ghost use Rattle.std.specs.Option.{option_map};
 ghost use Rattle.store_model.specs.Lists.{zeros, zero_filled};
 ghost use Rattle.store_model.specs.Pages.{IsCell};
 ghost use Rattle.store_model.specs.Images.{cell_bytes, value_bytes};
 ghost use Rattle.node_pages.specs.CellAreas as spelled;
+ghost use Rattle.node_pages.specs.CellRefs.{cell_of};
 ghost use Rattle.node_pages.specs.PageSlots as cells;
 
-use crate::cell::Cell;
+use crate::cell::{Cell, CellRef};
 use crate::cell_area::{KEY_LEN, MOST_LEN, cell_len};
 use store_base::{Key, NoMemory, Value};
 
@@ -35,15 +37,17 @@ pub fn read_key(bytes: &[u8]) -> Key
     Key::new(key)
 }
 
-/// The value with its length in front.
+/// The bytes of a value, without the length that stands in front of them.
 #[tactic(auto, unfolding(crate::specs::PageSlots::cell_in))]
-fn read_value(bytes: &[u8]) -> Value
+fn value_behind_length(bytes: &[u8]) -> &[u8]
     requires long { length bytes.now ≡ 258 }
     requires valid { spelled.SpellsValue bytes.now }
-    ensures { Some result ≡ cells.value_in 0 bytes.now }
+    ensures value { Some result.now ≡ cells.value_in 0 bytes.now }
+    ensures some { 1 ≤ length result.now }
+    ensures fits { length result.now ≤ Value.MAX_LEN }
 {
     let len = usize::from(u16::from_be_bytes([bytes[0], bytes[1]]));
-    Value::new(&bytes[2..2 + len])
+    &bytes[2..2 + len]
 }
 
 /// The key in front of the bytes of a cell.
@@ -55,18 +59,43 @@ pub fn key_part(bytes: &[u8]) -> &[u8]
     key
 }
 
-/// The value of the cell of the level that the bytes spell.
+/// The bytes of the value of the cell of the level that the bytes spell.
 #[tactic(auto, unfolding(crate::specs::PageSlots::cell_in))]
-pub fn value_part(level: u8, bytes: &[u8]) -> Option<Value>
+fn value_part(level: u8, bytes: &[u8]) -> Option<&[u8]>
+    requires long { length bytes.now ≡ spelled.cell_size level }
+    requires valid { spelled.SpellsCell level bytes.now }
+    ensures value { option_map (λ value. value.now) result ≡ (cells.cell_in level bytes.now).value }
+    ensures fits { IfSome result
+        (λ value. (1 ≤ length value.now) × (length value.now ≤ Value.MAX_LEN)) }
+{
+    let (_, value) = bytes.split_at(KEY_LEN);
+    if level == 0 {
+        Some(value_behind_length(value))
+    } else {
+        None
+    }
+}
+
+/// The value of the cell of the level that the bytes spell.
+pub fn read_value(level: u8, bytes: &[u8]) -> Option<Value>
     requires long { length bytes.now ≡ spelled.cell_size level }
     requires valid { spelled.SpellsCell level bytes.now }
     ensures { result ≡ (cells.cell_in level bytes.now).value }
 {
-    let (_, value) = bytes.split_at(KEY_LEN);
-    if level == 0 {
-        Some(read_value(value))
-    } else {
-        None
+    Some(Value::new(value_part(level, bytes)?))
+}
+
+/// The cell of the level that the bytes spell. They lend its value.
+#[tactic(auto, unfolding(crate::specs::PageSlots::cell_in))]
+pub fn cell_ref(level: u8, bytes: &[u8]) -> CellRef<'_>
+    requires long { length bytes.now ≡ spelled.cell_size level }
+    requires valid { spelled.SpellsCell level bytes.now }
+    ensures { cell_of result ≡ cells.cell_in level bytes.now }
+{
+    let (key, _) = bytes.split_at(KEY_LEN);
+    CellRef {
+        key: read_key(key),
+        value: value_part(level, bytes),
     }
 }
 
@@ -80,7 +109,7 @@ pub fn read_cell(level: u8, bytes: &[u8]) -> Cell
     let (key, _) = bytes.split_at(KEY_LEN);
     Cell {
         key: read_key(key),
-        value: value_part(level, bytes),
+        value: read_value(level, bytes),
     }
 }
 

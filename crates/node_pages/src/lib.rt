@@ -17,7 +17,7 @@ mod pages;
 mod reveal;
 mod sequence;
 
-pub use cell::Cell;
+pub use cell::{Cell, CellRef};
 pub use cell_area::room;
 pub use cells::Cells;
 pub use group::{append_group, cut_group, join_group};

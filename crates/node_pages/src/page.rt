@@ -17,10 +17,11 @@ ghost use Rattle.store_model.specs.Labels as labels;
 ghost use Rattle.store_model.specs.Labels.{IsLabel, label_bytes};
 ghost use Rattle.store_base.specs.Keys.{IsKey};
 ghost use Rattle.node_pages.specs.CellAreas as spelled;
+ghost use Rattle.node_pages.specs.CellRefs.{cell_of};
 ghost use Rattle.node_pages.specs.PageSlots as cells;
 ghost use Rattle.node_pages.specs.Insertions.{TakesCell, with_cell};
 
-use crate::cell::Cell;
+use crate::cell::{Cell, CellRef};
 use crate::cell_area::{are_whole, cell_len, is_below, room};
 use crate::cell_bytes;
 use std::marker::Model;
@@ -402,12 +403,20 @@ impl Page {
         cell_bytes::read_cell(level_of(&self.label), self.bytes_between(i, i + 1))
     }
 
+    /// Cell `i`. The page lends its value, which is not copied.
+    pub fn cell_ref(&self, i: u32) -> CellRef<'_>
+        requires { i < length self.now.cells }
+        ensures { slice_get self.now.cells i ≡ Some (cell_of result) }
+    {
+        cell_bytes::cell_ref(level_of(&self.label), self.bytes_between(i, i + 1))
+    }
+
     /// The value of cell `i`, without its key; `None` above level 0.
     pub fn value(&self, i: u32) -> Option<Value>
         requires { i < length self.now.cells }
         ensures { IfSome (slice_get self.now.cells i) (λ cell. cell.value ≡ result) }
     {
-        cell_bytes::value_part(level_of(&self.label), self.bytes_between(i, i + 1))
+        cell_bytes::read_value(level_of(&self.label), self.bytes_between(i, i + 1))
     }
 
     /// The bytes of the key of cell `i`.

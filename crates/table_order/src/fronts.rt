@@ -7,8 +7,11 @@ use seeded_draw::{Draw, Front};
 use std::array;
 use store_base::Label;
 
-/// How many fronts there are: one for each checksum of a byte.
-const FRONT_COUNT: usize = 256;
+/// How many bits the checksum has by which a front is found.
+const FRONT_BITS: u32 = 8;
+
+/// How many fronts there are: one for each checksum.
+const FRONT_COUNT: usize = 1 << FRONT_BITS;
 
 /// A front is found by so many first bytes of a label. What it digests is longer.
 const FRONT_PART: usize = 88;
@@ -30,7 +33,7 @@ fn front_of(label: &Label) -> usize
     for word in words {
         sum = (sum ^ u64::from_be_bytes(*word)).wrapping_mul(0x9e37_79b9_7f4a_7c15);
     }
-    (sum >> 56) as usize
+    (sum >> (u64::BITS - FRONT_BITS)) as usize
 }
 
 impl Fronts {

@@ -12,7 +12,7 @@ use crate::attributes::{has_attributes, is_above};
 use crate::counts::{Counts, counted};
 use crate::first::{Entry, first_in, size_in_first};
 use path_keys::{AttrName, Path, of_attr_key};
-use store_base::{Key, Value};
+use store_base::Key;
 use store_model::Version;
 use tree_pairs::{FILE_BLOCK, Kind, attribute_in};
 
@@ -50,10 +50,10 @@ impl TreeReader {
         }
     }
 
-    /// Takes the next pair, and says whether some tree's pairs begin with those that were taken and this one, under
-    /// the reader's version. So its key has to be greater than theirs. If not, nothing changed. After `pairs_limit`
-    /// pairs, more than any image holds, the answer may be no though such a tree exists.
-    pub fn add(&mut self, key: &Key, value: &Value) -> bool
+    /// Takes the next pair, a key and the bytes of its value, and says whether some tree's pairs begin with those that
+    /// were taken and this one, under the reader's version. So its key has to be greater than theirs. If not, nothing
+    /// changed. After `pairs_limit` pairs, more than any image holds, the answer may be no though such a tree exists.
+    pub fn add(&mut self, key: &Key, value: &[u8]) -> bool
         ensures { AddsPair self.old self.new (key.now, value.now) result }
     {
         match self.last.kind {
@@ -66,7 +66,7 @@ impl TreeReader {
     }
 
     /// Takes the next block of a file of so many bytes.
-    fn add_block(&mut self, len: u32, key: &Key, value: &Value) -> bool
+    fn add_block(&mut self, len: u32, key: &Key, value: &[u8]) -> bool
         requires file { self.old.last.kind ≡ Kind.File len }
         requires more { self.old.read < len }
         ensures { AddsPair self.old self.new (key.now, value.now) result }
@@ -74,29 +74,29 @@ impl TreeReader {
         if !self.is_next_block(len, key, value) {
             return false;
         }
-        self.read += value.as_slice().len() as u32;
+        self.read += value.len() as u32;
         true
     }
 
     /// Whether a pair is the next block of a file of so many bytes: it has the next number, and it is full unless it is
     /// the last.
-    fn is_next_block(&self, len: u32, key: &Key, value: &Value) -> bool
+    fn is_next_block(&self, len: u32, key: &Key, value: &[u8]) -> bool
         requires { self.now.read < len }
         ensures { IsTrue result
             ↔ IsNextBlock self.now.last.path self.now.read len key.now value.now }
     {
         let number = self.read / FILE_BLOCK + 1;
         let expected = (len - self.read).min(FILE_BLOCK);
-        *key == self.last.path.key(number) && value.as_slice().len() as u32 == expected
+        *key == self.last.path.key(number) && value.len() == expected as usize
     }
 
     /// Takes the first pair of an entry behind the last one.
-    fn add_first(&mut self, key: &Key, value: &Value) -> bool
+    fn add_first(&mut self, key: &Key, value: &[u8]) -> bool
         requires whole { size_of self.old.last.kind ≤ self.old.read }
         requires no_attribute { HasNoAttribute key.now }
         ensures { AddsPair self.old self.new (key.now, value.now) result }
     {
-        let Some(entry) = first_in(key, value.as_slice(), self.version) else {
+        let Some(entry) = first_in(key, value, self.version) else {
             return false;
         };
         if !self.last.may_precede(&entry.path) {
@@ -116,7 +116,7 @@ impl TreeReader {
     }
 
     /// Takes the pair of an attribute of a path.
-    fn add_attribute(&mut self, path: &Path, name: AttrName, value: &Value) -> bool
+    fn add_attribute(&mut self, path: &Path, name: AttrName, value: &[u8]) -> bool
         requires whole { size_of self.old.last.kind ≤ self.old.read }
         requires attribute { MayHaveAttribute path.now name }
         ensures { AddsPair self.old self.new (paths.attribute_key path.now name, value.now) result }
@@ -124,7 +124,7 @@ impl TreeReader {
         if !self.may_be_next(path, &name) {
             return false;
         }
-        let Some(_bytes) = attribute_in(value.as_slice()) else {
+        let Some(_bytes) = attribute_in(value) else {
             return false;
         };
         self.attribute = Some(name);

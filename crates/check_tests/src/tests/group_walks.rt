@@ -95,7 +95,7 @@ impl TakesPairs for Fronts {
 
     ghost keeps_trans = { λ _ _ _ _ _. tt };
 
-    fn take(&mut self, key: &Key, _value: &Value) {
+    fn take(&mut self, key: &Key, _value: &[u8]) {
         if self.count < 16 {
             let bytes = key.as_bytes();
             self.fronts[self.count] = [bytes[0], bytes[1], bytes[2]];

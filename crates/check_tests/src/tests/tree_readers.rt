@@ -550,7 +550,7 @@ fn pairs_of(rt: &impl Abort, alloc: Global, rows: &[Row]) -> Result<Vec<(Key, Va
 fn outcome_of(pairs: &[(Key, Value)], version: Version) -> Outcome {
     let mut reader = TreeReader::new(version);
     for (at, (key, value)) in pairs.iter().enumerate() {
-        if !reader.add(key, value) {
+        if !reader.add(key, value.as_slice()) {
             return Outcome::Refused(at);
         }
     }
@@ -597,8 +597,9 @@ fn attributes_are_read(rt: HostRuntime) {
 #[test]
 fn keys_of_no_path_are_refused(rt: HostRuntime) {
     let mut reader = TreeReader::new(Version::One);
+    let directory = directory_value();
     for key in [Key::new([0; 124]), Key::new([0x2f; 124])] {
-        assert!(rt; !reader.add(&key, &directory_value()));
+        assert!(rt; !reader.add(&key, directory.as_slice()));
     }
-    assert!(rt; reader.is_whole() && reader.add(&path(&rt, "/a").key(0), &directory_value()));
+    assert!(rt; reader.is_whole() && reader.add(&path(&rt, "/a").key(0), directory.as_slice()));
 }

@@ -16,7 +16,7 @@ use std::alloc::{AllocError, Global};
 use std::marker::Brand;
 use std::process::Abort;
 use std::sync::ledger::{Blank, Ledger};
-use store_base::{DrawKind, Fault, Key, Params, Slots, Value};
+use store_base::{DrawKind, Fault, Key, Params, Slots};
 use store_model::BLOCK;
 use table_order::check_order;
 use test_samples::{key, layout};
@@ -36,7 +36,7 @@ impl TakesPairs for PairCount {
 
     ghost keeps_trans = { λ _ _ _ _ _. tt };
 
-    fn take(&mut self, _key: &Key, _value: &Value) {
+    fn take(&mut self, _key: &Key, _value: &[u8]) {
         self.pairs = self.pairs.saturating_add(1);
     }
 }

@@ -1,16 +1,17 @@
-use Rattle.std.proofs.Common.{◌≡◌, ℕ, ◌+◌, ◌-◌, Bool, List, [], ◌∷◌, ◌++◌, Option, Some, None, Ok, true, false, refl}
-use Rattle.std.proofs.Common.{sym, ap, subst, ◌∙◌, arith}
+use Rattle.std.proofs.Common.{◌≡◌, ℕ, ◌+◌, ◌-◌, Bool, Option, Some, Ok, true, false, refl}
+use Rattle.std.proofs.Common.{sym, ap, subst, arith}
+use Rattle.std.specs.Option.{option_map}
 use Rattle.std.proofs.lemmas.Bool.{false≢true}
 use Rattle.std.proofs.lemmas.Result.{err_from_is_err_and}
 use Rattle.store_base.specs.Leads.{model_lead}
 use Rattle.store_model.specs.Labels.{Label}
-use Rattle.store_model.specs.Labels.Lead.{Start, Leader}
-use Rattle.store_model.specs.Pairs.{Pair}
+use Rattle.store_model.specs.Labels.Lead.{Start}
 use Rattle.store_model.specs.Pages.{Cell, Page}
+use Rattle.node_pages.specs.CellRefs.{cell_of}
 use Rattle.group_walk.specs.Lookups.{FindsPage}
 use Rattle.group_walk.specs.Walked.{IsInPlace}
 use Rattle.group_walk.specs.Streams.{Progress, progress}
-use Rattle.group_walk.specs.Walks.{WalksGroup, WalksCells, WalksCell}
+use Rattle.group_walk.specs.Walks.{WalksCells, WalksCell}
 use Rattle.group_walk.proofs.BelowCells.{walks_group_below, walks_pair, walks_no_pair}
 use Rattle.group_walk.proofs.CellSteps.{cells_begin, cells_next, cells_refuted, cells_wrong, cells_done}
 use Rattle.group_walk.proofs.GroupSteps.{runs_begin}
@@ -24,32 +25,25 @@ walk_cell-returns-then-level-gt0-clause-call g t c =
     let d = g.W.Draw.drawn c.args.guide.now.draw.now in
     let old = g.S.ReadSlots.state c.args.slots.now in
     let new = g.S.ReadSlots.state c.walk_group.new.slots in
-    let key_is : c.cell.inside.key ≡ c.args.cell.now.key = ap (λ (x : Cell). x.key) c.cell.view_is in
+    let cell = cell_of c.args.cell.now in
     walks_group_below d old new (c.args.level - 1)
-    c.args.level c.args.cell.now (progress c.args.met.now.left c.args.met.now.last)
+    c.args.level cell (progress c.args.met.now.left c.args.met.now.last)
     (progress c.walk_group.new.met.left c.walk_group.new.met.last) (g.P.TakesPairs.took c.args.sink.now)
     (g.P.TakesPairs.took c.walk_group.new.sink)
-    (omega (arith, c.if-level-gt0.true)) c.walk_group.result
-    (subst (λ (k : List ℕ). WalksGroup d old new (c.args.level - 1) (Leader k)
-    (progress c.args.met.now.left c.args.met.now.last)
-    (progress c.walk_group.new.met.left c.walk_group.new.met.last) (g.P.TakesPairs.took c.args.sink.now)
-    (g.P.TakesPairs.took c.walk_group.new.sink) c.walk_group.result) key_is c.walk_group.ensures.call)
+    (omega (arith, c.if-level-gt0.true)) c.walk_group.result c.walk_group.ensures.call
 
 pub walk_cell-returns-clause-call : goal.walk_cell-returns-clause-call
 walk_cell-returns-clause-call g t c =
     let d = g.W.Draw.drawn c.args.guide.now.draw.now in
     let state = g.S.ReadSlots.state c.args.slots.now in
-    let after : Progress = record { left = c.args.met.now.left; last = Some c.cell.inside.key } in
-    let key_is : c.cell.inside.key ≡ c.args.cell.now.key = ap (λ (x : Cell). x.key) c.cell.view_is in
-    let value_is : c.args.cell.now.value ≡ Some c.in-Some.value =
-    sym (ap (λ (x : Cell). x.value) c.cell.view_is) ∙ c.in-Some.is in
+    let after : Progress = record { left = c.args.met.now.left; last = Some c.args.cell.now.key } in
+    let cell = cell_of c.args.cell.now in
     let zero_is : c.args.level ≡ 0 = omega (arith, c.if-level-gt0.false) in
-    subst (λ (n : ℕ). WalksCell d state state n c.args.cell.now (progress c.args.met.now.left c.args.met.now.last) after
+    subst (λ (n : ℕ). WalksCell d state state n cell (progress c.args.met.now.left c.args.met.now.last) after
     (g.P.TakesPairs.took c.args.sink.now) (g.P.TakesPairs.took c.take.new.self) (Ok true)) (sym zero_is)
-    (walks_pair d state c.args.cell.now c.in-Some.value (progress c.args.met.now.left c.args.met.now.last) after
-    (g.P.TakesPairs.took c.args.sink.now) (g.P.TakesPairs.took c.take.new.self) value_is refl (ap Some key_is)
-    (subst (λ (k : List ℕ). (pairs : List Pair) → g.P.TakesPairs.took c.args.sink.now pairs
-    → g.P.TakesPairs.took c.take.new.self (pairs ++ (k, c.in-Some.value) ∷ [])) key_is c.take.ensures.took))
+    (walks_pair d state cell c.in-Some.value.now (progress c.args.met.now.left c.args.met.now.last) after
+    (g.P.TakesPairs.took c.args.sink.now) (g.P.TakesPairs.took c.take.new.self)
+    (ap (option_map (λ value. value.now)) c.in-Some.is) refl refl c.take.ensures.took)
 
 pub walk_cells-loop-i-init : goal.walk_cells-loop-i-init
 walk_cells-loop-i-init g t c = (
@@ -65,12 +59,12 @@ pub walk_cells-returns-then-not-is_next-clause-call :
 walk_cells-returns-then-not-is_next-clause-call g t c =
     let d = g.W.Draw.drawn c.args.guide.now.draw.now in
     let page = c.args.page.now in
-    let cell = c.cell-cell.result in
+    let cell = cell_of c.cell_ref-cell.result in
     cells_wrong d (g.S.ReadSlots.state c.args.slots.now) (g.S.ReadSlots.state c.loop-i.slots)
     (g.S.ReadSlots.state c.loop-i.slots) page c.loop-i.i cell (progress c.args.met.now.left c.args.met.now.last)
     (progress c.loop-i.met.left c.loop-i.met.last) (progress c.loop-i.met.left c.loop-i.met.last)
     (g.P.TakesPairs.took c.args.sink.now) (g.P.TakesPairs.took c.loop-i.sink)
-    (g.P.TakesPairs.took c.loop-i.sink) c.loop-i.invariant.0 c.cell-cell.ensures.value
+    (g.P.TakesPairs.took c.loop-i.sink) c.loop-i.invariant.0 c.cell_ref-cell.ensures
     (λ both. let place = subst (λ (l : Label). IsInPlace d l.level l.lead l.index c.loop-i.i cell.key)
     (sym c.label-label.ensures.value) both.0 in
     let yes : c.is_next.result ≡ true = c.is_next.ensures.1 (place, both.1) in
@@ -83,7 +77,7 @@ walk_cells-returns-then-not-branch-clause-call g t c =
     let now = g.S.ReadSlots.state c.loop-i.slots in
     let new = g.S.ReadSlots.state c.walk_cell.new.slots in
     let page = c.args.page.now in
-    let cell = c.cell-cell.result in
+    let cell = cell_of c.cell_ref-cell.result in
     let next = c.is_next.ensures.0 c.if-not-is_next.false in
     let place = subst (λ (l : Label). IsInPlace d l.level l.lead l.index c.loop-i.i cell.key)
     c.label-label.ensures.value next.0 in
@@ -95,7 +89,7 @@ walk_cells-returns-then-not-branch-clause-call g t c =
     (progress c.args.met.now.left c.args.met.now.last) (progress c.loop-i.met.left c.loop-i.met.last)
     (progress c.walk_cell.new.met.left c.walk_cell.new.met.last)
     (g.P.TakesPairs.took c.args.sink.now) (g.P.TakesPairs.took c.loop-i.sink)
-    (g.P.TakesPairs.took c.walk_cell.new.sink) c.loop-i.invariant.0 c.cell-cell.ensures.value place next.1
+    (g.P.TakesPairs.took c.walk_cell.new.sink) c.loop-i.invariant.0 c.cell_ref-cell.ensures place next.1
     (subst (λ (b : Bool). WalksCell d now new page.label.level cell (progress c.loop-i.met.left c.loop-i.met.last)
     (progress c.walk_cell.new.met.left c.walk_cell.new.met.last) (g.P.TakesPairs.took c.loop-i.sink)
     (g.P.TakesPairs.took c.walk_cell.new.sink) (Ok b)) c.if-not-branch.true walks)
@@ -106,7 +100,7 @@ walk_cells-loop-i-preserved g t c =
     let now = g.S.ReadSlots.state c.loop-i.slots in
     let new = g.S.ReadSlots.state c.walk_cell.new.slots in
     let page = c.args.page.now in
-    let cell = c.cell-cell.result in
+    let cell = cell_of c.cell_ref-cell.result in
     let next = c.is_next.ensures.0 c.if-not-is_next.false in
     let place = subst (λ (l : Label). IsInPlace d l.level l.lead l.index c.loop-i.i cell.key)
     c.label-label.ensures.value next.0 in
@@ -118,7 +112,7 @@ walk_cells-loop-i-preserved g t c =
           (progress c.args.met.now.left c.args.met.now.last) (progress c.loop-i.met.left c.loop-i.met.last)
           (progress c.walk_cell.new.met.left c.walk_cell.new.met.last)
           (g.P.TakesPairs.took c.args.sink.now) (g.P.TakesPairs.took c.loop-i.sink)
-          (g.P.TakesPairs.took c.walk_cell.new.sink) c.loop-i.invariant.0 c.cell-cell.ensures.value place next.1
+          (g.P.TakesPairs.took c.walk_cell.new.sink) c.loop-i.invariant.0 c.cell_ref-cell.ensures place next.1
           (subst (λ (b : Bool). WalksCell d now new page.label.level cell (progress c.loop-i.met.left c.loop-i.met.last)
           (progress c.walk_cell.new.met.left c.walk_cell.new.met.last) (g.P.TakesPairs.took c.loop-i.sink)
           (g.P.TakesPairs.took c.walk_cell.new.sink) (Ok b)) c.if-not-branch.false walks),
@@ -162,7 +156,7 @@ walk_group-returns-in_default-clause-call g t c =
       last = refl;
     })
     (subst (λ (o : Option Page). FindsPage d now seen c.label_in_group-label.result (Ok o))
-    c.in_default.is c.in_ok-found.ensures.call) c.may_end.ensures
+    c.in_default.is c.in_ok-look_up.ensures.call) c.may_end.ensures
 
 pub walk_group-returns-then-met-eq0-clause-call : goal.walk_group-returns-then-met-eq0-clause-call
 walk_group-returns-then-met-eq0-clause-call g t c =
@@ -175,7 +169,7 @@ walk_group-returns-then-met-eq0-clause-call g t c =
     (g.P.TakesPairs.took c.args.sink.now) (g.P.TakesPairs.took c.runs.sink)
     c.runs.invariant.0 c.label_in_group-label.result c.label_in_group-label.ensures c.in-Some.page
     (subst (λ (o : Option Page). FindsPage d now seen c.label_in_group-label.result (Ok o))
-    c.in-Some.is c.in_ok-found.ensures.call) (record { left = refl; last = refl }) c.if-met-eq0.true
+    c.in-Some.is c.in_ok-look_up.ensures.call) (record { left = refl; last = refl }) c.if-met-eq0.true
 
 pub walk_group-returns-in_err-walk_cells-clause-call :
     goal.walk_group-returns-in_err-walk_cells-clause-call
@@ -192,7 +186,7 @@ walk_group-returns-in_err-walk_cells-clause-call g t c =
     (g.P.TakesPairs.took c.args.sink.now) (g.P.TakesPairs.took c.runs.sink)
     c.runs.invariant.0 c.label_in_group-label.result c.label_in_group-label.ensures c.in-Some.page
     (subst (λ (o : Option Page). FindsPage d now seen c.label_in_group-label.result (Ok o))
-    c.in-Some.is c.in_ok-found.ensures.call)
+    c.in-Some.is c.in_ok-look_up.ensures.call)
     (progress c.walk_cells.new.met.left c.walk_cells.new.met.last) (g.S.ReadSlots.state c.walk_cells.new.slots)
     (g.P.TakesPairs.took c.walk_cells.new.sink) (record {
       left = omega (arith, some);
@@ -213,7 +207,7 @@ walk_group-returns-then-not-branch-clause-call g t c =
     (g.P.TakesPairs.took c.args.sink.now) (g.P.TakesPairs.took c.runs.sink)
     c.runs.invariant.0 c.label_in_group-label.result c.label_in_group-label.ensures c.in-Some.page
     (subst (λ (o : Option Page). FindsPage d now seen c.label_in_group-label.result (Ok o))
-    c.in-Some.is c.in_ok-found.ensures.call)
+    c.in-Some.is c.in_ok-look_up.ensures.call)
     (progress c.walk_cells.new.met.left c.walk_cells.new.met.last) new (g.P.TakesPairs.took c.walk_cells.new.sink)
     (record { left = omega (arith, some); last = refl })
     (subst (λ (b : Bool). WalksCells d seen new c.in-Some.page taken
@@ -233,7 +227,7 @@ walk_group-returns-then-is_last-clause-call g t c =
     (g.P.TakesPairs.took c.args.sink.now) (g.P.TakesPairs.took c.runs.sink)
     c.runs.invariant.0 c.label_in_group-label.result c.label_in_group-label.ensures c.in-Some.page
     (subst (λ (o : Option Page). FindsPage d now seen c.label_in_group-label.result (Ok o))
-    c.in-Some.is c.in_ok-found.ensures.call)
+    c.in-Some.is c.in_ok-look_up.ensures.call)
     (progress c.walk_cells.new.met.left c.walk_cells.new.met.last) new (g.P.TakesPairs.took c.walk_cells.new.sink)
     (record { left = omega (arith, some); last = refl })
     (subst (λ (b : Bool). WalksCells d seen new c.in-Some.page taken
@@ -245,7 +239,7 @@ pub walk_group-runs-preserved : goal.walk_group-runs-preserved
 walk_group-runs-preserved g t c =
     let entries = c.args.guide.now.entries.now in
     let looks = looks_once entries c.runs.steps c.tick.new.self c.look_up.new.steps c.tick.ensures
-    c.in_ok-found.ensures.steps in
+    c.in_ok-look_up.ensures.steps in
     let some = c.if-met-eq0.false in
     let met = runs_met entries c.args.steps.now c.runs.steps c.look_up.new.steps c.args.met.now.left c.runs.met.left
     (c.runs.met.left - 1) c.runs.index c.runs.invariant.3 looks (omega (arith, some)) in
@@ -255,14 +249,14 @@ walk_group-runs-preserved g t c =
     let new = g.S.ReadSlots.state c.walk_cells.new.slots in
     let taken : Progress = record { left = c.runs.met.left - 1; last = c.runs.met.last } in
     let follows = g.met.S.ReadSlots.follows_trans c.args.slots.now c.runs.slots c.look_up.new.slots c.runs.invariant.1
-    c.in_ok-found.ensures.follows in (
+    c.in_ok-look_up.ensures.follows in (
       runs_next d (g.S.ReadSlots.state c.args.slots.now) now seen c.args.level (model_lead c.args.lead.now)
           c.runs.index (progress c.args.met.now.left c.args.met.now.last)
           (progress c.runs.met.left c.runs.met.last) taken
           (g.P.TakesPairs.took c.args.sink.now) (g.P.TakesPairs.took c.runs.sink)
           c.runs.invariant.0 c.label_in_group-label.result c.label_in_group-label.ensures c.in-Some.page
           (subst (λ (o : Option Page). FindsPage d now seen c.label_in_group-label.result (Ok o))
-          c.in-Some.is c.in_ok-found.ensures.call)
+          c.in-Some.is c.in_ok-look_up.ensures.call)
           (progress c.walk_cells.new.met.left c.walk_cells.new.met.last) new (g.P.TakesPairs.took c.walk_cells.new.sink)
           (record { left = omega (arith, some); last = refl })
           (subst (λ (b : Bool). WalksCells d seen new c.in-Some.page taken
@@ -283,17 +277,18 @@ walk_cell-returns-in_default-clause-call g t c =
     let d = g.W.Draw.drawn c.args.guide.now.draw.now in
     let state = g.S.ReadSlots.state c.args.slots.now in
     let took = g.P.TakesPairs.took c.args.sink.now in
-    let none : c.args.cell.now.value ≡ None = sym (ap (λ (x : Cell). x.value) c.cell.view_is) ∙ c.in_default.is in
+    let cell = cell_of c.args.cell.now in
     let zero_is : c.args.level ≡ 0 = omega (arith, c.if-level-gt0.false) in
-    subst (λ (n : ℕ). WalksCell d state state n c.args.cell.now (progress c.args.met.now.left c.args.met.now.last)
+    subst (λ (n : ℕ). WalksCell d state state n cell (progress c.args.met.now.left c.args.met.now.last)
     (progress c.args.met.now.left c.args.met.now.last) took took (Ok false)) (sym zero_is)
-    (walks_no_pair d state c.args.cell.now (progress c.args.met.now.left c.args.met.now.last) took none)
+    (walks_no_pair d state cell (progress c.args.met.now.left c.args.met.now.last) took
+    (ap (option_map (λ value. value.now)) c.in_default.is))
 
 pub walk_group-returns-in_default-clause-steps : goal.walk_group-returns-in_default-clause-steps
 walk_group-returns-in_default-clause-steps g t c =
     let entries = c.args.guide.now.entries.now in
     let looks = looks_once entries c.runs.steps c.tick.new.self c.look_up.new.steps c.tick.ensures
-    c.in_ok-found.ensures.steps in
+    c.in_ok-look_up.ensures.steps in
     record {
       most = runs_vain entries c.args.steps.now c.runs.steps c.look_up.new.steps c.args.met.now.left c.runs.met.left
           c.runs.index c.runs.invariant.3 looks;
@@ -305,7 +300,7 @@ pub walk_group-returns-then-met-eq0-clause-steps : goal.walk_group-returns-then-
 walk_group-returns-then-met-eq0-clause-steps g t c =
     let entries = c.args.guide.now.entries.now in
     let looks = looks_once entries c.runs.steps c.tick.new.self c.look_up.new.steps c.tick.ensures
-    c.in_ok-found.ensures.steps in
+    c.in_ok-look_up.ensures.steps in
     record {
       most = runs_vain entries c.args.steps.now c.runs.steps c.look_up.new.steps c.args.met.now.left c.runs.met.left
           c.runs.index c.runs.invariant.3 looks;
@@ -316,7 +311,7 @@ pub walk_group-returns-in_err-walk_cells-clause-steps : goal.walk_group-returns-
 walk_group-returns-in_err-walk_cells-clause-steps g t c =
     let entries = c.args.guide.now.entries.now in
     let looks = looks_once entries c.runs.steps c.tick.new.self c.look_up.new.steps c.tick.ensures
-    c.in_ok-found.ensures.steps in
+    c.in_ok-look_up.ensures.steps in
     let some = c.if-met-eq0.false in
     let met = runs_met entries c.args.steps.now c.runs.steps c.look_up.new.steps c.args.met.now.left c.runs.met.left
     (c.runs.met.left - 1) c.runs.index c.runs.invariant.3 looks (omega (arith, some)) in
@@ -331,7 +326,7 @@ pub walk_group-returns-then-not-branch-clause-steps : goal.walk_group-returns-th
 walk_group-returns-then-not-branch-clause-steps g t c =
     let entries = c.args.guide.now.entries.now in
     let looks = looks_once entries c.runs.steps c.tick.new.self c.look_up.new.steps c.tick.ensures
-    c.in_ok-found.ensures.steps in
+    c.in_ok-look_up.ensures.steps in
     let some = c.if-met-eq0.false in
     let met = runs_met entries c.args.steps.now c.runs.steps c.look_up.new.steps c.args.met.now.left c.runs.met.left
     (c.runs.met.left - 1) c.runs.index c.runs.invariant.3 looks (omega (arith, some)) in
@@ -345,7 +340,7 @@ pub walk_group-returns-then-is_last-clause-steps : goal.walk_group-returns-then-
 walk_group-returns-then-is_last-clause-steps g t c =
     let entries = c.args.guide.now.entries.now in
     let looks = looks_once entries c.runs.steps c.tick.new.self c.look_up.new.steps c.tick.ensures
-    c.in_ok-found.ensures.steps in
+    c.in_ok-look_up.ensures.steps in
     let some = c.if-met-eq0.false in
     let met = runs_met entries c.args.steps.now c.runs.steps c.look_up.new.steps c.args.met.now.left c.runs.met.left
     (c.runs.met.left - 1) c.runs.index c.runs.invariant.3 looks (omega (arith, some)) in

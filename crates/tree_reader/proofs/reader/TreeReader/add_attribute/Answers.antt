@@ -1,4 +1,4 @@
-use Rattle.std.proofs.Common.{refl, sym, ◌∙◌}
+use Rattle.std.proofs.Common.{refl, arith}
 use Rattle.std.proofs.lemmas.Bool.{false≢true}
 use Rattle.store_model.specs.Paths.{attribute_key}
 use Rattle.tree_reader.proofs.Readings.{between, attribute_taken}
@@ -13,7 +13,7 @@ returns-then-not-may_be_next c =
 pub returns-in_default : goal.returns-in_default
 returns-in_default c =
     attribute_refused c.args.self.now c.args.path.now c.args.name c.args.value.now c.requires.whole c.requires.attribute
-    (λ may bytes short value_is. c.in_default.ensures.bytes bytes short (c.as_slice.ensures.value ∙ value_is))
+    (λ may bytes short value_is. c.in_default.ensures.bytes bytes short value_is)
 
 pub returns : goal.returns
 returns c =
@@ -21,4 +21,4 @@ returns c =
     (λ s p has.
     attribute_taken c.args.self.now s p c.args.path.now c.args.name c.args.value.now c.in-Some._bytes.now
     (between c.args.self.now s p has c.requires.whole) c.requires.attribute (c.if-not-may_be_next.ensures.0 refl)
-    (sym c.as_slice.ensures.value ∙ c.in-Some.ensures.bytes) c.in-Some.ensures.fits c.as_slice.ensures.bytes)
+    c.in-Some.ensures.bytes c.in-Some.ensures.fits (λ i. omega (arith, c.type_inv.value i)))

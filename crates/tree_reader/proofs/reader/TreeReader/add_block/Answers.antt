@@ -1,6 +1,5 @@
-use Rattle.std.proofs.Common.{refl, sym, subst, ◌+◌, ◌++◌, ◌∷◌, [], length}
+use Rattle.std.proofs.Common.{refl, arith}
 use Rattle.std.proofs.lemmas.Bool.{false≢true}
-use Rattle.tree_reader.specs.Seen.{HasSeen}
 use Rattle.tree_reader.proofs.Readings.{in_file, block_taken, block_told}
 use Rattle.tree_reader.proofs.CallLemmas.{taken, refused}
 use Rattle.tree_reader.proofs.reader.TreeReader.add_block.Goals as goal
@@ -20,7 +19,5 @@ returns c =
     taken old _ (c.args.key.now, c.args.value.now) refl
     (λ s p has.
     let file = in_file old s p c.args.len has c.requires.file c.requires.more in
-    subst (λ xs. HasSeen (record old { read = old.read + length xs }) (s ++ (c.args.key.now, c.args.value.now) ∷ []) p)
-    (sym c.as_slice.ensures.value)
-    (block_taken old s p c.args.len c.args.key.now c.args.value.now file.0 file.1
-    (c.if-not-is_next_block.ensures.0 refl) c.as_slice.ensures.bytes))
+    block_taken old s p c.args.len c.args.key.now c.args.value.now file.0 file.1
+    (c.if-not-is_next_block.ensures.0 refl) (λ i. omega (arith, c.type_inv.value i)))

@@ -1,8 +1,7 @@
-use Rattle.std.proofs.Common.{None, refl, sym, subst, ◌++◌, ◌∷◌, []}
+use Rattle.std.proofs.Common.{None, refl, sym, subst, arith, ◌++◌, ◌∷◌, []}
 use Rattle.std.proofs.lemmas.Bool.{false≢true}
 use Rattle.std.proofs.lemmas.Option.{none-some, same_Some}
 use Rattle.tree_reader.specs.declared.first.Entry.{Entry}
-use Rattle.tree_reader.specs.Fronts.{IsFirst}
 use Rattle.tree_reader.specs.Seen.{MayFollow, HasSeen}
 use Rattle.tree_reader.proofs.Readings.{between, first_taken, counts_fit}
 use Rattle.tree_reader.proofs.CallLemmas.{taken, refused, first_refused}
@@ -13,7 +12,7 @@ returns-in_default c =
     first_refused c.args.self.now c.args.key.now c.args.value.now c.requires.whole c.requires.no_attribute
     (λ path kind first follows. none-some _
     (c.in_default.ensures.only path kind
-    (subst (IsFirst c.args.self.now.version path kind c.args.key.now) (sym c.as_slice.ensures.value) first)))
+    first))
 
 pub returns-then-not-may_precede : goal.returns-then-not-may_precede
 returns-then-not-may_precede c =
@@ -22,7 +21,7 @@ returns-then-not-may_precede c =
     (λ path kind first follows.
     let same = same_Some c.in-Some.entry (record { path = path; kind = kind })
     (c.in-Some.ensures.only path kind
-    (subst (IsFirst c.args.self.now.version path kind c.args.key.now) (sym c.as_slice.ensures.value) first)) in
+    first) in
     false≢true (c.if-not-may_precede.ensures.1
     (subst (λ (entry : Entry). MayFollow old.last.path old.last.kind entry.path) (sym same) follows)))
 
@@ -38,8 +37,6 @@ pub returns : goal.returns
 returns c =
     let old = c.args.self.now in
     let entry = c.in-Some.entry in
-    let first = subst (IsFirst old.version entry.path entry.kind c.args.key.now)
-    c.as_slice.ensures.value c.in-Some.ensures.found in
     taken old _ (c.args.key.now, c.args.value.now) refl
     (λ s p has.
     subst (λ read. HasSeen (record old {
@@ -50,5 +47,5 @@ returns c =
     })
     (s ++ (c.args.key.now, c.args.value.now) ∷ []) p) (sym c.size_in_first.ensures)
     (first_taken old s p entry.path entry.kind c.args.key.now c.args.value.now c.in-Some-counted.counts
-    (between old s p has c.requires.whole) first c.as_slice.ensures.bytes (c.if-not-may_precede.ensures.0 refl)
-    c.in-Some-counted.ensures.more))
+    (between old s p has c.requires.whole) c.in-Some.ensures.found (λ i. omega (arith, c.type_inv.value i))
+    (c.if-not-may_precede.ensures.0 refl) c.in-Some-counted.ensures.more))
