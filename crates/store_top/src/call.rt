@@ -89,7 +89,7 @@ pub fn top<D: Disk, R: Source, W: Sink>(
     }
 }
 
-/// Carries out what the words ask for.
+/// Carries out what the words ask for. A check and a scrub take no memory, so neither ends for want of it.
 fn serve_request<D: Disk, R: Source, W: Sink>(
     alloc: Global,
     request: Request,
@@ -98,6 +98,8 @@ fn serve_request<D: Disk, R: Source, W: Sink>(
     sink: W,
 ) -> Outcome<D, R, W>
     ensures served { result.status ≢ Status.Usage }
+    ensures check_memory { request_seen request ≡ Check → result.status ≢ Status.NoMemory }
+    ensures scrub_memory { request_seen request ≡ Scrub → result.status ≢ Status.NoMemory }
     ensures outside { KeepsOutside result.status (D.state disk)
         (D.state result.disk) (R.state source)
         (R.state result.source) (W.state sink) (W.state result.sink) }
