@@ -7,9 +7,8 @@ ghost use Rattle.std.specs.Prelude.{◌≡◌, ◌≤◌, ◌<◌};
 ghost use Rattle.seeded_draw.specs.AnyDrawn.{any_draw};
 ghost use Rattle.ordered_table.specs.MemSlots.{mem_state};
 
-use super::orders::{CountedDraw, Counts, MANY, hold, jumps, slots_with};
+use super::orders::{CountedDraw, Counts, Entry, MANY, hold, jumps, slots_with};
 use group_walk::{TakesPairs, walk_groups};
-use label_index::Entry;
 use ordered_table::{MemSlots, Steps};
 use seeded_draw::{AnyDraw, Draw};
 use std::alloc::{AllocError, Global};
@@ -69,7 +68,7 @@ fn check_by<L: Ledger>(
     requires count { (mem_state slots.old).count ≡ (any_draw draw.now.draw).slots }
     requires most { (any_draw draw.now.draw).slots ≤ 1024 }
 {
-    let mut entries = [Entry::BLANK; MANY as usize];
+    let mut entries = [label_index::Entry::BLANK; MANY as usize];
     let mut steps = Steps::<L>::new(blank);
     let Some(used) = check_order(slots, draw, draw.height(), &mut entries, &mut steps)? else {
         return Ok(false);
@@ -196,25 +195,48 @@ fn all_groups_start_in_one_slot(rt: HostRuntime) {
     hold_full_table(&rt, rt.alloc(), DrawKind::Ruler, 2, &keys);
 }
 
+/// Holds the check of a table of two levels with these entries to the limits. No start leads to its groups, so the
+/// walk comes to none of its pages. The words and the number say which table it is.
+fn hold_entries(rt: &impl Abort, alloc: Global, words: &str, number: u32, entries: &[Entry]) {
+    let params = Params::new(MANY, 2, DrawKind::Ruler, [0; 32]).expect(rt, "parameters");
+    let draw = AnyDraw::new(&params);
+    let slots = slots_with(rt, alloc, draw.slots(), entries);
+    let Checked {
+        is_whole,
+        counts,
+        ..
+    } = count_check(rt, slots, draw);
+    assert!(rt; !is_whole, "{words} {number}");
+    hold(rt, words, number, counts, MOST);
+}
+
 #[test]
 fn ways_made_for_jumping_back(rt: HostRuntime) {
     for (turn, is_marred) in [(0, false), (700, false), (0, true), (700, true)] {
         let entries = jumps(rt.alloc(), turn, is_marred).expect(&rt, "memory");
-        let params = Params::new(MANY, 2, DrawKind::Ruler, [0; 32]).expect(&rt, "parameters");
-        let draw = AnyDraw::new(&params);
-        let slots = slots_with(&rt, rt.alloc(), draw.slots(), &entries);
-        let Checked {
-            is_whole,
-            counts,
-            ..
-        } = count_check(&rt, slots, draw);
-        // No start leads to its groups, so the walk comes to none of its pages.
-        assert!(&rt; !is_whole, "turned by {turn}, marred: {is_marred}");
         let words = if is_marred {
             "marred, turned by"
         } else {
             "turned by"
         };
-        hold(&rt, words, turn, counts, MOST);
+        hold_entries(&rt, rt.alloc(), words, turn, &entries);
+    }
+}
+
+/// Pages in the order of their labels, one in each slot, which all start in one slot.
+fn pages_of_one_start(alloc: Global, start: u32) -> Result<Vec<Entry>, AllocError> {
+    let mut entries: Vec<Entry> = vec![in alloc; None; 1024]?;
+    for rank in 0..MANY {
+        let at = (rank + start % MANY) % MANY;
+        entries[at as usize] = Some((rank as u16, start));
+    }
+    Ok(entries)
+}
+
+#[test]
+fn all_pages_start_in_one_slot(rt: HostRuntime) {
+    for start in [0, 700] {
+        let entries = pages_of_one_start(rt.alloc(), start).expect(&rt, "memory");
+        hold_entries(&rt, rt.alloc(), "from", start, &entries);
     }
 }
