@@ -10,4 +10,6 @@ mod hostile;
 mod pages;
 mod spelled;
 mod table;
+mod traps;
 mod values;
+mod versions;

@@ -20,7 +20,7 @@ static ORDERS: &str = "\
     pages round the end, and a free slot|4 2 ruler|/UU /Ua|2#\
     pages round the end, and no slot free|4 2 ruler|/UU /Ua /A|1#\
     height 3|4 3 ruler|/A /U=1|4#\
-    one page under sha256|4 2 sha256|/a /f=1|4#\
+    three pages under sha256|4 2 sha256|/a /f=1|4#\
     fourteen entries under sha256|4 2 sha256|/a /f=1 /b /c /d /e /g=0 /h /i /j /k /l /m /n|1";
 
 /// Gives each of four slots the bytes of the good slot that a digit of a number tells it.

@@ -184,35 +184,36 @@ static VERSIONS: &str = "\
     a file of 201 bytes in one pair|1 1 ruler two|/f:201||||damaged#\
     a file of 201 bytes in blocks|1 1 ruler two|/f=201||||clean 1 0 1 201#\
     a file of 200 bytes in blocks|1 1 ruler two|/f=200||||damaged#\
+    a file of one byte in a block|1 1 ruler two|/f=1||||damaged#\
     an empty file in blocks|1 1 ruler two|/f=0||||damaged#\
     a file in one pair under version 1|1 1 ruler|/f:1||||damaged#\
     a block behind a file in one pair|1 1 ruler two||0 - 0 /f:1 /f@1=1|||damaged#\
     a child of a file in one pair|1 1 ruler two||0 - 0 /f:1 /f/g|||damaged#\
     a directory, a file in one pair and one in blocks|1 1 ruler two|/a /a/f:2 /a/g=257||||clean 1 1 2 259";
 
-/// Attributes, under version 2 unless it is said, with the columns at the head of this file: `PATH~NAME:N` is an
+/// Attributes, under version 2 unless it is said, with the columns at the head of this file: `PATH:NAME:N` is an
 /// attribute of N bytes.
 static ATTRIBUTES: &str = "\
-    attributes of entries of each kind|3 1 ruler two|/d=300 /d~K!:255 /d~U:0 /d~k:1 \
-        /d! /e /e~~:1 /e/f:0 /e/f~nnnnnnnnnnnnnnnnnnnnnnnnnnnnnnnn:2||||clean 2 2 2 300#\
-    an attribute|1 1 ruler two|/d /d~k:1||||clean 1 1 0 0#\
-    an attribute under version 1|1 1 ruler|/d /d~k:1||||damaged#\
-    an attribute of a path that is missing|1 1 ruler two||0 - 0 /d~k:1|||damaged#\
-    an attribute of another path than the last one|1 1 ruler two||0 - 0 /d /e~k:1 /f|||damaged#\
-    an attribute of another path|1 1 ruler two|/d /d~k:1|||514:101|damaged#\
-    an attribute of the root|1 1 ruler two|/d /d~k:1|||132:1 133:107|damaged#\
-    another name of an attribute|1 1 ruler two|/d /d~k:1|||517:126|clean 1 1 0 0#\
-    the name `.`|1 1 ruler two|/d /d~k:1|||517:46|damaged#\
-    the name `..`|1 1 ruler two|/d /d~k:1|||517:46 518:46|damaged#\
-    a name with a space|1 1 ruler two|/d /d~k:1|||517:32|damaged#\
-    a name with the byte 7F|1 1 ruler two|/d /d~k:1|||517:127|damaged#\
-    a name of 33 bytes|1 1 ruler two|/d /d~nnnnnnnnnnnnnnnnnnnnnnnnnnnnnnnn:1|||549:110|damaged#\
-    another byte than 01|1 1 ruler two|/d /d~k:1|||516:2|damaged#\
-    two names behind the 01|1 1 ruler two|/d /d~k:1|||519:107|damaged#\
-    an attribute with a block number|1 1 ruler two|/d /d~k:1|||637:1|damaged#\
-    an attribute with a value of another kind|1 1 ruler two|/d /d~k:1|||640:3|damaged#\
+    attributes of entries of each kind|3 1 ruler two|/d=300 /d:K!:255 /d:U:0 /d:k:1 \
+        /d! /e /e:~:1 /e/f:0 /e/f:nnnnnnnnnnnnnnnnnnnnnnnnnnnnnnnn:2||||clean 2 2 2 300#\
+    an attribute|1 1 ruler two|/d /d:k:1||||clean 1 1 0 0#\
+    an attribute under version 1|1 1 ruler|/d /d:k:1||||damaged#\
+    an attribute of a path that is missing|1 1 ruler two||0 - 0 /d:k:1|||damaged#\
+    an attribute of another path than the last one|1 1 ruler two||0 - 0 /d /e:k:1 /f|||damaged#\
+    an attribute of another path|1 1 ruler two|/d /d:k:1|||514:101|damaged#\
+    an attribute of the root|1 1 ruler two|/d /d:k:1|||132:1 133:107|damaged#\
+    another name of an attribute|1 1 ruler two|/d /d:k:1|||517:126|clean 1 1 0 0#\
+    the name `.`|1 1 ruler two|/d /d:k:1|||517:46|damaged#\
+    the name `..`|1 1 ruler two|/d /d:k:1|||517:46 518:46|damaged#\
+    a name with a space|1 1 ruler two|/d /d:k:1|||517:32|damaged#\
+    a name with the byte 7F|1 1 ruler two|/d /d:k:1|||517:127|damaged#\
+    a name of 33 bytes|1 1 ruler two|/d /d:nnnnnnnnnnnnnnnnnnnnnnnnnnnnnnnn:1|||549:110|damaged#\
+    another byte than 01|1 1 ruler two|/d /d:k:1|||516:2|damaged#\
+    two names behind the 01|1 1 ruler two|/d /d:k:1|||519:107|damaged#\
+    an attribute with a block number|1 1 ruler two|/d /d:k:1|||637:1|damaged#\
+    an attribute with a value of another kind|1 1 ruler two|/d /d:k:1|||640:3|damaged#\
     an attribute's value in a first pair|1 1 ruler two|/d|||258:4|damaged#\
-    a file that lacks its block|1 1 ruler two||0 - 0 /d=300 /d~k:1|||damaged";
+    a file that lacks its block|1 1 ruler two||0 - 0 /d=300 /d:k:1|||damaged";
 
 #[test]
 fn slots_of_no_tree(rt: HostRuntime) {

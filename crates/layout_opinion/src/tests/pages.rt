@@ -61,3 +61,20 @@ pub fn expect_rows(rt: &impl Abort, alloc: Global, rows: &str) {
         assert_eq!(rt; said, size(rt, row[6]), "{}", row[0]);
     }
 }
+
+/// Looks whether both opinions say of the layout of a tree what the row says last.
+pub fn expect_tree(rt: &impl Abort, alloc: Global, format: &str, entries: &str, row: [&str; 2]) {
+    let [name, said] = row;
+    let mut table = Table::new(rt, alloc, params(rt, format));
+    table.lay(rt, tree(rt, alloc, entries));
+    assert_eq!(rt; table.size(rt, name), size(rt, said), "{name}");
+}
+
+/// Looks whether both opinions say of the layout of each row's tree what the row says. The columns are: the parameters
+/// of a table; its tree, with entries parted by blanks; and what is said. A row is named by its whole text.
+pub fn expect_trees(rt: &impl Abort, alloc: Global, rows: &str) {
+    for text in rows.split('#') {
+        let row = fields(text);
+        expect_tree(rt, alloc, row[0], row[1], [text, row[2]]);
+    }
+}

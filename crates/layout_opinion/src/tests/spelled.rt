@@ -52,20 +52,27 @@ fn counting() -> [u8; 32] {
     seed
 }
 
-/// The parameters `SLOTS HEIGHT DRAW` of version 1 with a seed of zeros; behind them `counting` says a seed that
-/// counts, and `two` version 2.
+/// Whether a word stands behind the third of a text.
+fn is_behind_third(text: &str, wanted: &str) -> bool {
+    text.split_whitespace().skip(3).any(|word| word == wanted)
+}
+
+/// The parameters `SLOTS HEIGHT DRAW` of version 1 with a seed of zeros. Behind them, in either order, `counting` says
+/// a seed that counts, and `two` version 2.
 pub fn params(rt: &impl Abort, text: &str) -> Params {
     let kind = match text.split_whitespace().nth(2) {
         Some("ruler") => DrawKind::Ruler,
         _ => DrawKind::Sha256,
     };
-    let seed = match text.split_whitespace().nth(3) {
-        Some("counting") => counting(),
-        _ => [0; 32],
+    let seed = if is_behind_third(text, "counting") {
+        counting()
+    } else {
+        [0; 32]
     };
-    let version = match text.split_whitespace().nth(3) {
-        Some("two") => Version::Two,
-        _ => Version::One,
+    let version = if is_behind_third(text, "two") {
+        Version::Two
+    } else {
+        Version::One
     };
     let (slots, height) = (number_at(rt, text, 0), number_at(rt, text, 1));
     assert!(rt; height < 256);
@@ -120,13 +127,15 @@ fn attribute_key(rt: &impl Abort, text: &str, name: &str) -> Key {
 }
 
 /// The pair of `KEY`, a directory; of `PATH=BYTES`, a file of so many in blocks; of `PATH:BYTES`, a file of so many
-/// in one pair; of `PATH@BLOCK=BYTES`, a block of so many; or of `PATH~NAME:BYTES`, an attribute of so many.
+/// in one pair; of `PATH@BLOCK=BYTES`, a block of so many; or of `PATH:NAME:BYTES`, an attribute of so many.
 fn pair(rt: &impl Abort, word: &str) -> (Key, Value) {
-    if let Some((name, len)) = word.split_once(':') {
-        let len = number(rt, len);
-        return match name.split_once('~') {
-            Some((path, name)) => (attribute_key(rt, path, name), value_behind(4, len)),
-            None => (key(rt, name), value_behind(3, len)),
+    if let Some((path, rest)) = word.split_once(':') {
+        return match rest.split_once(':') {
+            Some((name, len)) => (
+                attribute_key(rt, path, name),
+                value_behind(4, number(rt, len)),
+            ),
+            None => (key(rt, path), value_behind(3, number(rt, rest))),
         };
     }
     match word.split_once('=') {

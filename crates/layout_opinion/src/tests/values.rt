@@ -1,12 +1,12 @@
-//! Trees whose tables an independent program told.
+//! Trees whose tables an independent program told, all of version 1.
 
-use super::spelled::{fields, params, size, tree};
-use super::table::Table;
+use super::pages::{expect_tree, expect_trees};
+use super::spelled::fields;
 use std::alloc::Global;
 use std::process::Abort;
 
-/// The columns are: the parameters of a table, by which the row is named; the tree that a long script left in it, whose
-/// files had other bytes, with entries parted by blanks; and what is said.
+/// The columns are: the parameters of a table; the tree that a long script left in it, whose files had other bytes,
+/// with entries parted by blanks; and what is said.
 static LEFT: &str = "\
     4 1 ruler|/U /U/g /U/long-name-7 /UU=856 /h=4096 /long-name-7 /long-name-7/b=2498|clean 4 4 3 7450#\
     8 2 ruler|/a /a/UU /a/g /a/g/b=600 /a/g/g=255 /a/g/iU=257 /a/x1=1 /b /f=255 /g=2048 /iU=257|clean 6 4 7 3673#\
@@ -71,20 +71,9 @@ static LINES: &str = "\
     -/q -/q/x=0 -/q/y=3000 +/A +/A/x=0 +/A/y=3000|clean 5 15 2 3000#\
     -/s|clean 5 14 2 3000";
 
-/// Looks whether both opinions say of the layout of a tree what the row says last.
-fn expect_tree(rt: &impl Abort, alloc: Global, format: &str, entries: &str, row: [&str; 2]) {
-    let [name, said] = row;
-    let mut table = Table::new(rt, alloc, params(rt, format));
-    table.lay(rt, tree(rt, alloc, entries));
-    assert_eq!(rt; table.size(rt, name), size(rt, said), "{name}");
-}
-
 #[test]
 fn trees_that_scripts_left(rt: HostRuntime) {
-    for row in LEFT.split('#') {
-        let row = fields(row);
-        expect_tree(&rt, rt.alloc(), row[0], row[1], [row[0], row[2]]);
-    }
+    expect_trees(&rt, rt.alloc(), LEFT);
 }
 
 /// Adds an entry to a text, with a blank behind it.
