@@ -1,4 +1,5 @@
 pub mod AttributeCalls
+pub mod KindCalls
 pub mod ListCalls
 pub mod RefusalCalls
 pub mod SubtreeCalls

@@ -13,6 +13,7 @@ use Rattle.store_model.proofs.ListsLemmasCuts.{flat_map-map, flat_map-enumerate_
 use Rattle.store_model.proofs.PagesLemmas.{some_room}
 use Rattle.node_pages.specs.Cells.{CellList}
 use Rattle.node_pages.specs.LastPages.{page_of_run}
+use Rattle.node_pages.specs.Groups.{level_of_pages}
 
 -- one element more
 pub take_next : {X : Type 0} (xs : List X) (i : ℕ) (x : X) → slice_get xs i ≡ Some x
@@ -96,3 +97,17 @@ module _ (level : ℕ) (pages : List Page) (i : ℕ) (page : Page) (low : i < le
       so_far ∙ ap (λ (cs : List Cell). record { level = level; cells = cs })
       (sym (more_on_level level pages i page low is ∙ ap (λ cs. on_level level (take i pages) ++ cs) none
       ∙ append-nil (on_level level (take i pages))))
+
+-- the cells of the pages of one group that are of the level that they begin on are those of the group
+joined_runs : (level : ℕ) (lead : Lead) (runs : List (ℕ × List Cell))
+    → let pages = map (λ run. page_of_run level lead run.0 run.1) runs in
+    on_level (level_of_pages pages) pages ≡ flat_map (λ page. page.cells) pages
+unfolding level_of_pages
+joined_runs level lead [] = refl
+joined_runs level lead (run ∷ others) = ap (flat_map (λ page. page.cells)) (of_level level lead (run ∷ others))
+
+pub joined_group : (level : ℕ) (lead : Lead) (cells : List Cell)
+    → on_level (level_of_pages (group_pages level lead cells)) (group_pages level lead cells) ≡ cells
+unfolding group_pages
+joined_group level lead cells =
+    joined_runs level lead (enumerate_from 0 (runs (page_room level) cells)) ∙ cells_of_group level lead cells

@@ -4,6 +4,7 @@ pub mod EntriesLemmas
 pub mod LastPages
 pub mod PagesState
 pub mod EntryPlaces
+pub mod Groups
 pub mod CellAreas
 pub mod CellRefs
 pub mod PageSlots

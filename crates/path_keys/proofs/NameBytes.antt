@@ -228,10 +228,19 @@ is_field-split bytes separator xs e names h =
       len_is = sym (field_len-split separator xs);
     }
 
--- the bytes of a key
-pub key_is : (p : Path) (block : ℕ) → key p block ≡ zero_filled 120 (name_bytes p) ++ to_be_bytes w32 block
-unfolding key field
-key_is p block = refl
+-- the block number is written behind a field
+pub block_written : (bytes ys xs back : List ℕ) (block : ℕ) → bytes ≡ xs ++ back → length xs ≡ 120 → length back ≡ 4
+    → ys ≡ to_be_bytes w32 block ++ drop 4 (take 4 (drop 120 bytes))
+    → put_mid 120 4 bytes ys ≡ xs ++ to_be_bytes w32 block
+block_written bytes ys xs back block parts long four written =
+    let zs = to_be_bytes w32 block in
+    let last : drop 120 bytes ≡ back = ap (drop 120) parts ∙ drop_at xs back 120 long in
+    let none : drop 4 back ≡ [] = drop_all 4 back (omega arith) in
+    let rest : drop 4 (take 4 (drop 120 bytes)) ≡ [] =
+    ap (λ t. drop 4 (take 4 t)) last ∙ ap (drop 4) (take_all 4 back (omega arith)) ∙ none in
+    let behind : drop 4 (drop 120 bytes) ≡ [] = ap (drop 4) last ∙ none in
+    ap₂ ◌++◌ (ap (take 120) parts ∙ take_at xs back 120 long)
+    (ap₂ ◌++◌ (written ∙ ap (λ t. zs ++ t) rest ∙ append-nil zs) behind ∙ append-nil zs)
 
 -- a key is its field and the block number that is written behind it
 pub number_written : (bytes ys xs back : List ℕ) (block : ℕ) (p : Path) → bytes ≡ xs ++ back → xs ≡ field p
@@ -239,23 +248,27 @@ pub number_written : (bytes ys xs back : List ℕ) (block : ℕ) (p : Path) → 
     → ys ≡ to_be_bytes w32 block ++ drop 4 (take 4 (drop 120 bytes)) → put_mid 120 4 bytes ys ≡ key p block
 unfolding key
 number_written bytes ys xs back block p parts same long four written =
-    let zs = to_be_bytes w32 block in
-    let last : drop 120 bytes ≡ back = ap (drop 120) parts ∙ drop_at xs back 120 long in
-    let none : drop 4 back ≡ [] = drop_all 4 back (omega arith) in
-    let rest : drop 4 (take 4 (drop 120 bytes)) ≡ [] =
-    ap (λ t. drop 4 (take 4 t)) last ∙ ap (drop 4) (take_all 4 back (omega arith)) ∙ none in
-    let behind : drop 4 (drop 120 bytes) ≡ [] = ap (drop 4) last ∙ none in
-    ap₂ ◌++◌ (ap (take 120) parts ∙ take_at xs back 120 long ∙ same)
-    (ap₂ ◌++◌ (written ∙ ap (λ t. zs ++ t) rest ∙ append-nil zs) behind ∙ append-nil zs)
+    block_written bytes ys xs back block parts long four written ∙ ap (λ t. t ++ to_be_bytes w32 block) same
 
 -- what a key is written from
-pub key_written : (xs bytes ys : List ℕ) (block : ℕ) (p : Path) → xs ≡ bytes → length bytes ≡ 120
+pub key_written : (xs bytes ys : List ℕ) (block : ℕ) → xs ≡ bytes → length bytes ≡ 120
     → ys ≡ to_be_bytes w32 block ++ drop 4 (take 4 (drop 120 (xs ++ 0 ∷ 0 ∷ 0 ∷ 0 ∷ [])))
-    → {len : ℕ} → IsField bytes len p
-    → put_mid 120 4 (xs ++ 0 ∷ 0 ∷ 0 ∷ 0 ∷ []) ys ≡ key p block
-key_written xs bytes ys block p e n written h =
-    number_written (xs ++ 0 ∷ 0 ∷ 0 ∷ 0 ∷ []) ys xs (0 ∷ 0 ∷ 0 ∷ 0 ∷ []) block p refl (e ∙ h.bytes_are)
-    (ap length e ∙ n) refl written
+    → put_mid 120 4 (xs ++ 0 ∷ 0 ∷ 0 ∷ 0 ∷ []) ys ≡ bytes ++ to_be_bytes w32 block
+key_written xs bytes ys block e n written =
+    block_written (xs ++ 0 ∷ 0 ∷ 0 ∷ 0 ∷ []) ys xs (0 ∷ 0 ∷ 0 ∷ 0 ∷ []) block refl (ap length e ∙ n) refl written
+    ∙ ap (λ t. t ++ to_be_bytes w32 block) e
+
+-- a field is the bytes of the names, and zeros
+pub bytes_of_field : (bytes : List ℕ) (len : ℕ) (p : Path) → IsField bytes len p
+    → bytes ≡ zero_filled 120 (name_bytes p)
+unfolding field
+bytes_of_field bytes len p h = h.bytes_are
+
+-- the key of a path is its field and a block number
+pub key_of_path : (bytes : List ℕ) (len block : ℕ) (p : Path) → IsField bytes len p
+    → bytes ++ to_be_bytes w32 block ≡ key p block
+unfolding key
+key_of_path bytes len block p h = ap (λ t. t ++ to_be_bytes w32 block) h.bytes_are
 
 -- what is written behind the bytes of a field, over the zeros that fill it
 pub written_behind : (front xs back bytes copied : List ℕ) (start count : ℕ) → bytes ≡ zero_filled 120 front ++ back

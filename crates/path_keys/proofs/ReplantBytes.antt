@@ -1,17 +1,17 @@
 -- Lemmas on places whose subtree has moved, and on equal paths.
-use Rattle.std.proofs.Common.{◌≡◌, ℕ, ◌+◌, ◌<◌, ◌≤◌, List, ◌++◌, length, drop, refl, sym, ap, ap₂, ◌∙◌, subst, arith}
-use Rattle.std.proofs.Common.{Bool, true, false, IsTrue, length-append, nat_eq}
+use Rattle.std.proofs.Common.{◌≡◌, ℕ, ◌+◌, ◌-◌, ◌<◌, ◌≤◌, List, ◌++◌, length, take, drop, refl, sym, ap, ap₂, ◌∙◌}
+use Rattle.std.proofs.Common.{subst, arith, Bool, true, false, IsTrue, length-append, nat_eq}
 use Rattle.std.specs.List.{list_all}
 use Rattle.std.specs.Bool.{Decides}
 use Rattle.std.specs.Cmp.Lexicographic.{pointwise}
 use Rattle.std.specs.Int.{w32, to_be_bytes}
-use Rattle.std.proofs.lemmas.List.{append_cancel_left}
+use Rattle.std.proofs.lemmas.List.{append_cancel_left, drop_at, take_all}
 use Rattle.std.proofs.lemmas.Slice.Eq.{bytes_eq-Decides, slice_eq-Decides}
 use Rattle.std.proofs.lemmas.Bool.{and_from, le-leb, lt-leb}
 use Rattle.std.proofs.lemmas.Bool.Decides.{same_from_decides}
 use Rattle.store_model.specs.Lists.{zero_filled, same_bytes}
-use Rattle.store_model.specs.Paths.{Path, is_path, is_part, is_place, fits_field, name_bytes, field_len, field, key}
-use Rattle.store_model.specs.Paths.{replanted, is_at_or_inside}
+use Rattle.store_model.specs.Paths.{Path, is_name, is_path, is_part, is_place, fits_field, name_bytes, field_len}
+use Rattle.store_model.specs.Paths.{field, key, replanted, is_at_or_inside}
 use Rattle.store_model.proofs.PathsLemmas.{place_of_path}
 use Rattle.path_keys.specs.Fields.{IsField}
 use Rattle.path_keys.proofs.NameBytes.{name_bytes-append, first_true}
@@ -76,6 +76,53 @@ place_replanted p old new h hp hn fits =
     (all_behind is_part old (drop (length old) p)
     (subst (λ t. list_all is_part t ≡ true) (at_or_inside_split p old h) (first_true (list_all is_part p) _ hp))))
     fits
+
+-- a list behind so many of its elements
+abbrev pub behind : ℕ → List ℕ → List ℕ
+behind count names = take (length names - count) (drop count names)
+
+-- what the names of a path have behind those of a path at which or below which it lies
+pub names_behind : (p old : Path) (names ahead : List ℕ) → is_at_or_inside p old ≡ true → names ≡ name_bytes p
+    → ahead ≡ name_bytes old → name_bytes p ≡ name_bytes old ++ behind (length ahead) names
+names_behind p old names ahead h names_are ahead_is =
+    let rest = name_bytes (drop (length old) p) in
+    let split : names ≡ ahead ++ rest = names_are ∙ bytes_of_below p old h ∙ ap (λ t. t ++ rest) (sym ahead_is) in
+    let past : drop (length ahead) names ≡ rest =
+    ap (drop (length ahead)) split ∙ drop_at ahead rest (length ahead) refl in
+    bytes_of_below p old h
+    ∙ ap (λ t. name_bytes old ++ t) (sym (ap (take (length names - length ahead)) past
+    ∙ take_all (length names - length ahead) rest (omega (arith, ap length split, length-append ahead rest))))
+
+pub old_within : (p old : Path) (names ahead : List ℕ) → is_at_or_inside p old ≡ true → names ≡ name_bytes p
+    → ahead ≡ name_bytes old → length ahead ≤ length names
+old_within p old names ahead h names_are ahead_is =
+    omega (
+      arith,
+      ap length names_are,
+      ap length ahead_is,
+      ap length (bytes_of_below p old h),
+      length-append (name_bytes old) (name_bytes (drop (length old) p)),
+    )
+
+names_replanted : (p old new : Path) → is_at_or_inside p old ≡ true → is_path p ≡ true → is_path new ≡ true
+    → list_all is_name (replanted old new p) ≡ true
+unfolding replanted
+names_replanted p old new h hp hn =
+    all_of_both is_name new (drop (length old) p) (first_true (list_all is_name new) _ hn)
+    (all_behind is_name old (drop (length old) p)
+    (subst (λ t. list_all is_name t ≡ true) (at_or_inside_split p old h) (first_true (list_all is_name p) _ hp)))
+
+-- the field of a path in its new place
+pub replanted_field : (p old new : Path) (below bytes : List ℕ) (len : ℕ) → is_at_or_inside p old ≡ true
+    → is_path p ≡ true → is_path new ≡ true → name_bytes p ≡ name_bytes old ++ below
+    → bytes ≡ zero_filled 120 (name_bytes new ++ below) → len ≡ field_len new + length below → len ≤ 120
+    → IsField bytes len (replanted old new p)
+unfolding field
+replanted_field p old new below bytes len h hp hn e is same fits = record {
+  path = and_from _ _ (names_replanted p old new h hp hn) (still_fits p old new below h e (omega arith));
+  bytes_are = is ∙ ap (zero_filled 120) (sym (bytes_replanted p old new below h e));
+  len_is = same ∙ sym (len_replanted p old new below h e);
+}
 
 -- paths are equal where their fields are
 pub same_field : (bytes others : List ℕ) (len other_len : ℕ) (p q : Path) → IsField bytes len p

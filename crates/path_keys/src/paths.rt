@@ -124,10 +124,18 @@ impl Path {
         ensures valid { IsKey result }
         ensures path { IsTrue (model.is_path self.now) }
     {
-        let mut bytes = [0; 124];
-        bytes[..FIELD_LEN].copy_from_slice(&self.bytes);
-        BigEndian::write_u32(&mut bytes[FIELD_LEN..], block);
-        Key::new(bytes)
+        key_of_field(&self.bytes, block)
+    }
+
+    /// The field that has these bytes behind the path's names, and zeros behind them.
+    fn field_behind(&self, behind: &[u8]) -> [u8; FIELD_LEN]
+        requires { model.field_len self.now + length behind.now ≤ FIELD_LEN }
+        ensures { result ≡ zero_filled FIELD_LEN (model.name_bytes self.now ++ behind.now) }
+    {
+        let start = self.len as usize;
+        let mut bytes = self.bytes;
+        bytes[start..start + behind.len()].copy_from_slice(behind);
+        bytes
     }
 
     /// The key whose field has these bytes behind the path's names, and zeros behind them.
@@ -137,10 +145,7 @@ impl Path {
             ++ to_be_bytes w32 block }
         ensures valid { IsKey result }
     {
-        let start = self.len as usize;
-        let mut bytes = *self.key(block).as_bytes();
-        bytes[start..start + behind.len()].copy_from_slice(behind);
-        Key::new(bytes)
+        key_of_field(&self.field_behind(behind), block)
     }
 
     /// Reads the path and the block number of a key; `None` where its field is no path's, or the root's.
@@ -280,6 +285,26 @@ impl Path {
         self.key_behind(&[MARK + 1], 0)
     }
 
+    /// The path after a move of `old` to `new`, where it is `old` or lies below it. `None` where its field would have
+    /// more than 120 bytes.
+    pub fn replant(&self, old: &Path, new: &Path) -> Option<Path>
+        requires { IsTrue (model.is_at_or_inside self.now old.now) }
+        ensures value { IfSome result (λ p. p ≡ model.replanted old.now new.now self.now) }
+        ensures none { IsNone result
+            ↔ (model.fits_field (model.replanted old.now new.now self.now) ≡ false) }
+        ensures valid { IfSome result (λ p. IsTrue (model.is_path p)) }
+    {
+        let below = &self.names()[old.names().len()..];
+        let len = new.names().len() + below.len();
+        if len > FIELD_LEN {
+            return None;
+        }
+        Some(Path {
+            bytes: new.field_behind(below),
+            len: len as u8,
+        })
+    }
+
     /// Whether it lies strictly below the other path.
     pub fn is_inside(&self, other: &Path) -> bool
         ensures value { result ≡ model.is_inside self.now other.now }
@@ -334,6 +359,17 @@ impl Ord for Path {
     {
         self.bytes.cmp(&other.bytes)
     }
+}
+
+/// The key of a field and a block number.
+fn key_of_field(field: &[u8; FIELD_LEN], block: u32) -> Key
+    ensures value { result ≡ field.now ++ to_be_bytes w32 block }
+    ensures valid { IsKey result }
+{
+    let mut bytes = [0; 124];
+    bytes[..FIELD_LEN].copy_from_slice(field);
+    BigEndian::write_u32(&mut bytes[FIELD_LEN..], block);
+    Key::new(bytes)
 }
 
 /// The block number that four bytes spell.

@@ -12,4 +12,4 @@ pub use any::AnyDraw;
 pub use draw::Draw;
 pub use front::Front;
 pub use ruler::RulerDraw;
-pub use sha::{ShaDraw, level_of_digest};
+pub use sha::{ShaDraw, level_of_digest, start_of_digest};

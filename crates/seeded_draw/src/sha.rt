@@ -1,11 +1,11 @@
 //! The draw `sha256`, by digests of the seed and the label or key.
 
-ghost use Rattle.std.specs.Prelude.{◌≡◌, ◌≤◌, ◌==◌, ◌+◌, ◌∷◌, ◌++◌, length};
+ghost use Rattle.std.specs.Prelude.{◌≡◌, ◌≤◌, ◌==◌, ◌+◌, ◌%◌, ◌∷◌, ◌++◌, length};
 ghost use Rattle.std.specs.List.{prefix_len};
 ghost use Rattle.sha2.specs.Sha256.{sha256};
 ghost use Rattle.seeded_draw.specs.Drawn.{sha256_draw, sha256_digest, number_of_digest};
 ghost use Rattle.seeded_draw.specs.Lawful.{sha256_is_lawful};
-ghost use Rattle.store_model.specs.Draws.{level_of_digest, hex_digits};
+ghost use Rattle.store_model.specs.Draws.{start_of_digest, level_of_digest, hex_digits};
 
 use crate::draw::Draw;
 use crate::front::Front;
@@ -40,6 +40,25 @@ pub(crate) fn number_of_digest(digest: &[u8; 32]) -> u64
     let mut front = [0; 8];
     front.copy_from_slice(&digest[..8]);
     u64::from_be_bytes(front)
+}
+
+/// The slot that a digest of SHA-256 (FIPS 180-4) draws, below `slots`: the number in the digest's first eight bytes,
+/// high byte first, modulo `slots`, which is at least 1. The probe sequence of a label starts there, where the digest
+/// is that of the seed, the byte 53 (hexadecimal) and the label.
+#[tactic(auto, unfolding(store_model::specs::Draws::start_of_digest, crate::specs::Drawn::number_of_digest))]
+pub fn start_of_digest(digest: &[u8; 32], slots: u32) -> u32
+    requires { 1 ≤ slots }
+    ensures { result ≡ start_of_digest digest.now slots }
+{
+    slot_of_number(number_of_digest(digest), slots)
+}
+
+/// The slot that a number draws, below `slots`.
+fn slot_of_number(number: u64, slots: u32) -> u32
+    requires { 1 ≤ slots }
+    ensures { result ≡ number % slots }
+{
+    (number % u64::from(slots)) as u32
 }
 
 /// The level that a digest draws, below `height`: the number of its leading zero hexadecimal digits, at
@@ -121,10 +140,10 @@ impl Draw for ShaDraw {
         self.height
     }
 
+    #[tactic(auto, unfolding(store_model::specs::Draws::sha256_start))]
     fn start(&self, label: &Label) -> u32 {
         let message = self.message(START_BYTE, &label.to_bytes());
-        let digest = number_of_digest(&Sha256::digest(message.as_slice()));
-        self.start_by(label, digest)
+        start_of_digest(&Sha256::digest(message.as_slice()), self.slots)
     }
 
     #[tactic(auto, unfolding(store_model::specs::Draws::sha256_level))]
@@ -152,6 +171,6 @@ impl Draw for ShaDraw {
     #[tactic(auto, unfolding(store_model::specs::Draws::sha256_start, store_model::specs::Draws::start_of_digest, crate::specs::Drawn::number_of_digest))]
     fn start_by(&self, label: &Label, digest: u64) -> u32 {
         let _ = label;
-        (digest % u64::from(self.slots)) as u32
+        slot_of_number(digest, self.slots)
     }
 }

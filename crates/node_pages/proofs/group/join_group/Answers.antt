@@ -1,37 +1,27 @@
-use Rattle.std.proofs.Common.{◌≡◌, ◌==◌, List, ap, sym, ◌∙◌}
+use Rattle.std.proofs.Common.{◌≡◌, ◌==◌, ℕ, List, Result, Ok, Err, IfOk, ap, ◌∙◌}
 use Rattle.std.specs.List.{filter, flat_map}
-use Rattle.std.proofs.lemmas.List.{take_all}
-use Rattle.store_model.specs.Labels.{Label}
 use Rattle.store_model.specs.Pages.{Page}
 use Rattle.node_pages.specs.Cells.{CellList}
-use Rattle.node_pages.proofs.Joined.{cells_of_group, group_of_level, joined_page, passed_page}
+use Rattle.node_pages.specs.Groups.{level_of_pages}
+use Rattle.node_pages.proofs.Joined.{joined_group}
 use Rattle.node_pages.proofs.group.join_group.Goals as goal
-use Rattle.node_pages.proofs.group.join_group.Goals.{then-label-level+in_ok-append_from, else-label-level}
 
-pub loop-page-preserved : goal.loop-page-preserved
-loop-page-preserved c =
-    let level = c.args.level in
-    let pages = c.as_slice-page-items.result.now in
-    let page = c.page-item.result in
-    let level_is : c.label-in-loop-page.inside.level ≡ page.label.level =
-    ap (λ (l : Label). l.level) (c.label-in-loop-page.view_is ∙ c.label.ensures.value) in
-    elim c.if-label-level.branch [
-      | then-label-level+in_ok-append_from w ↦
-          w.cells-is ∙ joined_page level pages c.loop-page.page-index page
-          c.loop-page-test.true c.page-item.is c.loop-page.cells _
-          w.len.result (sym level_is ∙ w.if-label-level.true)
-          w.len.ensures.value c.loop-page.invariant w.in_ok-append_from.ensures.ok
-      | else-label-level w ↦
-          w.cells-is ∙ passed_page level pages c.loop-page.page-index page
-          c.loop-page-test.true c.page-item.is c.loop-page.cells (λ same. w.if-label-level.false (level_is ∙ same))
-          c.loop-page.invariant
-    ]
+-- what holds of each value holds of the value, if there is one
+of_ok : {T E : Type 0} (P Q : T → Type 0) (answer : Result T E) → ((value : T) → P value → Q value)
+    → IfOk answer P → IfOk answer Q
+of_ok P Q (Ok value) follows holds = follows value holds
+of_ok P Q (Err fault) follows holds = holds
 
 pub returns-clause-group : goal.returns-clause-group
-returns-clause-group c lead cells of_group =
-    let all = take_all c.loop-page.page-index c.as_slice-page-items.result.now c.loop-page-test.false
-    ∙ c.as_slice-page-items.ensures.value ∙ of_group in
-    ap (λ (l : CellList). l.cells) c.loop-page.invariant
-    ∙ ap (λ (ps : List Page). flat_map (λ page. page.cells) (filter (λ page. page.label.level == c.args.level) ps)) all
-    ∙ ap (flat_map (λ page. page.cells)) (group_of_level c.args.level lead cells)
-    ∙ cells_of_group c.args.level lead cells
+returns-clause-group c level lead cells of_group =
+    let joined : ℕ → List Page → CellList = λ first pages. record {
+      level = first;
+      cells = flat_map (λ page. page.cells) (filter (λ page. page.label.level == first) pages);
+    } in
+    of_ok (λ value. value ≡ joined c.level_of.result c.args.pages.now) (λ value. value.cells ≡ cells)
+    c.join_level.result
+    (λ value is. ap (λ (l : CellList). l.cells)
+    (is ∙ ap (λ first. joined first c.args.pages.now) c.level_of.ensures
+    ∙ ap (λ pages. joined (level_of_pages pages) pages) of_group)
+    ∙ joined_group level lead cells)
+    (c.join_level.ensures)

@@ -1,6 +1,6 @@
 use Rattle.std.proofs.Common.{◌≡◌, ◌==◌, take}
 use Rattle.std.specs.List.{filter, flat_map}
-use Rattle.node_pages.proofs.group.join_group.Given as goal
+use Rattle.node_pages.proofs.group.join_level.Given as goal
 
 abbrev pub invariant-loop-page : goal.invariant-loop-page
 invariant-loop-page l = l.cells ≡ record {
