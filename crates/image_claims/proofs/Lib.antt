@@ -1,6 +1,7 @@
 pub mod Checking
 pub mod Costing
 pub mod CutShort
+pub mod EachStatus
 pub mod EndingLemmas
 pub mod FaultLemmas
 pub mod Imaging
