@@ -3,7 +3,7 @@
 //!
 //! They hold what no clause says: tables that were worked out by hand or by another program, how many slots are read,
 //! how many starts are drawn and how many labels are digested, also on tables that are made to take work, and that each
-//! call succeeds. Whole slots are judged in `layout_opinion`, by two opinions.
+//! call succeeds. Whole images are judged by the program and by a reference program, which `.ci/cases` compares.
 #![tactic(auto)]
 
 #[cfg(test)]

@@ -27,6 +27,3 @@ pub use mirrors::{Mirrored, mirror, mirror_anything};
 pub use runs::check_behind_runs;
 pub use table::{call_counted, number_of, table_is_spelled_out};
 pub use words::call_unserved;
-
-#[cfg(test)]
-mod tests;

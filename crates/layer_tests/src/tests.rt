@@ -2,13 +2,12 @@
 
 mod attributes;
 mod command_lines;
+mod commands;
 mod faults;
 mod files;
-mod listed_pages;
 mod listings;
 mod moves;
 mod paths;
 mod scripts;
-mod short_files;
 mod skip_lists;
 mod upgrades;

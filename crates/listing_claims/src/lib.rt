@@ -11,8 +11,6 @@ mod dumped;
 mod loaded;
 mod nothing;
 mod same;
-#[cfg(test)]
-mod tests;
 
 pub use again::{Copied, a_dump_is_loaded_again};
 pub use crash::a_crash_leaves_all_of_a_load_or_nothing;

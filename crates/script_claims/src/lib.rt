@@ -17,8 +17,6 @@ mod machines;
 mod nothing;
 mod refused;
 mod removed;
-#[cfg(test)]
-mod tests;
 mod upgraded;
 
 pub use acknowledged::what_was_acknowledged_stays;

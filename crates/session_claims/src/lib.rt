@@ -13,8 +13,6 @@ mod crash;
 mod groups;
 mod hold;
 mod nothing;
-#[cfg(test)]
-mod tests;
 
 pub use acknowledged::what_a_session_acknowledged_stays;
 pub use answered::a_session_is_answered;

@@ -1,15 +1,7 @@
 //! The tests, a module for each kind, and `support`, which they share.
 
-mod attributes;
 mod failures;
-mod generations;
-mod help;
-mod images;
-mod outside;
 mod reads;
-mod scripts;
-mod scrubs;
+mod sessions;
+mod stops;
 mod support;
-mod upgraded;
-mod upgrades;
-mod words;

@@ -7,7 +7,6 @@ mod journals;
 mod layouts;
 mod many_pages;
 mod page_slots;
-mod sorted_layouts;
 mod staged_pages;
 mod staged_slots;
 mod tables;

@@ -28,13 +28,6 @@ enum Change {
 /// the pairs.
 type Counted = (&'static str, Change, Answer<()>, u32);
 
-/// Changes of a file that is absent, which leave it with one block.
-static ONE_BLOCK: [Counted; 3] = [
-    ("257 bytes", Change::Fill(0, 257), Ok(()), 4),
-    ("a cut to 256", Change::Cut(256), Ok(()), 3),
-    ("a cut to 257", Change::Cut(257), Err(Refusal::Gap), 1),
-];
-
 /// Changes of a file that is absent, under the version that has a short one in its first pair.
 static ONE_PAIR: [Counted; 7] = [
     ("200 bytes", Change::Fill(0, 200), Ok(()), 2),
@@ -49,7 +42,7 @@ static ONE_PAIR: [Counted; 7] = [
 ];
 
 /// Changes of a file of the greatest length.
-static LONGEST: [Counted; 5] = [
+static LONGEST: [Counted; 9] = [
     (
         "a byte behind the end",
         Change::Fill(16_777_216, 1),
@@ -64,22 +57,31 @@ static LONGEST: [Counted; 5] = [
         Ok(()),
         17,
     ),
-    ("a cut by five blocks", Change::Cut(16_776_640), Ok(()), 6),
-];
-
-/// Changes at the end of a file of 1 MiB, whose last block is full.
-static FULL_BLOCKS: [Counted; 2] = [
+    // Two blocks go, and the one before them is cut.
     (
-        "a byte behind the end",
-        Change::Fill(1_048_576, 1),
+        "a cut to three quarters of a block",
+        Change::Cut(16_776_640),
+        Ok(()),
+        6,
+    ),
+    ("a cut to full blocks", Change::Cut(16_776_448), Ok(()), 3),
+    (
+        "a byte behind a full block",
+        Change::Fill(16_776_448, 1),
         Ok(()),
         3,
     ),
     (
-        "the last byte of the last full block",
-        Change::Fill(1_048_575, 1),
+        "the last byte of a full block",
+        Change::Fill(16_776_447, 1),
         Ok(()),
         3,
+    ),
+    (
+        "a cut to more bytes than there are",
+        Change::Cut(16_776_450),
+        Err(Refusal::Gap),
+        1,
     ),
 ];
 
@@ -120,44 +122,25 @@ fn are_made(
 }
 
 #[test]
-fn file_of_one_block(rt: HostRuntime) {
-    let mut list = CountedPairs::new(rt.alloc());
-    are_made(&rt, &mut list, &path(&rt, "/g"), Version::One, &ONE_BLOCK);
-    assert!(rt; list.len() == 2);
-}
-
-#[test]
 fn file_in_one_pair(rt: HostRuntime) {
     let mut list = CountedPairs::new(rt.alloc());
     are_made(&rt, &mut list, &path(&rt, "/s"), Version::Two, &ONE_PAIR);
     assert!(rt; list.len() == 1);
 }
 
-/// Fills a file that is absent by so many writes, each of so many whole blocks, at most 16.
-fn fill(rt: &impl Abort, list: &mut CountedPairs, path: &Path, writes: u16, blocks: u8) {
-    let len = u32::from(blocks.min(16)) * 256;
-    for piece in 0..u32::from(writes) {
-        let change = Change::Fill(piece * len, len as usize);
-        let came = made_by(list, path, Version::One, change);
-        let wanted = Ok((Ok(()), u32::from(blocks) + 2));
-        assert_eq!(rt; came, wanted, "piece {piece}: the answer and the calls");
+/// Fills a file that is absent by 4,096 writes, each of 16 whole blocks.
+fn fill(rt: &impl Abort, list: &mut CountedPairs, path: &Path) {
+    for piece in 0..4096u32 {
+        let came = made_by(list, path, Version::One, Change::Fill(piece * 4096, 4096));
+        assert!(rt; came == Ok((Ok(()), 18)), "piece {piece}");
     }
-}
-
-#[test]
-fn full_blocks(rt: HostRuntime) {
-    let mut list = CountedPairs::new(rt.alloc());
-    let file = path(&rt, "/f");
-    fill(&rt, &mut list, &file, 512, 8);
-    assert!(rt; list.len() == 4097);
-    are_made(&rt, &mut list, &file, Version::One, &FULL_BLOCKS);
 }
 
 #[test]
 fn longest_file(rt: HostRuntime) {
     let mut list = CountedPairs::new(rt.alloc());
     let file = path(&rt, "/f");
-    fill(&rt, &mut list, &file, 4096, 16);
+    fill(&rt, &mut list, &file);
     assert!(rt; list.len() == 65_537);
     are_made(&rt, &mut list, &file, Version::One, &LONGEST);
 }

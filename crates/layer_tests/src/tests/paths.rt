@@ -30,6 +30,16 @@ static LENGTHS: [(usize, usize, bool); 7] = [
     (120, 1, false),
 ];
 
+/// The columns are: a path, and from where and to where it or one above it is moved, by which the row is named; and the
+/// path that it then is.
+static MOVES: [(&str, &str, &str, &str); 5] = [
+    ("/d/x", "/d", "/e", "/e/x"),
+    ("/d", "/d", "/e/f", "/e/f"),
+    ("/d/x/y", "/d/x", "/", "/y"),
+    ("/x", "/", "/d", "/d/x"),
+    ("/d", "/d", "/", "/"),
+];
+
 /// The path that a text spells.
 pub(crate) fn path(rt: &impl Abort, text: &str) -> Path {
     Path::parse(text.as_bytes()).expect(rt, "a path")
@@ -85,6 +95,42 @@ fn attributes_are_moved_with_their_path(rt: HostRuntime) {
     let moved = replant(&key_of(&rt, "/d/x", "k"), &old, &new).expect(&rt, "room");
     assert!(rt; moved == key_of(&rt, "/e/f/x", "k"));
     assert!(rt; replant(&old.key(7), &old, &new).expect(&rt, "room") == new.key(7));
+}
+
+/// The path that the text spells, after a move of `from` to `to`; it is `from` or lies below it.
+fn moved(rt: &impl Abort, text: &str, from: &Path, to: &Path) -> Option<Path> {
+    let path = path(rt, text);
+    if path.is_inside(from) {
+        return path.replant(from, to);
+    }
+    assert!(rt; path == *from, "not moved: {text}");
+    from.replant(from, to)
+}
+
+#[test]
+fn paths_are_moved_with_one_above(rt: HostRuntime) {
+    for (text, from, to, wanted) in &MOVES {
+        let came = moved(&rt, text, &path(&rt, from), &path(&rt, to));
+        assert!(rt;
+            came == Some(path(&rt, wanted)),
+            "{text} with {from} to {to}"
+        );
+    }
+}
+
+#[test]
+fn a_moved_path_has_120_bytes_at_most(rt: HostRuntime) {
+    let mut text = [b'a'; 119];
+    text[0] = b'/';
+    let longest = Path::parse(&text[..118]).expect(&rt, "a path");
+    let too_long = Path::parse(&text).expect(&rt, "a path");
+    let from = path(&rt, "/d");
+    assert!(rt; moved(&rt, "/d/x", &from, &longest).is_some(), "120 bytes");
+    assert!(rt; moved(&rt, "/d/x", &from, &too_long).is_none(), "121 bytes");
+    assert!(rt;
+        moved(&rt, "/d", &from, &too_long) == Some(too_long),
+        "the path itself"
+    );
 }
 
 #[test]

@@ -1,8 +1,7 @@
-//! Scripts up to a limit, replies of many lines and the longest one, and streams of std that fail in the middle.
+//! Replies of many lines and the longest one, and streams of std that fail in the middle.
 
 use script_lines::{
-    Line, LineFault, LineReader, MAX_SCRIPT, MemSink, Reply, Sink, Source, StdSink, StdSource,
-    write_reply,
+    Line, LineReader, MAX_SCRIPT, MemSink, Reply, Sink, Source, StdSink, StdSource, write_reply,
 };
 use std::alloc::Global;
 use std::io;
@@ -18,61 +17,7 @@ fn answer_of<R: Source>(reader: &mut LineReader<R>) -> &str {
     match reader.next_line() {
         Ok(Line::Text) => str::from_utf8(reader.text()).unwrap_or("NO TEXT"),
         Ok(_) => "END",
-        Err(LineFault::Source) => "FAULT",
-        Err(LineFault::TooLong) => "TOO LONG",
-    }
-}
-
-/// Looks whether these are the reader's next answers.
-fn tells_all<R: Source>(rt: &impl Abort, reader: &mut LineReader<R>, answers: &[&str], row: &str) {
-    for answer in answers {
-        assert_eq!(rt; answer_of(reader), *answer, "{row}");
-    }
-}
-
-/// Looks whether these are the answers of a reader of lines, at most so many bytes, over this one, and gives it back.
-fn read_from<R: Read + Drop>(
-    rt: &impl Abort,
-    alloc: Global,
-    reader: R,
-    limit: u64,
-    answers: &[&str],
-    row: &str,
-) -> R {
-    let lines = LineReader::with_limit(alloc, StdSource::new(reader), limit);
-    let mut lines = lines.ok().expect(rt, "memory");
-    tells_all(rt, &mut lines, answers, row);
-    lines.into_source().into_inner()
-}
-
-/// The columns are: the name of the row; a script; the most bytes of it that a reader takes; and what it answers.
-static LIMITS: [(&str, &str, u64, &[&str]); 4] = [
-    (
-        "a byte more than the limit",
-        "space\nx",
-        6,
-        &["space", "TOO LONG", "NONE"],
-    ),
-    ("just the limit", "space\n", 6, &["space", "END"]),
-    (
-        "empty lines, and a byte more than the limit",
-        "\nmake /a\n\n\nlist /\nspace",
-        22,
-        &["make /a", "list /", "TOO LONG", "NONE"],
-    ),
-    (
-        "empty lines, and just the limit",
-        "\nmake /a\n\n\nlist /\nspace",
-        23,
-        &["make /a", "list /", "space", "END"],
-    ),
-];
-
-#[test]
-fn a_script_is_read_to_its_limit(rt: HostRuntime) {
-    for (row, script, limit, answers) in &LIMITS {
-        let left = read_from(&rt, rt.alloc(), script.as_bytes(), *limit, *answers, *row);
-        assert!(rt; left.is_empty(), "all of the script is read: {row}");
+        Err(_) => "FAULT",
     }
 }
 
@@ -137,18 +82,19 @@ impl Write for Uneven {
     }
 }
 
+/// Reads the first three answers of a reader of lines over this one, and gives it back.
+fn read_three(rt: &impl Abort, alloc: Global, reader: Uneven) -> Uneven {
+    let lines = LineReader::with_limit(alloc, StdSource::new(reader), MAX_SCRIPT);
+    let mut lines = lines.ok().expect(rt, "memory");
+    for answer in ["a", "FAULT", "NONE"] {
+        assert!(rt; answer_of(&mut lines) == answer, "{answer}");
+    }
+    lines.into_source().into_inner()
+}
+
 #[test]
 fn readers_of_std_are_adapted(rt: HostRuntime) {
-    let answers = ["a", "FAULT", "NONE"];
-    let uneven = read_from(
-        &rt,
-        rt.alloc(),
-        Uneven::new(),
-        MAX_SCRIPT,
-        &answers,
-        "an uneven reader",
-    );
-    assert!(rt; uneven.calls == 3);
+    assert!(rt; read_three(&rt, rt.alloc(), Uneven::new()).calls == 3);
 }
 
 #[test]

@@ -1,16 +1,13 @@
-//! Lists of pairs and their pages, which were worked out by hand or come from another program.
+//! Lists of pairs, with the calls on their pages counted. The counts were worked out by hand or come from another
+//! program.
 
-use super::listed_pages::{RULER, SHA256};
 use super::paths::path;
-use super::short_files::text_of;
-use node_pages::{Page, Pages};
 use ordered_pairs::{MapPairs, OrderedPairs};
 use seeded_draw::AnyDraw;
 use skip_levels::SkipList;
 use std::alloc::Global;
 use std::process::Abort;
-use std::str::SplitWhitespace;
-use store_base::{DrawKind, Fault, Key, Label, Lead, Params, Value};
+use store_base::{DrawKind, Fault, Key, Params, Value};
 use test_samples::CountedPages;
 
 /// The key that a word spells: its path, and the block number 1 where `#1` stands behind it.
@@ -51,158 +48,39 @@ fn change(
     }
 }
 
-/// The pages after these changes of a list.
-fn changed(
-    rt: &impl Abort,
-    alloc: Global,
-    pages: CountedPages,
-    draw: AnyDraw,
-    changes: &str,
-) -> CountedPages {
-    let mut list = SkipList::new(alloc, pages, draw);
-    for word in changes.split_whitespace() {
-        assert_eq!(rt; change(rt, &mut list, word), Ok(true), "the change {word}");
-    }
-    list.into_pages()
-}
-
-/// The number that the next word spells.
-fn number(rt: &impl Abort, words: &mut SplitWhitespace<'_>) -> u32 {
-    let word = words.next().expect(rt, "a number");
-    word.parse::<u32>().expect(rt, "a number")
-}
-
-/// The label that the next words tell: a level, what leads the group, and an index.
-fn next_label(rt: &impl Abort, words: &mut SplitWhitespace<'_>) -> Label {
-    let level = words.next().expect(rt, "a level");
-    let level = level.parse::<u8>().expect(rt, "a number");
-    let lead = match words.next().expect(rt, "a lead") {
-        "start" => Lead::Start,
-        word => Lead::Key(key_of(rt, word)),
-    };
-    Label {
-        level,
-        lead,
-        index: number(rt, words),
-    }
-}
-
-/// Looks whether the page of the row has the keys that the words tell, each in turn.
-fn has_keys(rt: &impl Abort, page: &Page, words: &mut SplitWhitespace<'_>, row: &str) {
-    for i in 0..page.len() {
-        let word = words.next().unwrap_or("/");
-        let (came, wanted) = (page.key(i), key_of(rt, word));
-        assert!(rt;
-            came == wanted,
-            "{row}: key {i} of a page is {:?}, wanted {word:?}, or none more where that is the root",
-            text_of(came.as_bytes())
-        );
-    }
-}
-
-/// Looks whether a page of the row is as told by its level, what leads it, its index and its keys; with no key it is
-/// gone.
-fn is_as_told<P: Pages>(rt: &impl Abort, pages: &mut P, told: &str, row: &str) {
-    let mut words = told.split_whitespace();
-    let label = next_label(rt, &mut words);
-    if let Some(page) = pages.look(&label).expect(rt, "a page") {
-        has_keys(rt, page, &mut words, row);
-    }
-    assert_eq!(rt;
-        words.next(),
-        None,
-        "{row}: keys that the page {told:?} lacks"
-    );
-}
-
-/// Looks whether the pages of the row are as told, and answers how many are told.
-fn are_as_told<P: Pages>(rt: &impl Abort, pages: &mut P, told: &str, row: &str) -> usize {
-    let mut count: usize = 0;
-    for page in told.split(',') {
-        is_as_told(rt, pages, page, row);
-        count = count.saturating_add(1);
-    }
-    count
-}
-
-/// Which pages the rows of a table tell of.
-#[derive(Clone, Copy)]
-enum Told {
-    /// All that there are after the changes.
-    Left,
-    /// Those that the changes put and drop.
-    Changed,
-}
-
-/// Carries out each row's changes, and looks whether the pages told are as told, and no others.
-fn come_to_pages(rt: &impl Abort, alloc: Global, draw: AnyDraw, rows: &str, which: Told) {
-    let mut pages = CountedPages::new(alloc);
-    for row in rows.split(';') {
-        let (row, rest) = row.split_once('|').expect(rt, "a name");
-        let (changes, told) = rest.split_once('|').expect(rt, "changes and pages");
-        pages = changed(rt, alloc, pages, draw, changes);
-        let count = match which {
-            Told::Left => pages.len(),
-            Told::Changed => pages.changes() as usize,
-        };
-        let wanted = are_as_told(rt, &mut pages, told, row);
-        assert_eq!(rt; count, wanted, "{row}: how many pages");
-    }
-}
-
 /// The draw `ruler` with three levels.
 fn ruler(rt: &impl Abort) -> AnyDraw {
     AnyDraw::new(&Params::new(8, 3, DrawKind::Ruler, [0; 32]).expect(rt, "parameters"))
 }
 
-/// Three directories in each order, each row named by it.
-static ORDERS: [&str; 6] = [
-    "+/UU +/Ua +/b",
-    "+/UU +/b +/Ua",
-    "+/Ua +/UU +/b",
-    "+/Ua +/b +/UU",
-    "+/b +/UU +/Ua",
-    "+/b +/Ua +/UU",
-];
-
-/// The pages of /UU, /Ua and /b, and what is left when /UU and then /Ua is removed: the table of `listed_pages`, whose
-/// first row begins with a name and one of the orders.
-const LEFT: &str = "|0 /UU 0 /UU, 0 /Ua 0 /Ua /b, 1 /UU 0 /UU /Ua, 2 start 0 /UU;\
-    /UU is removed|-/UU|0 /Ua 0 /Ua /b, 1 start 0 /Ua;\
-    /Ua is removed|-/Ua|0 start 0 /b";
-
-#[test]
-fn lists_in_any_order(rt: HostRuntime) {
-    for order in &ORDERS {
-        let rows = format!(in rt.alloc(); "{order} are put|{order}{LEFT}").expect(&rt, "memory");
-        come_to_pages(&rt, rt.alloc(), ruler(&rt), rows.as_str(), Told::Left);
-    }
+/// The pages after this change of a list.
+fn changed(rt: &impl Abort, alloc: Global, pages: CountedPages, word: &str) -> CountedPages {
+    let mut list = SkipList::new(alloc, pages, ruler(rt));
+    assert_eq!(rt; change(rt, &mut list, word), Ok(true), "the change {word}");
+    list.into_pages()
 }
 
-#[test]
-fn each_change_of_a_list(rt: HostRuntime) {
-    come_to_pages(&rt, rt.alloc(), ruler(&rt), RULER, Told::Changed);
-}
+/// Changes of a list, each of the one before, and how many pages each puts and drops.
+static CHANGES: &str = "\
+    +/aaU:2 +/UU:4 +/U:2 +/bU:2 +/aU:2 +/b:1 +/UUU:4 +/a:1 +/Ua:3 +/ab:1 +/aUb:2 +/Ub:3 +/aa:1 +/abU:3 +/Uab:2 \
+    +/aaU#1:1 +/a#1:1 +/Uab#1:1 -/bU:2 -/U:2 -/aUb:3 -/UU:3 -/abU:3 -/UUU:4 -/Uab:3 -/aa:1 -/b:1 -/a:1";
 
 #[test]
-fn long_list(rt: HostRuntime) {
-    let mut seed = [0; 32];
-    for (at, byte) in seed.iter_mut().enumerate() {
-        *byte = at as u8;
+fn pages_that_each_change_puts_and_drops(rt: HostRuntime) {
+    let mut pages = CountedPages::new(rt.alloc());
+    for row in CHANGES.split_whitespace() {
+        let (word, count) = row.split_once(':').expect(&rt, "a count");
+        pages = changed(&rt, rt.alloc(), pages, word);
+        assert!(rt; count.parse::<u64>() == Ok(pages.changes()), "{word}");
     }
-    let params = Params::new(8, 4, DrawKind::Sha256, seed).expect(&rt, "parameters");
-    come_to_pages(&rt, rt.alloc(), AnyDraw::new(&params), SHA256, Told::Left);
 }
 
 /// The list of the directories /UU, /Ua and /b, whose pages were not asked for yet.
 fn list_of_three(rt: &impl Abort, alloc: Global) -> SkipList<CountedPages, AnyDraw> {
-    let mut pages = changed(
-        rt,
-        alloc,
-        CountedPages::new(alloc),
-        ruler(rt),
-        "+/UU +/Ua +/b",
-    );
+    let mut pages = CountedPages::new(alloc);
+    for word in ["+/UU", "+/Ua", "+/b"] {
+        pages = changed(rt, alloc, pages, word);
+    }
     pages.lookups();
     pages.changes();
     SkipList::new(alloc, pages, ruler(rt))

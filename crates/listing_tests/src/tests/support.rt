@@ -9,7 +9,7 @@ use std::process::Abort;
 pub const NEVER: u64 = u64::MAX;
 
 /// The room of a sink, in bytes.
-const ROOM: usize = 131_072;
+const ROOM: usize = 262_144;
 
 /// A vector of these.
 pub fn vec_of<T: Copy>(rt: &impl Abort, alloc: Global, items: &[T]) -> Vec<T> {
@@ -38,16 +38,11 @@ pub fn stream_of(
     ListingStream::new(alloc, source).ok().expect(rt, "memory")
 }
 
-/// The lines of a file `/f` of 2,048 bytes, and of these digits behind them, if there are any.
-pub fn long_listing(rt: &impl Abort, alloc: Global, end: &[u8]) -> Vec<u8> {
+/// The lines of a file `/f` of 2,049 bytes.
+pub fn long_listing(rt: &impl Abort, alloc: Global) -> Vec<u8> {
     let mut text = vec_of(rt, alloc, b"write /f 0 ");
     text.extend_from_slice(&[b'a'; 4096]).expect(rt, "memory");
-    text.extend_from_slice(b"\n").expect(rt, "memory");
-    if !end.is_empty() {
-        text.extend_from_slice(b"write /f 2048 ")
-            .expect(rt, "memory");
-        text.extend_from_slice(end).expect(rt, "memory");
-        text.extend_from_slice(b"\n").expect(rt, "memory");
-    }
+    text.extend_from_slice(b"\nwrite /f 2048 0b\n")
+        .expect(rt, "memory");
     text
 }

@@ -1,9 +1,16 @@
-//! Starts and levels by SHA-256 with a seed of zeros, as another program worked them out.
+//! Starts and levels by SHA-256 with a seed of zeros, as another program worked them out, and starts of a known digest.
 
-use seeded_draw::{AnyDraw, Draw, Front};
+use seeded_draw::{AnyDraw, Draw, Front, start_of_digest};
 use std::process::Abort;
 use store_base::{DrawKind, Label, Params};
 use test_samples::{key, led, start_label};
+
+/// The SHA-256 digest of `abc`, an example of FIPS 180-4.
+#[rattlefmt::skip]
+const OF_ABC: [u8; 32] = [
+    0xba, 0x78, 0x16, 0xbf, 0x8f, 0x01, 0xcf, 0xea, 0x41, 0x41, 0x40, 0xde, 0x5d, 0xae, 0x22, 0x23,
+    0xb0, 0x03, 0x61, 0xa3, 0x96, 0x17, 0x7a, 0x9c, 0xb4, 0x10, 0xff, 0x61, 0xf2, 0x00, 0x15, 0xad,
+];
 
 /// The draw of so many slots, and two levels.
 fn draw_of(rt: &impl Abort, slots: u32) -> AnyDraw {
@@ -37,6 +44,13 @@ fn sha256_with_a_seed_of_zeros(rt: HostRuntime) {
     assert!(rt; stands_on(&rt, &mut front, b"a", 0));
     assert!(rt; stands_on(&rt, &mut front, b"f", 1));
     assert!(rt; stands_on(&rt, &mut front, b"a", 0));
+}
+
+#[test]
+fn a_digest_starts_at_these_slots(rt: HostRuntime) {
+    assert!(rt; start_of_digest(&OF_ABC, 16_384) == 4_074, "16,384 slots");
+    assert!(rt; start_of_digest(&OF_ABC, 1_000) == 74, "1,000 slots");
+    assert!(rt; start_of_digest(&OF_ABC, 1) == 0, "one slot");
 }
 
 /// Whether parameters may have so many slots.

@@ -18,6 +18,6 @@ one_rises level list before cell is none =
     (sym (ap (λ (l : CellList). l.cells) is ∙ ap (λ (l : CellList). l.cells ++ cell ∷ []) none))
     (rising_one key_cmp cell.key)
 
-pub cut_group-requires : goal.cut_group-requires
-cut_group-requires c =
+pub cut_group-requires-clause-sorted : goal.cut_group-requires-clause-sorted
+cut_group-requires-clause-sorted c =
     one_rises 0 c.push.new.self c.in_ok-cells.cells c.cell_of.result c.in_ok-push.ensures.ok c.in_ok-cells.ensures

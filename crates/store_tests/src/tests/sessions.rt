@@ -1,0 +1,141 @@
+//! The calls of `session_core` over a disk of which one call fails: whether a session lives on, or the store is
+//! stopped.
+
+use super::support::{MOST_CALLS, Machine, disk_of};
+use disk_model::{FailingDisk, MemDisk};
+use script_lines::{Change, Question, SessionLine, parse_session};
+use session_core::{Committed, SessionFault, Sessions, every_history_is_serial};
+use std::alloc::Global;
+use std::process::Abort;
+use store_core::Store;
+
+/// Sessions over a disk that may fail.
+type FailingSessions = Sessions<FailingDisk<MemDisk>>;
+
+/// Which call ended by a fault of the disk.
+#[derive(Clone, Copy, PartialEq, Eq)]
+enum Failed {
+    /// None did.
+    Nothing,
+    /// That which opens the image.
+    Attach,
+    /// A question: it can be asked once more.
+    Ask,
+    /// A commit that wrote nothing: its session is live, and can be committed once more.
+    Commit,
+    /// A commit that stopped the store, which serves no session any more.
+    Stop,
+}
+
+/// What fails of a session, one behind the other, as later calls of the disk do.
+static FAULTS: [Failed; 4] = [Failed::Attach, Failed::Ask, Failed::Commit, Failed::Stop];
+
+/// The directory that the session makes.
+fn change(rt: &impl Abort) -> Change {
+    let change = match parse_session(b"stage 0 make /a") {
+        Ok(SessionLine::Stage(_, change)) => Some(change),
+        _ => None,
+    };
+    change.expect(rt, "a change")
+}
+
+/// Sessions on a store, none of them live.
+fn sessions_on(
+    rt: &impl Abort,
+    alloc: Global,
+    store: Store<FailingDisk<MemDisk>>,
+) -> FailingSessions {
+    let sessions = match Sessions::new(alloc, store) {
+        Ok(sessions) => Some(sessions),
+        Err((_, store)) => {
+            let _ = store.into_disk();
+            None
+        }
+    };
+    sessions.expect(rt, "memory")
+}
+
+/// Whether each call says that the store is stopped, whether a session has the number or not.
+fn are_stopped(sessions: &mut FailingSessions, id: u32, change: &Change) -> bool {
+    let is_asked = sessions.ask(id, &Question::Digest).err() == Some(SessionFault::Stopped);
+    let is_staged = sessions.stage(id, change) == Err(SessionFault::Stopped);
+    let is_committed = sessions.commit(id).err() == Some(SessionFault::Stopped);
+    let is_dropped = sessions.drop_group(id) == Err(SessionFault::Stopped);
+    let is_begun = sessions.begin() == Err(SessionFault::Stopped);
+    is_asked & is_staged & is_committed & is_dropped & is_begun
+}
+
+/// Whether the session with number 0 can be committed.
+fn is_committed(sessions: &mut FailingSessions) -> bool {
+    matches!(sessions.commit(0), Ok(Committed::Ok))
+}
+
+/// Commits a session, and answers what failed.
+fn commit(rt: &impl Abort, sessions: &mut FailingSessions, change: &Change) -> Failed {
+    if is_committed(sessions) {
+        return Failed::Nothing;
+    }
+    if sessions.store().is_stopped() {
+        assert!(rt; are_stopped(sessions, 0, change) & are_stopped(sessions, 99, change));
+        return Failed::Stop;
+    }
+    assert!(rt; is_committed(sessions));
+    Failed::Commit
+}
+
+/// Begins a session that asks, stages and commits, and answers what failed.
+fn serve(rt: &impl Abort, sessions: &mut FailingSessions, change: &Change) -> Failed {
+    assert!(rt; sessions.begin() == Ok(0));
+    let is_asked = sessions.ask(0, &Question::Digest).is_ok();
+    assert!(rt; is_asked || sessions.ask(0, &Question::Digest).is_ok());
+    assert!(rt; sessions.stage(0, change).is_ok());
+    let failed = commit(rt, sessions, change);
+    if is_asked { failed } else { Failed::Ask }
+}
+
+/// What fails of a session where this call of the disk does, on the first of these images. But where the store is
+/// stopped or the image was not opened, the disk has the second one then.
+fn failed_at(rt: &impl Abort, alloc: Global, images: [&[u8]; 2], call: u64) -> Failed {
+    let [found, made] = images;
+    let Ok(store) = Store::attach(alloc, disk_of(rt, alloc, found, call, None)) else {
+        return Failed::Attach;
+    };
+    let mut sessions = sessions_on(rt, alloc, store);
+    let failed = serve(rt, &mut sessions, &change(rt));
+    let disk = sessions.into_store().into_disk().into_disk();
+    assert!(rt; failed == Failed::Stop || disk.bytes() == made);
+    failed
+}
+
+/// The first call from this one on whose fault comes to something else than this.
+fn first_behind(
+    rt: &impl Abort,
+    alloc: Global,
+    images: [&[u8]; 2],
+    first: u64,
+    failed: Failed,
+) -> u64 {
+    for call in first..MOST_CALLS {
+        if failed_at(rt, alloc, images, call) != failed {
+            return call;
+        }
+    }
+    MOST_CALLS
+}
+
+#[test]
+fn a_fault_leaves_a_session_live_or_stops_the_store(rt: HostRuntime) {
+    every_history_is_serial();
+    let mut machine = Machine::new(rt.alloc());
+    machine.make(&rt, "format 4 1 ruler zeros", "make /a\n");
+    let made = machine.copy(&rt);
+    machine.make(&rt, "format 4 1 ruler zeros", "");
+    let images = [machine.image.as_slice(), made.as_slice()];
+    let mut call = 0;
+    for failed in &FAULTS {
+        let next = first_behind(&rt, rt.alloc(), images, call, *failed);
+        assert!(rt; next > call);
+        call = next;
+    }
+    assert!(rt; failed_at(&rt, rt.alloc(), images, call) == Failed::Nothing);
+}
