@@ -1,10 +1,7 @@
 // Makes the calls of a log on a file, and nothing else, and prints how many microseconds they took, by the clock
-// and of a processor.
+// and of a processor: cc -O2 -o bare bare.c && ./bare LOG FILE
 //
-//   cc -O2 -o bare bare.c
-//   bare LOG FILE
-//
-// The log has the lines of calls.c, of which `reply` asks for nothing. What is written are bytes that are not zero.
+// The log has the lines of calls.c without `reply`. What is written are bytes that are not zero.
 #define _GNU_SOURCE
 #include <fcntl.h>
 #include <stdio.h>
@@ -13,43 +10,20 @@
 #include <time.h>
 #include <unistd.h>
 
-enum { LONGEST = 1 << 20, SOME_BYTE = 0x5a };
+enum { LONGEST = 1 << 20, MOST_CALLS = 1 << 20, SOME_BYTE = 0x5a };
 
 typedef struct {
     char kind; // the first letter of the line: r, w, s or f
-    off_t at;
+    long long at;
     size_t len;
 } Call;
 
 static char bytes[LONGEST];
+static Call calls[MOST_CALLS];
 
 static void fail(const char *what) {
     perror(what);
     exit(1);
-}
-
-// Reads the log's calls, and answers how many there are.
-static size_t read_log(const char *path, Call **calls) {
-    FILE *log = fopen(path, "r");
-    if (log == NULL) fail(path);
-    size_t count = 0, room = 0;
-    char line[64];
-    while (fgets(line, sizeof line, log) != NULL) {
-        if (strcmp(line, "reply\n") == 0) continue;
-        if (count == room) {
-            room = room == 0 ? 1024 : 2 * room;
-            *calls = realloc(*calls, room * sizeof **calls);
-            if (*calls == NULL) fail("memory");
-        }
-        Call call = {.kind = line[0]};
-        long long at = 0;
-        sscanf(line, "%*s %lld %zu", &at, &call.len);
-        call.at = at;
-        if (call.len > LONGEST) call.len = LONGEST;
-        (*calls)[count++] = call;
-    }
-    fclose(log);
-    return count;
 }
 
 static int make(int file, const Call *call) {
@@ -70,10 +44,16 @@ static double now(clockid_t clock) {
 
 int main(int count, char **words) {
     if (count != 3) return 2;
-    Call *calls = NULL;
-    size_t many = read_log(words[1], &calls);
+    FILE *log = fopen(words[1], "r");
     int file = open(words[2], O_RDWR);
-    if (file < 0) fail(words[2]);
+    if (log == NULL || file < 0) fail(words[1]);
+    size_t many = 0;
+    for (char line[64]; fgets(line, sizeof line, log) != NULL; many++) {
+        if (many == MOST_CALLS) fail("too many calls");
+        calls[many].kind = line[0];
+        sscanf(line, "%*s %lld %zu", &calls[many].at, &calls[many].len);
+        if (calls[many].len > LONGEST) fail("too long a call");
+    }
     memset(bytes, SOME_BYTE, sizeof bytes);
     double clock = now(CLOCK_MONOTONIC), processor = now(CLOCK_PROCESS_CPUTIME_ID);
     for (size_t at = 0; at < many; at++)

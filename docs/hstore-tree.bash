@@ -1,6 +1,6 @@
 # shellcheck shell=bash
 # What a shell completes behind `hstore-tree`: the words, their options, folders and files. `hstore --install` puts
-# it where bash looks for it. .ci/brought compares the words with those of help.
+# it where bash looks for it. `bin/texts hstore-tree write` writes the words, which are those of help.
 _hstore_tree() {
     local words='pack unpack plan verify list cat diff map' choices='' files=''
     case "$COMP_CWORD ${COMP_WORDS[1]} ${COMP_WORDS[COMP_CWORD - 1]}" in

@@ -1,6 +1,6 @@
 #compdef hstore-tree
 # What a shell completes behind `hstore-tree`, as docs/hstore-tree.bash does. `hstore --install` puts it where zsh
-# looks for it. .ci/brought tries it where there is a zsh.
+# looks for it. `bin/texts hstore-tree write` writes the words. .ci/brought tries it where there is a zsh.
 local -a its=(pack unpack plan verify list cat diff map)
 if ((CURRENT == 2)); then
     compadd -- help --help --version

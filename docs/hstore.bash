@@ -1,6 +1,6 @@
 # shellcheck shell=bash
 # What a shell completes behind `hstore`: the image as a file, the words, and what is known of their arguments. `hstore
-# --install` puts it where bash looks for it. .ci/person compares the words with those of help.
+# --install` puts it where bash looks for it. `bin/texts hstore write` writes the words, which are those of help.
 _hstore() {
     local words='format format2 run session check scrub wipe upgrade dump load big mirror' choices='' files=''
     case "$COMP_CWORD ${COMP_WORDS[1]} ${COMP_WORDS[2]-}" in

@@ -1,6 +1,6 @@
 #compdef hstore
 # What a shell completes behind `hstore`, as docs/hstore.bash does. `hstore --install` puts it where zsh looks for it.
-# .ci/brought tries it where there is a zsh.
+# `bin/texts hstore write` writes the words. .ci/brought tries it where there is a zsh.
 local -a its=(format format2 run session check scrub wipe upgrade dump load big mirror)
 case $CURRENT in
     2)
