@@ -22,15 +22,20 @@ def key_of(text):
     return hstore.key(field + f"\1{attribute}\0".encode() * bool(mark), int(block or 0))
 
 
+# The bytes with which values begin: those of a directory, of an attribute, of a file in blocks and of one in one pair.
+DIRECTORY, ATTRIBUTE = (value for _, value in hstore.pairs({b"a\0": hstore.Node(None, {b"k": b""})}, 2))
+IN_BLOCKS, SHORT = (hstore.pairs({b"a\0": hstore.NEW_FILE}, version)[0][1][:1] for version in (1, 2))
+
+
 def cell_of(text):
     """A cell of level 0, its key and its value: PATH, a directory; PATH=N, the first pair of a file of N bytes; PATH@B=N,
     block B of a file, N bytes 07; PATH:N, a file of N bytes 07 in one pair; PATH:NAME:N, an attribute of N bytes 07."""
     of, mark, count = text.rpartition("=" if "=" in text else ":")
     if not mark:
-        return key_of(text), b"\1"
+        return key_of(text), DIRECTORY
     if mark == "=":
-        return key_of(of), b"\7" * int(count) if "@" in of else b"\2" + int(count).to_bytes(4, "big")
-    return key_of(of), (b"\4" if ":" in of else b"\3") + b"\7" * int(count)
+        return key_of(of), b"\7" * int(count) if "@" in of else IN_BLOCKS + int(count).to_bytes(4, "big")
+    return key_of(of), (ATTRIBUTE if ":" in of else SHORT) + b"\7" * int(count)
 
 
 def with_page(image, level, lead, index, *cells):
@@ -102,15 +107,15 @@ def some_pairs(dice, image):
     params, tree = hstore.read_image(image)
     cells = dict(hstore.pairs(tree, dice.choice([params.version] * 9 + [3 - params.version])))
     for _ in range(dice.choice([1, 1, 1, 2])):
-        key, value = dice.choice([*cells.items()] or [(hstore.key(b"a\0"), b"\1")])
+        key, value = dice.choice([*cells.items()] or [(hstore.key(b"a\0"), DIRECTORY)])
         path, block = key[:120].rstrip(b"\0") + b"\0", number_of(key[120:]) + dice.choice([1, 1, 2, 1 << 20])
         length = (number_of(value[1:5]) + dice.choice([1, -1, 256, -256, 1 << 24])) % (1 << 32)
         odd = [value[:-1], value + b"\0", bytes([dice.randint(0, 5)]) + value[1:], value[:1], value.ljust(256, b"x")]
         name = (dice.choice([path, path, b""]) + dice.choice(NEW_NAMES) + b"\0")[:120]
-        new = [b"\1", b"\2" + bytes(4), b"\3" + b"x" * dice.choice([0, 200, 201]), b"\4", b"\4" + b"x" * 255]
+        new = [DIRECTORY, IN_BLOCKS + bytes(4), SHORT + b"x" * dice.choice([0, 200, 201]), ATTRIBUTE, ATTRIBUTE + b"x" * 255]
         changes = [{key: None}, {key: dice.choice(odd)[:256]}, {key: value[:1] + length.to_bytes(4, "big")}]
         changes += [{hstore.key(path[:120], block): b"\7" * dice.choice([1, 255, 256])}]
-        changes += [{hstore.key(name): dice.choice(new)}, {hstore.key(b"\0\1k\0"[dice.randrange(2) :]): b"\4"}]
+        changes += [{hstore.key(name): dice.choice(new)}, {hstore.key(b"\0\1k\0"[dice.randrange(2) :]): ATTRIBUTE}]
         cells = {key: value for key, value in {**cells, **dice.choice(changes)}.items() if value is not None}
     return with_pages(image, hstore.pages_of_pairs(sorted(cells.items()), params))
 
@@ -133,7 +138,7 @@ def other_pages(dice, image):
     pages = hstore.pages(tree, params)
     for _ in range(dice.choice([1, 1, 2])):
         of, other = dice.choice([*pages] or [hstore.label(0, None, 0)]), dice.choice([*pages] or [hstore.label(1, None, 0)])
-        cells, others = pages.get(of) or [(hstore.key(b"a\0"), b"\1")], pages.get(other, [])
+        cells, others = pages.get(of) or [(hstore.key(b"a\0"), DIRECTORY)], pages.get(other, [])
         at = dice.randrange(len(cells))
         before, (key, value), after = cells[:at], cells[at], cells[at + 1 :]
         label = other_label(dice, of, [cell[0] for cell in cells + others], params)
