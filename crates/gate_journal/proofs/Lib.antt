@@ -21,3 +21,4 @@ pub mod Layouts
 pub mod Wiping
 pub mod Openings
 pub mod SoFar
+pub mod Faults

@@ -14,9 +14,9 @@ pub trait SlotChanges {
     fn count(&self) -> u32
         ensures { result ≡ (changes self.now).count };
 
-    /// The number of the slot of change `k`, and its new bytes.
-    fn change(&self, k: u32) -> (u32, &Slot)
+    /// The number of the slot of change `k`. Its new bytes are put into `bytes`.
+    fn change(&self, k: u32, bytes: &mut Slot) -> u32
         requires { k < (changes self.now).count }
-        ensures slot { result.0 ≡ (changes self.now).slot k }
-        ensures bytes { result.1.now ≡ (changes self.now).bytes k };
+        ensures slot { result ≡ (changes self.now).slot k }
+        ensures bytes { bytes.new ≡ (changes self.now).bytes k };
 }

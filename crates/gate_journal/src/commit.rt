@@ -17,7 +17,7 @@ use crate::changes::SlotChanges;
 use crate::entry::{write_byte, write_entry, write_flag};
 use disk_model::Disk;
 use store_base::{DiskFault, ZEROS, mark_at, table_at, version_at, version_byte};
-use store_model::{Slot, Version};
+use store_model::{BLOCK, Slot, Version};
 
 /// What a commit changes.
 #[derive(Clone, Copy)]
@@ -116,9 +116,10 @@ fn write_slots<D: Disk, S: SlotChanges>(
         → 0 < (S.changes changes.now).count + version_writes kind
         → Rose (D.state disk.old).writes (D.state disk.new).writes }
 {
+    let mut bytes = [0; BLOCK];
     for k in 0..changes.count() {
-        let (slot, bytes) = changes.change(k);
-        write_slot(disk, slots, slot, bytes, pass)?;
+        let slot = changes.change(k, &mut bytes);
+        write_slot(disk, slots, slot, &bytes, pass)?;
     }
     // Durable before the next pass or flag: a crash there counts on what this one wrote.
     match kind {

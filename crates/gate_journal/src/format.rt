@@ -8,6 +8,7 @@ ghost use Rattle.disk_model.specs.DiskCalls.{IsCall, LeavesOnly, overwrite};
 ghost use Rattle.gate_journal.specs.Places.{IsApart, AreCalls, Reaches, Makes, ReadsOnly};
 ghost use Rattle.gate_journal.specs.Formats.{IsEmptyOrNone, HasEmptyRest, Formats};
 
+use crate::entry::write_byte;
 use disk_model::Disk;
 use store_base::{DiskFault, FIRST_BYTE, Params, image_len, write_header};
 use store_model::BLOCK;
@@ -48,22 +49,6 @@ fn write_rest<D: Disk>(disk: &mut D, params: &Params) -> Result<(), DiskFault>
     disk.sync()
 }
 
-/// Writes this as the first byte, by itself, and makes it durable.
-pub fn write_first<D: Disk>(disk: &mut D, byte: u8) -> Result<(), DiskFault>
-    requires { 1 ≤ (D.state disk.old).size }
-    ensures call { IsCall (D.state disk.old) (D.state disk.new) result }
-    ensures reaches { IsObservable (D.state disk.old)
-        → Reaches (IsApart 0 1) (λ image. image ≡ overwrite (D.state disk.old).bytes 0 (byte ∷ []))
-        (D.state disk.old)
-        (D.state disk.new) result }
-    ensures durable { IsObservable (D.state disk.old) → OnOk result (IsDurable (D.state disk.new)) }
-    ensures makes { IsObservable (D.state disk.old)
-        → Makes 1 1 (D.state disk.old) (D.state disk.new) result }
-{
-    disk.write_at(0, &[byte])?;
-    disk.sync()
-}
-
 /// Writes the image of the empty tree to a disk whose first byte is not that of an image, the first byte last.
 pub fn write_image<D: Disk>(disk: &mut D, params: &Params) -> Result<(), DiskFault>
     requires valid { IsParameters params.now }
@@ -83,5 +68,5 @@ pub fn write_image<D: Disk>(disk: &mut D, params: &Params) -> Result<(), DiskFau
 {
     // Durable before the first byte is written: from then on the disk is an image.
     write_rest(disk, params)?;
-    write_first(disk, FIRST_BYTE)
+    write_byte(disk, 0, FIRST_BYTE)
 }

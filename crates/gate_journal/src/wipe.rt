@@ -5,7 +5,7 @@ ghost use Rattle.disk_model.specs.DiskCalls.{IsCall, overwrite};
 ghost use Rattle.gate_journal.specs.Places.{IsApart, AreCalls, Reaches, Makes, IsZeroAt};
 ghost use Rattle.gate_journal.specs.Wipes.{Wipes, block_count};
 
-use crate::format::write_first;
+use crate::entry::write_byte;
 use disk_model::Disk;
 use store_base::DiskFault;
 use store_model::BLOCK;
@@ -46,6 +46,6 @@ pub fn overwrite_disk<D: Disk>(disk: &mut D) -> Result<(), DiskFault>
         (D.state disk.new) result }
 {
     // Durable before the rest is written: an image that is torn is none.
-    write_first(disk, 0)?;
+    write_byte(disk, 0, 0)?;
     wipe_rest(disk)
 }

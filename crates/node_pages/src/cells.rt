@@ -139,7 +139,7 @@ impl Cells {
     }
 
     /// Cell `i`, the first being 0.
-    pub fn cell(&self, i: u32) -> Cell
+    pub fn get(&self, i: u32) -> Cell
         requires { i < length self.now.cells }
         ensures value { slice_get self.now.cells i ≡ Some result }
         ensures valid { IsCell self.now.level result }

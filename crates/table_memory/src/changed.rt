@@ -22,8 +22,9 @@ impl SlotChanges for ChangedSlots {
         self.slots.len() as u32
     }
 
-    fn change(&self, k: u32) -> (u32, &Slot) {
-        let (at, bytes) = &self.slots[k as usize];
-        (*at, bytes.get())
+    fn change(&self, k: u32, bytes: &mut Slot) -> u32 {
+        let (at, kept) = &self.slots[k as usize];
+        bytes.copy_from_slice(kept.get());
+        *at
     }
 }

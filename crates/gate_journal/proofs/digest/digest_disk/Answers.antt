@@ -3,6 +3,8 @@ use Rattle.std.proofs.Common.{arith, length-take, length-drop}
 use Rattle.std.proofs.lemmas.List.{take_min}
 use Rattle.sha2.specs.Hashers.{Holds256}
 use Rattle.disk_model.specs.DiskState.{IsObservable}
+use Rattle.gate_journal.proofs.Faults.{if_ok_fault}
+use Rattle.gate_journal.proofs.Calls.{AreCalls-one, AreCalls-then, AreCalls-fault, AreCalls-answered}
 use Rattle.gate_journal.proofs.Calls.{observable_after}
 use Rattle.gate_journal.proofs.Reading.{ReadsOnly-read, ReadsOnly-trans}
 use Rattle.gate_journal.proofs.Slots.{take_split}
@@ -54,3 +56,24 @@ loop-block-preserved g c =
           (c.in_ok-read_at.ensures.observed (observes observable)).read long)
           (c.update.ensures (take (4096 * block) old.bytes) (c.loop-block.invariant.holds observable));
     }
+
+pub returns-in_err-read_at-clause-calls : goal.returns-in_err-read_at-clause-calls
+returns-in_err-read_at-clause-calls g c =
+    AreCalls-fault _ _ _ c.from_residual.result c.from_residual.ensures.0
+    (AreCalls-then _ _ _ _ _ c.loop-block.invariant.calls (AreCalls-one _ _ _ c.in_err-read_at.ensures.call))
+
+pub returns-in_err-read_at-clause-reads : goal.returns-in_err-read_at-clause-reads
+returns-in_err-read_at-clause-reads g c observable =
+    let observable_mid = observable_after _ _ _ c.loop-block.invariant.calls observable in
+    ReadsOnly-trans _ _ _ (c.loop-block.invariant.reads observable)
+    (ReadsOnly-read _ _ _ _ _ observable_mid c.read_at.ensures)
+
+pub returns-in_err-read_at-clause-digest : goal.returns-in_err-read_at-clause-digest
+returns-in_err-read_at-clause-digest g c observable =
+    if_ok_fault c.from_residual.result _ c.from_residual.ensures.0
+
+pub returns-clause-calls : goal.returns-clause-calls
+returns-clause-calls g c = AreCalls-answered _ _ _ _ c.loop-block.invariant.calls
+
+pub returns-clause-reads : goal.returns-clause-reads
+returns-clause-reads g c = c.loop-block.invariant.reads

@@ -1,11 +1,13 @@
 use Rattle.std.proofs.Common.{◌∙◌, arith}
 use Rattle.disk_model.proofs.Crashes.{IsObservable-call}
+use Rattle.gate_journal.proofs.Faults.{IsCall-fault}
 use Rattle.gate_journal.proofs.Areas.{marks_end, shadow_end, table_end}
-use Rattle.gate_journal.proofs.Formatting.{formats_failed, reads_rest, leaves_rest, formats, reads_first, leaves_first}
+use Rattle.gate_journal.proofs.Formatting.{formats_failed, reads_rest, leaves_rest, formats, reads_first}
+use Rattle.gate_journal.proofs.Formatting.{leaves_first}
 use Rattle.gate_journal.proofs.format.write_image.Goals as goal
 
-pub write_first-requires : goal.write_first-requires
-write_first-requires g c =
+pub write_byte-requires : goal.write_byte-requires
+write_byte-requires g c =
     omega (
       arith,
       c.requires.size,
@@ -34,36 +36,40 @@ pub returns-clause-formats : goal.returns-clause-formats
 returns-clause-formats g c observable =
     let old = g.D.Disk.state c.args.disk.now in
     let mid = g.D.Disk.state c.write_rest.new.disk in
-    let new = g.D.Disk.state c.write_first.new.disk in
+    let new = g.D.Disk.state c.write_byte.new.disk in
     let observable_1 = IsObservable-call old mid _ c.write_rest.ensures.call observable in
     let long = (g.met.D.Disk.sound c.write_rest.new.disk observable_1).size
     ∙ c.write_rest.ensures.call.size ∙ c.requires.size in
-    formats c.args.params.now c.requires.valid old (c.requires.no_image observable) mid new c.write_first.result long
-    (c.in_ok-write_rest.ensures.reaches observable).done (c.write_first.ensures.reaches observable_1)
-    (c.write_first.ensures.durable observable_1)
+    formats c.args.params.now c.requires.valid old (c.requires.no_image observable) mid new c.write_byte.result long
+    (c.in_ok-write_rest.ensures.reaches observable).done (c.write_byte.ensures.reaches observable_1)
+    (c.write_byte.ensures.durable observable_1)
 
 pub returns-clause-reads : goal.returns-clause-reads
 returns-clause-reads g c observable =
     let old = g.D.Disk.state c.args.disk.now in
     let mid = g.D.Disk.state c.write_rest.new.disk in
-    let new = g.D.Disk.state c.write_first.new.disk in
+    let new = g.D.Disk.state c.write_byte.new.disk in
     let observable_1 = IsObservable-call old mid _ c.write_rest.ensures.call observable in
     let long = (g.met.D.Disk.sound c.write_rest.new.disk observable_1).size
     ∙ c.write_rest.ensures.call.size ∙ c.requires.size in
     reads_first c.args.params.now c.requires.valid old
-    (c.requires.no_image observable) mid new c.write_first.result long
-    (c.in_ok-write_rest.ensures.reaches observable).done (c.write_first.ensures.reaches observable_1)
+    (c.requires.no_image observable) mid new c.write_byte.result long
+    (c.in_ok-write_rest.ensures.reaches observable).done (c.write_byte.ensures.reaches observable_1)
 
 pub returns-clause-crash : goal.returns-clause-crash
 returns-clause-crash g c observable durable =
     let old = g.D.Disk.state c.args.disk.now in
     let mid = g.D.Disk.state c.write_rest.new.disk in
-    let new = g.D.Disk.state c.write_first.new.disk in
+    let new = g.D.Disk.state c.write_byte.new.disk in
     let observable_1 = IsObservable-call old mid _ c.write_rest.ensures.call observable in
     let long = (g.met.D.Disk.sound c.write_rest.new.disk observable_1).size
     ∙ c.write_rest.ensures.call.size ∙ c.requires.size in
     let rest = c.in_ok-write_rest.ensures.reaches observable in
     leaves_first c.args.params.now c.requires.valid old
-    (c.requires.no_image observable) mid new c.write_first.result long
-    rest.done (c.write_first.ensures.reaches observable_1) durable
+    (c.requires.no_image observable) mid new c.write_byte.result long
+    rest.done (c.write_byte.ensures.reaches observable_1) durable
     rest.keeps (c.in_ok-write_rest.ensures.durable observable)
+
+pub returns-in_err-write_rest-clause-call : goal.returns-in_err-write_rest-clause-call
+returns-in_err-write_rest-clause-call g c =
+    IsCall-fault _ _ _ c.from_residual.result c.from_residual.ensures.0 c.in_err-write_rest.ensures.call

@@ -1,17 +1,19 @@
-use Rattle.std.proofs.Common.{◌≡◌, ℕ, ◌+◌, ◌-◌, ◌*◌, ◌/◌, ◌<◌, ◌≤◌, List, length, take, drop, slice_index, sym, ap, ◌∙◌}
-use Rattle.std.proofs.Common.{subst, inl, refl, arith, rules, length-take, length-drop, Result, Ok}
+use Rattle.std.proofs.Common.{◌≡◌, ℕ, ◌+◌, ◌-◌, ◌*◌, ◌/◌, ◌<◌, ◌≤◌, List, length, take, drop, slice_index, sym, ap}
+use Rattle.std.proofs.Common.{◌∙◌, subst, inl, refl, arith, rules, length-take, length-drop, Result, Ok}
 use Rattle.std.proofs.lemmas.List.{length-replicate}
 use Rattle.store_model.specs.Lists.{zeros}
 use Rattle.store_model.specs.Parameters.{Parameters, image_len}
 use Rattle.store_model.specs.Images.{header}
 use Rattle.disk_model.specs.DiskState.{DiskState, IsObservable, IsSound}
 use Rattle.disk_model.specs.DiskCalls.{IsWrite}
+use Rattle.gate_journal.proofs.Faults.{IsCall-fault, on_ok_fault}
+use Rattle.gate_journal.proofs.Calls.{IsCall-then, durable-sync, observable_after, Reaches-fault, Reaches-sync}
+use Rattle.gate_journal.proofs.Calls.{Made-none, Made-then, Made-as, Makes-write, Makes-sync, Makes-then, Makes-as}
+use Rattle.gate_journal.proofs.Calls.{Makes-short}
 use Rattle.gate_journal.specs.Places.{IsApart, Keeps, IsZeroAt}
 use Rattle.gate_journal.specs.Formats.{HasEmptyRest}
 use Rattle.gate_journal.proofs.Areas.{marks_end, shadow_end, table_end, image_blocks}
 use Rattle.gate_journal.proofs.Places.{Keeps-write, Keeps-trans}
-use Rattle.gate_journal.proofs.Calls.{observable_after, Reaches-fault, Reaches-sync, Made-none, Made-then, Made-as}
-use Rattle.gate_journal.proofs.Calls.{Makes-write, Makes-sync, Makes-then, Makes-as, Makes-short}
 use Rattle.gate_journal.proofs.Reading.{apart_within, zero_written, zero_kept, zero_more}
 use Rattle.gate_journal.proofs.Formatting.{header_written}
 use Rattle.gate_journal.proofs.format.write_rest.Goals as goal
@@ -224,3 +226,27 @@ returns-clause-reaches g c observable =
       };
     })
     c.sync.ensures
+
+pub returns-in_err-write_at-clause-call : goal.returns-in_err-write_at-clause-call
+returns-in_err-write_at-clause-call g c =
+    IsCall-fault _ _ _ c.from_residual.result c.from_residual.ensures.0 c.in_err-write_at.ensures.call
+
+pub returns-in_err-write_at-clause-durable : goal.returns-in_err-write_at-clause-durable
+returns-in_err-write_at-clause-durable g c observable =
+    on_ok_fault c.from_residual.result _ c.from_residual.ensures.0
+
+pub returns-in_err-write_at-2-clause-call : goal.returns-in_err-write_at-2-clause-call
+returns-in_err-write_at-2-clause-call g c =
+    IsCall-fault _ _ _ c.from_residual-in_err-write_at-2.result c.from_residual-in_err-write_at-2.ensures.0
+    (IsCall-then _ _ _ _ _ c.loop-block.invariant.calls c.in_err-write_at-2.ensures.call)
+
+pub returns-in_err-write_at-2-clause-durable : goal.returns-in_err-write_at-2-clause-durable
+returns-in_err-write_at-2-clause-durable g c observable =
+    on_ok_fault c.from_residual-in_err-write_at-2.result _ c.from_residual-in_err-write_at-2.ensures.0
+
+pub returns-clause-call : goal.returns-clause-call
+returns-clause-call g c = IsCall-then _ _ _ _ _ c.loop-block.invariant.calls c.sync.ensures.call
+
+pub returns-clause-durable : goal.returns-clause-durable
+returns-clause-durable g c observable =
+    durable-sync _ _ _ (observable_after _ _ _ c.loop-block.invariant.calls observable) c.sync.ensures

@@ -1,14 +1,15 @@
 use Rattle.std.proofs.Common.{ℕ, ◌+◌, List, true, false, sym, ap, inr, subst, ◌∙◌, arith}
 use Rattle.disk_model.specs.DiskState.{DiskState}
+use Rattle.disk_model.proofs.Crashes.{IsObservable-call}
+use Rattle.gate_journal.proofs.Places.{SameAt-refl, SameAt-trans, SameAt-weaken}
+use Rattle.gate_journal.proofs.Calls.{AreCalls-one, AreCalls-then, AreCalls-fault, AreCalls-answered}
+use Rattle.gate_journal.proofs.Calls.{observable_after, Made-reads, Made-then, Makes-reads, Makes-then, Makes-as}
+use Rattle.gate_journal.proofs.Calls.{Makes-short}
 use Rattle.gate_journal.specs.Places.{IsApart, SameAt, Keeps, ReadsOnly}
 use Rattle.gate_journal.specs.Recovery.{IsBehindFlag, OutsideRedone, marked_count, redo_writes, redo_syncs}
 use Rattle.gate_journal.proofs.Counting.{redo_when}
-use Rattle.gate_journal.proofs.Places.{SameAt-trans, SameAt-weaken}
 use Rattle.gate_journal.proofs.Redoing.{before_table}
-use Rattle.disk_model.proofs.Crashes.{IsObservable-call}
 use Rattle.gate_journal.proofs.Areas.{marks_end, shadow_end, table_end}
-use Rattle.gate_journal.proofs.Calls.{observable_after, Made-reads, Made-then, Makes-reads, Makes-then, Makes-as}
-use Rattle.gate_journal.proofs.Calls.{Makes-short}
 use Rattle.gate_journal.proofs.Recoveries.{settles_clear, settles_fault, leaves_redoing, settles_cleared}
 use Rattle.gate_journal.proofs.recover.settle_flag.Goals as goal
 
@@ -131,3 +132,43 @@ returns-clause-makes g c observable =
     (Makes-then old next _ c.write_flag.result (0 + count) (0 + 1) 1 1
     (Made-then old mid next _ 0 0 count 1 (Made-reads old mid reads)
     (c.in_ok-redo_table.ensures.makes observable_1)) (c.write_flag.ensures.makes observable_2))
+
+pub returns-in_err-is_flag_set-clause-calls : goal.returns-in_err-is_flag_set-clause-calls
+returns-in_err-is_flag_set-clause-calls g c =
+    AreCalls-fault _ _ _ c.from_residual.result c.from_residual.ensures.0
+    (AreCalls-one _ _ _ c.in_err-is_flag_set.ensures.call)
+
+pub returns-in_err-is_flag_set-clause-makes : goal.returns-in_err-is_flag_set-clause-makes
+returns-in_err-is_flag_set-clause-makes g c observable =
+    let old = g.D.Disk.state c.args.disk.now in
+    Makes-short old _ c.is_flag_set.result c.from_residual.result 0 0 (redo_writes c.args.slots old.bytes)
+    (redo_syncs old.bytes) c.from_residual.ensures.0 (omega arith) (omega arith)
+    (Makes-reads old _ c.is_flag_set.result c.is_flag_set.result c.is_flag_set.ensures.call
+    (c.is_flag_set.ensures.reads observable))
+
+pub returns-in_err-is_flag_set-clause-journal : goal.returns-in_err-is_flag_set-clause-journal
+returns-in_err-is_flag_set-clause-journal g c observable =
+    let old = g.D.Disk.state c.args.disk.now in
+    subst (SameAt (IsBehindFlag c.args.slots) old.bytes) (sym (c.is_flag_set.ensures.reads observable).bytes)
+    (SameAt-refl (IsBehindFlag c.args.slots) old.bytes)
+
+pub returns-then-not-branch-clause-calls : goal.returns-then-not-branch-clause-calls
+returns-then-not-branch-clause-calls g c =
+    AreCalls-answered _ _ _ _ (AreCalls-one _ _ _ c.in_ok-is_flag_set.ensures.call)
+
+pub returns-then-not-branch-clause-journal : goal.returns-then-not-branch-clause-journal
+returns-then-not-branch-clause-journal g c observable =
+    let old = g.D.Disk.state c.args.disk.now in
+    subst (SameAt (IsBehindFlag c.args.slots) old.bytes) (sym (c.is_flag_set.ensures.reads observable).bytes)
+    (SameAt-refl (IsBehindFlag c.args.slots) old.bytes)
+
+pub returns-in_err-redo_table-clause-calls : goal.returns-in_err-redo_table-clause-calls
+returns-in_err-redo_table-clause-calls g c =
+    AreCalls-fault _ _ _ c.from_residual-in_err-redo_table.result c.from_residual-in_err-redo_table.ensures.0
+    (AreCalls-then _ _ _ _ _ (AreCalls-one _ _ _ c.in_ok-is_flag_set.ensures.call) c.in_err-redo_table.ensures.calls)
+
+pub returns-clause-calls : goal.returns-clause-calls
+returns-clause-calls g c =
+    AreCalls-then _ _ _ _ c.write_flag.result
+    (AreCalls-then _ _ _ _ _ (AreCalls-one _ _ _ c.in_ok-is_flag_set.ensures.call) c.in_ok-redo_table.ensures.calls)
+    (AreCalls-one _ _ c.write_flag.result c.write_flag.ensures.call)

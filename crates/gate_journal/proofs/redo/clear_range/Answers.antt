@@ -2,12 +2,13 @@ use Rattle.std.proofs.Common.{◌≡◌, ℕ, ◌+◌, List, length, take, drop,
 use Rattle.std.proofs.lemmas.Bool.{both_ways}
 use Rattle.store_model.specs.Lists.{zeros}
 use Rattle.disk_model.proofs.Crashes.{IsObservable-call}
-use Rattle.gate_journal.specs.Places.{IsApart, IsZeroAt}
 use Rattle.store_model.specs.Images.{bytes_at}
+use Rattle.gate_journal.proofs.Calls.{Makes-short, AreCalls-one, IsCall-then, Reaches-fault, Reaches-write}
+use Rattle.gate_journal.proofs.Calls.{Reaches-then, Made-reads, Makes-reads, Makes-as, Makes-then, Makes-write}
+use Rattle.gate_journal.proofs.Faults.{IsCall-fault, IsCall-answered}
+use Rattle.gate_journal.specs.Places.{IsApart, IsZeroAt}
 use Rattle.gate_journal.specs.Recovery.{clear_writes}
 use Rattle.gate_journal.proofs.Counting.{clear_none, clear_one}
-use Rattle.gate_journal.proofs.Calls.{Reaches-write, Reaches-then, Made-reads, Makes-reads, Makes-as, Makes-then}
-use Rattle.gate_journal.proofs.Calls.{Makes-write}
 use Rattle.gate_journal.proofs.Places.{Keeps-read}
 use Rattle.gate_journal.proofs.Reading.{zero_read, zero_written, ReadsOnly-read}
 use Rattle.gate_journal.proofs.redo.clear_range.Goals as goal
@@ -79,3 +80,29 @@ returns-clause-makes g c observable =
     (Made-reads old mid (ReadsOnly-read old mid c.read_at.result at
     c.read_at.new.into observable c.read_at.ensures))
     (Makes-write mid _ c.write_at.result observable_mid at c.fill.new.self c.write_at.ensures))
+
+pub returns-in_err-read_at-clause-call : goal.returns-in_err-read_at-clause-call
+returns-in_err-read_at-clause-call g c =
+    IsCall-fault _ _ _ c.from_residual.result c.from_residual.ensures.0 c.in_err-read_at.ensures.call
+
+pub returns-in_err-read_at-clause-reaches : goal.returns-in_err-read_at-clause-reaches
+returns-in_err-read_at-clause-reaches g c observable =
+    Reaches-fault _ _ _ _ c.from_residual.result c.from_residual.ensures.0
+    (Keeps-read _ _ _ _ observable _ _ c.read_at.ensures)
+
+pub returns-then-is_zero-clause-call : goal.returns-then-is_zero-clause-call
+returns-then-is_zero-clause-call g c = IsCall-answered _ _ _ _ c.in_ok-read_at.ensures.call
+
+pub returns-clause-call : goal.returns-clause-call
+returns-clause-call g c =
+    IsCall-then _ _ _ _ _ (AreCalls-one _ _ _ c.in_ok-read_at.ensures.call) c.write_at.ensures.call
+
+pub returns-in_err-read_at-clause-makes : goal.returns-in_err-read_at-clause-makes
+returns-in_err-read_at-clause-makes g c observable =
+    let old = g.D.Disk.state c.args.disk.now in
+    let mid = g.D.Disk.state c.read_at.new.self in
+    Makes-short old mid c.read_at.result c.from_residual.result 0 0
+    (clear_writes c.args.at (length c.args.buffer.now) old.bytes) 0 c.from_residual.ensures.0 (omega arith)
+    (omega arith)
+    (Makes-reads old mid c.read_at.result c.read_at.result c.read_at.ensures.call
+    (ReadsOnly-read _ _ _ _ _ observable c.read_at.ensures))

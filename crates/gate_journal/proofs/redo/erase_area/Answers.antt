@@ -2,13 +2,15 @@ use Rattle.std.proofs.Common.{◌≡◌, ℕ, ◌+◌, ◌-◌, ◌*◌, ◌≤�
 use Rattle.store_model.specs.Images.{journal_len}
 use Rattle.store_model.specs.Parameters.{mark_blocks}
 use Rattle.disk_model.specs.DiskState.{DiskState, IsObservable}
+use Rattle.gate_journal.proofs.Faults.{IsCall-fault, on_ok_fault}
+use Rattle.gate_journal.proofs.Calls.{IsCall-then, durable-sync, observable_after, Reaches-fault, Reaches-sync}
+use Rattle.gate_journal.proofs.Calls.{Made-none, Made-then, Made-as, Makes-then, Makes-as, Makes-short, Makes-sync}
 use Rattle.gate_journal.specs.Places.{IsApart, Keeps, IsZeroAt}
 use Rattle.gate_journal.specs.Recovery.{clear_writes, clear_block_writes, erase_writes}
 use Rattle.gate_journal.proofs.Counting.{clear_same, clear_blocks_none, clear_blocks_more, clear_blocks_part}
-use Rattle.gate_journal.proofs.Areas.{marks_end, shadow_end, table_end, table_blocks, journal_end, blocks_before_table}
+use Rattle.gate_journal.proofs.Areas.{marks_end, shadow_end, table_end, table_blocks, journal_end}
+use Rattle.gate_journal.proofs.Areas.{blocks_before_table}
 use Rattle.gate_journal.proofs.Places.{Keeps-trans, Keeps-weaken}
-use Rattle.gate_journal.proofs.Calls.{observable_after, Reaches-fault, Reaches-sync, Made-none, Made-then, Made-as}
-use Rattle.gate_journal.proofs.Calls.{Makes-then, Makes-as, Makes-short, Makes-sync}
 use Rattle.gate_journal.proofs.Reading.{erase_step, apart_within}
 use Rattle.gate_journal.proofs.redo.erase_area.Goals as goal
 
@@ -202,3 +204,27 @@ returns-clause-makes g c observable =
     (omega (arith, ap (λ (n : ℕ). clear_block_writes n old.bytes) end)) (omega arith)
     (Makes-then old mid _ c.sync.result so_far 0 0 1
     (c.loop-block.invariant.comes observable).made (Makes-sync mid _ c.sync.result observable_mid c.sync.ensures))
+
+pub returns-in_err-clear_flag_block-clause-call : goal.returns-in_err-clear_flag_block-clause-call
+returns-in_err-clear_flag_block-clause-call g c =
+    IsCall-fault _ _ _ c.from_residual.result c.from_residual.ensures.0 c.in_err-clear_flag_block.ensures.call
+
+pub returns-in_err-clear_flag_block-clause-durable : goal.returns-in_err-clear_flag_block-clause-durable
+returns-in_err-clear_flag_block-clause-durable g c observable =
+    on_ok_fault c.from_residual.result _ c.from_residual.ensures.0
+
+pub returns-in_err-clear_block-clause-call : goal.returns-in_err-clear_block-clause-call
+returns-in_err-clear_block-clause-call g c =
+    IsCall-fault _ _ _ c.from_residual-in_err-clear_block.result c.from_residual-in_err-clear_block.ensures.0
+    (IsCall-then _ _ _ _ _ c.loop-block.invariant.calls c.in_err-clear_block.ensures.call)
+
+pub returns-in_err-clear_block-clause-durable : goal.returns-in_err-clear_block-clause-durable
+returns-in_err-clear_block-clause-durable g c observable =
+    on_ok_fault c.from_residual-in_err-clear_block.result _ c.from_residual-in_err-clear_block.ensures.0
+
+pub returns-clause-call : goal.returns-clause-call
+returns-clause-call g c = IsCall-then _ _ _ _ _ c.loop-block.invariant.calls c.sync.ensures.call
+
+pub returns-clause-durable : goal.returns-clause-durable
+returns-clause-durable g c observable =
+    durable-sync _ _ _ (observable_after _ _ _ c.loop-block.invariant.calls observable) c.sync.ensures

@@ -1,16 +1,17 @@
-use Rattle.std.proofs.Common.{◌≡◌, ℕ, ◌+◌, ◌-◌, ◌^◌, ◌<◌, ◌≤◌, min, slice_index, true, false, List, length, take, drop}
-use Rattle.std.proofs.Common.{ap, ◌∙◌, subst, sym, arith, rules}
+use Rattle.std.proofs.Common.{◌≡◌, ℕ, ◌+◌, ◌-◌, ◌^◌, ◌<◌, ◌≤◌, min, slice_index, true, false, List, length, take}
+use Rattle.std.proofs.Common.{drop, ap, ◌∙◌, subst, sym, arith, rules}
 use Rattle.store_model.specs.Parameters.{mark_at, table_at}
 use Rattle.store_model.specs.Images.{is_marked}
+use Rattle.disk_model.specs.DiskState.{DiskState, IsObservable}
+use Rattle.gate_journal.proofs.Calls.{Makes-reads, AreCalls-one, AreCalls-then, AreCalls-fault, observable_after}
+use Rattle.gate_journal.proofs.Calls.{Reaches-fault, Made-reads, Made-then, Made-as, Makes-then, Makes-short}
+use Rattle.gate_journal.proofs.Calls.{Makes-made, Makes-as}
 use Rattle.gate_journal.specs.Places.{IsApart, Keeps, Made}
 use Rattle.gate_journal.specs.Recovery.{OutsideMarked, AreRedone, marked_count}
-use Rattle.disk_model.specs.DiskState.{DiskState, IsObservable}
 use Rattle.gate_journal.proofs.Reading.{byte_read, ReadsOnly-read}
 use Rattle.gate_journal.proofs.Counting.{marked_none, marked_more, marked_part}
 use Rattle.gate_journal.proofs.Areas.{marks_end, shadow_end, table_end}
 use Rattle.gate_journal.proofs.Places.{Keeps-read, Keeps-trans, Keeps-weaken}
-use Rattle.gate_journal.proofs.Calls.{observable_after, Reaches-fault, Made-reads, Made-then, Made-as, Makes-then}
-use Rattle.gate_journal.proofs.Calls.{Makes-short, Makes-made, Makes-as}
 use Rattle.gate_journal.proofs.Redoing.{marked, unmarked, redo_step, redo_none}
 use Rattle.gate_journal.proofs.redo.redo_block.Given.{Over}
 use Rattle.gate_journal.proofs.redo.redo_block.Goals as goal
@@ -173,3 +174,31 @@ returns-clause-makes g c observable =
     (ap (λ (n : ℕ). marked_count first n old.bytes) end) (omega arith)
     (Makes-made old new _ _ 0 c.loop-slot.invariant.fits.0 c.loop-slot.invariant.fits.1
     (c.loop-slot.invariant.made observable))
+
+pub returns-in_err-read_at-clause-calls : goal.returns-in_err-read_at-clause-calls
+returns-in_err-read_at-clause-calls g c =
+    AreCalls-fault _ _ _ c.from_residual.result c.from_residual.ensures.0
+    (AreCalls-one _ _ _ c.in_err-read_at.ensures.call)
+
+pub returns-in_err-read_at-clause-reaches : goal.returns-in_err-read_at-clause-reaches
+returns-in_err-read_at-clause-reaches g c observable =
+    Reaches-fault _ _ _ _ c.from_residual.result c.from_residual.ensures.0
+    (Keeps-read _ _ _ _ observable _ _ c.read_at.ensures)
+
+pub returns-in_err-redo_slot-clause-calls : goal.returns-in_err-redo_slot-clause-calls
+returns-in_err-redo_slot-clause-calls g c =
+    AreCalls-fault _ _ _ c.from_residual-in_err-redo_slot.result c.from_residual-in_err-redo_slot.ensures.0
+    (AreCalls-then _ _ _ _ _ c.loop-slot.invariant.calls (AreCalls-one _ _ _ c.in_err-redo_slot.ensures.call))
+
+pub returns-clause-calls : goal.returns-clause-calls
+returns-clause-calls g c = c.loop-slot.invariant.calls
+
+pub returns-in_err-read_at-clause-makes : goal.returns-in_err-read_at-clause-makes
+returns-in_err-read_at-clause-makes g c observable =
+    let old = g.D.Disk.state c.args.disk.now in
+    let mid = g.D.Disk.state c.read_at.new.self in
+    let to = min c.args.slots (c.args.first + 4096) in
+    Makes-short old mid c.read_at.result c.from_residual.result 0 0
+    (marked_count c.args.first (to - c.args.first) old.bytes) 0 c.from_residual.ensures.0 (omega arith) (omega arith)
+    (Makes-reads old mid c.read_at.result c.read_at.result c.read_at.ensures.call
+    (ReadsOnly-read _ _ _ _ _ observable c.read_at.ensures))

@@ -4,11 +4,14 @@ use Rattle.store_model.specs.Images.{bytes_at}
 use Rattle.disk_model.specs.DiskCalls.{overwrite}
 use Rattle.disk_model.proofs.Crashes.{IsObservable-call}
 use Rattle.disk_model.proofs.Images.{take-drop-overwrite}
+use Rattle.gate_journal.proofs.Reading.{ReadsOnly-read}
+use Rattle.gate_journal.proofs.Faults.{IsCall-fault}
+use Rattle.gate_journal.proofs.Calls.{AreCalls-one, IsCall-then, Reaches-fault, Makes-short, Makes-reads, Makes-then}
+use Rattle.gate_journal.proofs.Calls.{Makes-write, Made-reads, Reaches-write, Reaches-then}
 use Rattle.gate_journal.specs.Places.{IsApart}
 use Rattle.gate_journal.specs.Phases.{table_slot}
 use Rattle.gate_journal.proofs.Areas.{areas, table_end}
 use Rattle.gate_journal.proofs.Places.{Keeps-read}
-use Rattle.gate_journal.proofs.Calls.{Reaches-write, Reaches-then}
 use Rattle.gate_journal.proofs.redo.redo_slot.Goals as goal
 
 pub read_at-requires : goal.read_at-requires
@@ -67,3 +70,34 @@ returns-clause-reaches g c observable =
     (Reaches-write (IsApart at 4096) Done _ _ c.write_at.result observable_mid c.table_at.result bytes
     (λ place apart. subst (λ (m : ℕ). IsApart c.table_at.result m place) (sym long)
     (subst (λ (n : ℕ). IsApart n 4096 place) (sym c.table_at.ensures.value) apart)) c.write_at.ensures done)
+
+pub returns-in_err-read_at-clause-call : goal.returns-in_err-read_at-clause-call
+returns-in_err-read_at-clause-call g c =
+    IsCall-fault _ _ _ c.from_residual.result c.from_residual.ensures.0 c.in_err-read_at.ensures.call
+
+pub returns-in_err-read_at-clause-reaches : goal.returns-in_err-read_at-clause-reaches
+returns-in_err-read_at-clause-reaches g c observable =
+    Reaches-fault _ _ _ _ c.from_residual.result c.from_residual.ensures.0
+    (Keeps-read _ _ _ _ observable _ _ c.read_at.ensures)
+
+pub returns-in_err-read_at-clause-makes : goal.returns-in_err-read_at-clause-makes
+returns-in_err-read_at-clause-makes g c observable =
+    let old = g.D.Disk.state c.args.disk.now in
+    let mid = g.D.Disk.state c.read_at.new.self in
+    Makes-short old mid c.read_at.result c.from_residual.result 0 0 1 0 c.from_residual.ensures.0 (omega arith)
+    (omega arith)
+    (Makes-reads old mid c.read_at.result c.read_at.result c.read_at.ensures.call
+    (ReadsOnly-read _ _ _ _ _ observable c.read_at.ensures))
+
+pub returns-clause-call : goal.returns-clause-call
+returns-clause-call g c =
+    IsCall-then _ _ _ _ _ (AreCalls-one _ _ _ c.in_ok-read_at.ensures.call) c.write_at.ensures.call
+
+pub returns-clause-makes : goal.returns-clause-makes
+returns-clause-makes g c observable =
+    let old = g.D.Disk.state c.args.disk.now in
+    let mid = g.D.Disk.state c.read_at.new.self in
+    Makes-then old mid _ c.write_at.result 0 0 1 0 (Made-reads old mid
+    (ReadsOnly-read _ _ _ _ _ observable c.read_at.ensures))
+    (Makes-write mid _ c.write_at.result (IsObservable-call _ _ _ c.read_at.ensures.call observable) _ _
+    c.write_at.ensures)

@@ -1,12 +1,14 @@
 use Rattle.std.proofs.Common.{◌≡◌, ℕ, ◌+◌, ◌-◌, ◌*◌, ◌<◌, ◌≤◌, min, ap, ◌∙◌, subst, arith, rules}
 use Rattle.disk_model.specs.DiskState.{DiskState, IsSound}
 use Rattle.disk_model.proofs.Crashes.{IsObservable-call}
+use Rattle.gate_journal.proofs.Faults.{on_ok_fault}
+use Rattle.gate_journal.proofs.Calls.{AreCalls-one, AreCalls-then, AreCalls-fault, durable-sync, observable_after}
+use Rattle.gate_journal.proofs.Calls.{Reaches-fault, Reaches-sync, Made-none, Made-then, Made-as, Makes-then}
+use Rattle.gate_journal.proofs.Calls.{Makes-as, Makes-short, Makes-sync}
 use Rattle.gate_journal.specs.Places.{Keeps}
 use Rattle.gate_journal.specs.Recovery.{OutsideMarked, AreRedone, OutsideRedone, IsRedone, marked_count}
 use Rattle.gate_journal.proofs.Counting.{marked_none, marked_split, marked_same, marked_part}
 use Rattle.gate_journal.proofs.Places.{Keeps-refl, Keeps-weaken}
-use Rattle.gate_journal.proofs.Calls.{observable_after, Reaches-fault, Reaches-sync, Made-none, Made-then, Made-as}
-use Rattle.gate_journal.proofs.Calls.{Makes-then, Makes-as, Makes-short, Makes-sync}
 use Rattle.gate_journal.proofs.Redoing.{block_keeps, block_redone, mark_stays, version_keeps, version_redone}
 use Rattle.gate_journal.proofs.redo.redo_table.Goals as goal
 
@@ -222,3 +224,32 @@ returns-clause-reaches g c observable =
           reaches.done;
     })
     c.sync.ensures
+
+pub returns-in_err-redo_block-clause-calls : goal.returns-in_err-redo_block-clause-calls
+returns-in_err-redo_block-clause-calls g c =
+    AreCalls-fault _ _ _ c.from_residual.result c.from_residual.ensures.0
+    (AreCalls-then _ _ _ _ _ c.loop-block.invariant.calls c.in_err-redo_block.ensures.calls)
+
+pub returns-in_err-redo_block-clause-durable : goal.returns-in_err-redo_block-clause-durable
+returns-in_err-redo_block-clause-durable g c observable =
+    on_ok_fault c.from_residual.result _ c.from_residual.ensures.0
+
+pub returns-in_err-redo_version-clause-calls : goal.returns-in_err-redo_version-clause-calls
+returns-in_err-redo_version-clause-calls g c =
+    AreCalls-fault _ _ _ c.from_residual-in_err-redo_version.result c.from_residual-in_err-redo_version.ensures.0
+    (AreCalls-then _ _ _ _ _ c.loop-block.invariant.calls (AreCalls-one _ _ _ c.in_err-redo_version.ensures.call))
+
+pub returns-in_err-redo_version-clause-durable : goal.returns-in_err-redo_version-clause-durable
+returns-in_err-redo_version-clause-durable g c observable =
+    on_ok_fault c.from_residual-in_err-redo_version.result _ c.from_residual-in_err-redo_version.ensures.0
+
+pub returns-clause-calls : goal.returns-clause-calls
+returns-clause-calls g c =
+    AreCalls-then _ _ _ _ _
+    (AreCalls-then _ _ _ _ _ c.loop-block.invariant.calls (AreCalls-one _ _ _ c.in_ok-redo_version.ensures.call))
+    (AreCalls-one _ _ _ c.sync.ensures.call)
+
+pub returns-clause-durable : goal.returns-clause-durable
+returns-clause-durable g c observable =
+    durable-sync _ _ _ (IsObservable-call _ _ _ c.redo_version.ensures.call
+    (observable_after _ _ _ c.loop-block.invariant.calls observable)) c.sync.ensures

@@ -5,10 +5,12 @@ use Rattle.store_model.specs.Parameters.{mark_at}
 use Rattle.store_model.specs.Images.{is_marked}
 use Rattle.disk_model.specs.DiskCalls.{overwrite}
 use Rattle.disk_model.proofs.Crashes.{IsObservable-call}
+use Rattle.gate_journal.proofs.Calls.{Makes-short, AreCalls-one, IsCall-then, Reaches-fault, Reaches-then}
+use Rattle.gate_journal.proofs.Calls.{Reaches-write, Makes-behind, Makes-write, Makes-reads, Makes-as}
+use Rattle.gate_journal.proofs.Faults.{IsCall-fault, IsCall-answered}
 use Rattle.gate_journal.specs.Places.{IsApart}
 use Rattle.gate_journal.specs.Recovery.{OutsideVersion, HasRedoneVersion, marked_count}
 use Rattle.gate_journal.proofs.Areas.{marks_end, shadow_end, table_end}
-use Rattle.gate_journal.proofs.Calls.{Reaches-then, Reaches-write, Makes-behind, Makes-write, Makes-reads, Makes-as}
 use Rattle.gate_journal.proofs.Counting.{marked_one}
 use Rattle.gate_journal.proofs.Entries.{slice_index-overwrite}
 use Rattle.gate_journal.proofs.Reading.{Keeps-reads}
@@ -117,3 +119,28 @@ returns-clause-makes g c observable =
     Makes-as old new _ 0 0 (marked_count slots 1 old.bytes) 0
     (sym (marked_one slots old.bytes _ unmarked)) (omega arith)
     (Makes-reads old new c.is_byte_set.result _ c.is_byte_set.ensures.call (c.is_byte_set.ensures.reads observable))
+
+pub returns-in_err-is_byte_set-clause-call : goal.returns-in_err-is_byte_set-clause-call
+returns-in_err-is_byte_set-clause-call g c =
+    IsCall-fault _ _ _ c.from_residual.result c.from_residual.ensures.0 c.in_err-is_byte_set.ensures.call
+
+pub returns-in_err-is_byte_set-clause-reaches : goal.returns-in_err-is_byte_set-clause-reaches
+returns-in_err-is_byte_set-clause-reaches g c observable =
+    Reaches-fault _ _ _ _ c.from_residual.result c.from_residual.ensures.0
+    (Keeps-reads _ _ _ (c.is_byte_set.ensures.reads observable))
+
+pub returns-then-branch-clause-call : goal.returns-then-branch-clause-call
+returns-then-branch-clause-call g c =
+    IsCall-then _ _ _ _ _ (AreCalls-one _ _ _ c.in_ok-is_byte_set.ensures.call) c.write_at.ensures.call
+
+pub returns-clause-call : goal.returns-clause-call
+returns-clause-call g c = IsCall-answered _ _ _ _ c.in_ok-is_byte_set.ensures.call
+
+pub returns-in_err-is_byte_set-clause-makes : goal.returns-in_err-is_byte_set-clause-makes
+returns-in_err-is_byte_set-clause-makes g c observable =
+    let old = g.D.Disk.state c.args.disk.now in
+    let mid = g.D.Disk.state c.is_byte_set.new.disk in
+    Makes-short old mid c.is_byte_set.result c.from_residual.result 0 0 (marked_count c.args.slots 1 old.bytes) 0
+    c.from_residual.ensures.0 (omega arith) (omega arith)
+    (Makes-reads old mid c.is_byte_set.result c.is_byte_set.result c.is_byte_set.ensures.call
+    (c.is_byte_set.ensures.reads observable))

@@ -4,10 +4,11 @@ use Rattle.std.proofs.lemmas.List.{take-replicate, drop-replicate, length-replic
 use Rattle.store_model.specs.Lists.{zeros}
 use Rattle.disk_model.specs.DiskState.{DiskState, IsObservable}
 use Rattle.disk_model.specs.DiskCalls.{IsWrite}
+use Rattle.gate_journal.proofs.Faults.{IsCall-fault, on_ok_fault}
+use Rattle.gate_journal.proofs.Calls.{IsCall-then, durable-sync, observable_after, Reaches-write, Reaches-fault}
+use Rattle.gate_journal.proofs.Calls.{Reaches-sync, Made-then, Makes-write}
 use Rattle.gate_journal.specs.Places.{IsApart, Keeps, Reaches, IsZeroAt}
 use Rattle.gate_journal.proofs.Places.{Keeps-write, Keeps-trans, Keeps-weaken}
-use Rattle.gate_journal.proofs.Calls.{observable_after, Reaches-write, Reaches-fault, Reaches-sync, Made-then}
-use Rattle.gate_journal.proofs.Calls.{Makes-write}
 use Rattle.gate_journal.proofs.Reading.{apart_within, erase_step, zero_written}
 use Rattle.gate_journal.proofs.wipe.wipe_rest.Goals as goal
 
@@ -131,3 +132,19 @@ returns-clause-reaches g c observable =
       done = subst (λ (m : ℕ). IsZeroAt 1 m mid.bytes) end (c.loop-block.invariant.comes observable).done;
     })
     c.sync.ensures
+
+pub returns-in_err-write_at-clause-call : goal.returns-in_err-write_at-clause-call
+returns-in_err-write_at-clause-call g c =
+    IsCall-fault _ _ _ c.from_residual.result c.from_residual.ensures.0
+    (IsCall-then _ _ _ _ _ c.loop-block.invariant.calls c.in_err-write_at.ensures.call)
+
+pub returns-in_err-write_at-clause-durable : goal.returns-in_err-write_at-clause-durable
+returns-in_err-write_at-clause-durable g c observable =
+    on_ok_fault c.from_residual.result _ c.from_residual.ensures.0
+
+pub returns-clause-call : goal.returns-clause-call
+returns-clause-call g c = IsCall-then _ _ _ _ _ c.loop-block.invariant.calls c.sync.ensures.call
+
+pub returns-clause-durable : goal.returns-clause-durable
+returns-clause-durable g c observable =
+    durable-sync _ _ _ (observable_after _ _ _ c.loop-block.invariant.calls observable) c.sync.ensures

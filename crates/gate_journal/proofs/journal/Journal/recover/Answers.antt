@@ -1,9 +1,9 @@
 use Rattle.std.proofs.Common.{◌+◌, ap, sym, subst, arith, ◌∙◌}
+use Rattle.disk_model.proofs.Crashes.{IsObservable-call}
+use Rattle.gate_journal.proofs.Calls.{AreCalls-one, AreCalls-then, AreCalls-fault, observable_after, Made-none}
+use Rattle.gate_journal.proofs.Calls.{Made-then, Makes-sync, Makes-then, Makes-as, Makes-short}
 use Rattle.gate_journal.specs.Phases.{HasEmptyJournal}
 use Rattle.gate_journal.specs.Recovery.{erase_writes, redo_writes, redo_syncs}
-use Rattle.disk_model.proofs.Crashes.{IsObservable-call}
-use Rattle.gate_journal.proofs.Calls.{observable_after, Made-none, Made-then, Makes-sync, Makes-then, Makes-as}
-use Rattle.gate_journal.proofs.Calls.{Makes-short}
 use Rattle.gate_journal.proofs.Recoveries.{recovers_synced}
 use Rattle.gate_journal.proofs.journal.Journal.recover.Goals as goal
 
@@ -59,3 +59,26 @@ returns-clause-makes g c observable some =
     (Makes-then old mid _ c.recover_durable.result (0 + 0) (0 + 1) w s
     (Made-then old old mid _ 0 0 0 1 (Made-none old) (Makes-sync old mid _ observable c.in_ok-sync.ensures))
     makes_then)
+
+pub returns-in_err-sync-clause-calls : goal.returns-in_err-sync-clause-calls
+returns-in_err-sync-clause-calls g c =
+    AreCalls-fault _ _ _ c.from_residual.result c.from_residual.ensures.0
+    (AreCalls-one _ _ _ c.in_err-sync.ensures.call)
+
+pub returns-in_err-sync-clause-quiet : goal.returns-in_err-sync-clause-quiet
+returns-in_err-sync-clause-quiet g c observable empty = (c.sync.ensures.observed observable).write_count
+
+pub returns-in_err-sync-clause-quiet_syncs : goal.returns-in_err-sync-clause-quiet_syncs
+returns-in_err-sync-clause-quiet_syncs g c observable empty = (c.sync.ensures.observed observable).sync_count
+
+pub returns-clause-calls : goal.returns-clause-calls
+returns-clause-calls g c =
+    AreCalls-then _ _ _ _ _ (AreCalls-one _ _ _ c.in_ok-sync.ensures.call) c.recover_durable.ensures.calls
+
+pub returns-clause-quiet : goal.returns-clause-quiet
+returns-clause-quiet g c observable empty =
+    let effect = c.sync.ensures.observed observable in
+    let observable_1 = IsObservable-call _ _ _ c.sync.ensures.call observable in
+    let quiet = c.recover_durable.ensures.quiet observable_1 in
+    let empty_then = subst (HasEmptyJournal c.args.params.now.slots) (sym effect.bytes) empty in
+    ((rw c.slots.ensures.value at quiet) empty_then).write_count ∙ effect.write_count

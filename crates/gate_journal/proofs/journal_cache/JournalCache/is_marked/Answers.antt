@@ -2,6 +2,8 @@ use Rattle.std.proofs.Common.{◌≡◌, ℕ, ◌+◌, ◌-◌, ◌%◌, ◌==�
 use Rattle.std.proofs.Common.{get_or-take, get_or-drop}
 use Rattle.store_model.specs.Parameters.{mark_at}
 use Rattle.store_model.specs.Images.{bytes_at, is_marked}
+use Rattle.gate_journal.proofs.Faults.{if_ok_fault}
+use Rattle.gate_journal.proofs.Caches.{ReadsJournal-fault}
 use Rattle.gate_journal.proofs.Calls.{observable_after}
 use Rattle.gate_journal.proofs.journal_cache.JournalCache.is_marked.Goals as goal
 
@@ -26,3 +28,11 @@ returns-clause-value g c observable =
     c.in_ok-load_marks.ensures.loaded in
     mark_in (g.D.Disk.state c.load_marks.new.disk).bytes c.load_marks.new.self.marks slot (slot % 4096) low few marks
     ∙ ap (λ (l : List ℕ). is_marked l slot) (c.load_marks.ensures.journal.reads observable).bytes
+
+pub returns-in_err-load_marks-clause-journal : goal.returns-in_err-load_marks-clause-journal
+returns-in_err-load_marks-clause-journal g c =
+    ReadsJournal-fault _ _ _ _ c.from_residual.result c.from_residual.ensures.0 c.in_err-load_marks.ensures.journal
+
+pub returns-in_err-load_marks-clause-value : goal.returns-in_err-load_marks-clause-value
+returns-in_err-load_marks-clause-value g c observable =
+    if_ok_fault c.from_residual.result _ c.from_residual.ensures.0

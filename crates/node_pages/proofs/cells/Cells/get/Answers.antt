@@ -2,7 +2,7 @@ use Rattle.std.proofs.Common.{Some, sym, ap, subst, ◌∙◌, arith}
 use Rattle.store_model.specs.Pages.{IsCell}
 use Rattle.node_pages.specs.Cells.{CellList}
 use Rattle.node_pages.proofs.PackedLists.{listed, list_cell_at}
-use Rattle.node_pages.proofs.cells.Cells.cell.Goals as goal
+use Rattle.node_pages.proofs.cells.Cells.get.Goals as goal
 
 pub overflow_add-i : goal.overflow_add-i
 overflow_add-i c =
