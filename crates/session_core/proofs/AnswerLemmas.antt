@@ -11,7 +11,7 @@ use Rattle.store_model.specs.Steps.{step}
 use Rattle.script_lines.specs.Sessions.{SessionAnswer, same_reply}
 use Rattle.script_lines.specs.Sessions.SessionCall.{Begin, Ask, Commit}
 use Rattle.script_lines.specs.Sessions.SessionAnswer.{Began, Replied, Done, Conflicting, RefusedAt, Many}
-use Rattle.store_core.specs.Groups.{refused_in}
+use Rattle.staged_tree.specs.Groups.{refused_in}
 use Rattle.session_core.specs.Machine.{Note, Session, Machine, session_at, free_number, crowded_of, many_of, note_limit}
 use Rattle.session_core.specs.Machine.{first_difference, commit_answer, answered}
 use Rattle.script_lines.proofs.SameReplies.{same_reply-true}

@@ -8,7 +8,8 @@ use Rattle.script_lines.specs.Sessions.{SessionCall, SessionAnswer}
 use Rattle.image_check.specs.declared.fault.ApplyFault.{ApplyFault}
 use Rattle.image_check.specs.declared.fault.ApplyFault.TheVariants as apply
 use Rattle.store_core.specs.StoreState.{StoreState}
-use Rattle.store_core.specs.StoreCalls.{StepsStore, ChangesImage}
+use Rattle.staged_tree.specs.ImageChanges.{ChangesImage}
+use Rattle.store_core.specs.StoreCalls.{StepsStore}
 use Rattle.session_core.specs.declared.fault.SessionFault.{SessionFault}
 use Rattle.session_core.specs.declared.fault.SessionFault.TheVariants as causes
 use Rattle.session_core.specs.Machine.{Places, happens, turned_away, served, answered, tree_after_call, places_after}

@@ -20,9 +20,9 @@ use Rattle.script_lines.specs.Replies.{reply_of}
 use Rattle.script_lines.specs.Sessions.{SessionAnswer, same_reply, question_of}
 use Rattle.script_lines.specs.Sessions.SessionCall.{Commit}
 use Rattle.script_lines.specs.Sessions.SessionAnswer.{Done, Conflicting, RefusedAt, NoSession}
-use Rattle.store_core.specs.declared.group.GroupAnswer.{GroupAnswer}
-use Rattle.store_core.specs.declared.group.GroupAnswer.TheVariants as groups
-use Rattle.store_core.specs.Groups.{refused_in, group_tree, IsGroupAnswer}
+use Rattle.staged_tree.specs.declared.group.GroupAnswer.{GroupAnswer}
+use Rattle.staged_tree.specs.declared.group.GroupAnswer.TheVariants as groups
+use Rattle.staged_tree.specs.Groups.{refused_in, group_tree, IsGroupAnswer}
 use Rattle.store_core.specs.StoreState.{StoreState}
 use Rattle.store_core.specs.StoreCalls.{StepsStore, Applies, AppliesAll}
 use Rattle.session_core.specs.declared.committed.Committed.{Committed}

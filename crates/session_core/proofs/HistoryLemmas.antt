@@ -9,7 +9,7 @@ use Rattle.store_model.specs.Commands.{Command}
 use Rattle.script_lines.specs.Sessions.{SessionCall, SessionAnswer}
 use Rattle.script_lines.specs.Sessions.SessionCall.{Commit}
 use Rattle.script_lines.specs.Sessions.SessionAnswer.{Done}
-use Rattle.store_core.specs.Groups.{refused_in, group_tree}
+use Rattle.staged_tree.specs.Groups.{refused_in, group_tree}
 use Rattle.session_core.specs.Machine.{Session, Places, World, Event, new_session, session_at, the_session, answered}
 use Rattle.session_core.specs.Machine.{tree_after_call, turn, happens}
 use Rattle.session_core.specs.Machine.Event.{Acts, Fails, Breaks, Crashes, Attaches}

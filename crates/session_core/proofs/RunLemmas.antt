@@ -16,7 +16,7 @@ use Rattle.script_lines.specs.Sessions.{is_change}
 use Rattle.store_model.specs.Scripts.{replies_by, tree_by, answers_by, state_by}
 use Rattle.store_model.proofs.ListsLemmas.{all_append}
 use Rattle.store_model.proofs.ScriptsLemmas.{replies_by-append, tree_by-append}
-use Rattle.store_core.specs.Groups.{step_under, refusal_in, first_refused, refused_in, group_tree}
+use Rattle.staged_tree.specs.Groups.{step_under, refusal_in, first_refused, refused_in, group_tree}
 use Rattle.session_core.specs.Traces.{changes_of, serial_tree}
 
 -- no reply refuses

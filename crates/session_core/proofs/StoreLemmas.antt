@@ -6,17 +6,18 @@ use Rattle.store_model.specs.Parameters.{Parameters}
 use Rattle.store_model.specs.Trees.{Tree}
 use Rattle.store_model.specs.Images.{Represents}
 use Rattle.disk_model.proofs.Crashes.{LeavesOnly-weaken}
-use Rattle.store_core.specs.TableChanges.{slots_between}
-use Rattle.store_core.proofs.CostLemmas.{counts_reading}
+use Rattle.staged_tree.specs.TableChanges.{slots_between}
+use Rattle.staged_tree.proofs.CostLemmas.{counts_reading}
 use Rattle.disk_model.specs.DiskState.{DiskState, IsObservable, IsSound}
 use Rattle.gate_journal.proofs.Reading.{ReadsOnly-refl}
 use Rattle.image_check.specs.declared.fault.ApplyFault.{ApplyFault}
 use Rattle.image_check.specs.declared.fault.ApplyFault.TheVariants as apply
 use Rattle.image_check.specs.Faults.{apply_faults_after}
 use Rattle.store_core.specs.StoreState.{StoreState}
-use Rattle.store_core.specs.StoreCalls.{StepsStore, ChangesImage}
-use Rattle.store_core.proofs.DiskLemmas.{keeps_then}
-use Rattle.store_core.proofs.Unchanged.{keeps_itself, reads_change, change_behind}
+use Rattle.staged_tree.specs.ImageChanges.{ChangesImage}
+use Rattle.store_core.specs.StoreCalls.{StepsStore}
+use Rattle.staged_tree.proofs.DiskLemmas.{keeps_then}
+use Rattle.staged_tree.proofs.Unchanged.{keeps_itself, reads_change, change_behind}
 use Rattle.session_core.specs.SessionSteps.{KeepsTree}
 
 -- that a call was answered, whatever it answers

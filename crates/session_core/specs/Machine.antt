@@ -13,7 +13,7 @@ use Rattle.script_lines.specs.Sessions.{SessionCall, SessionAnswer, same_reply}
 use Rattle.script_lines.specs.Sessions.SessionCall.{Begin, Ask, Stage, Commit, Leave}
 use Rattle.script_lines.specs.Sessions.SessionAnswer.{Began, Replied, Done, Conflicting, RefusedAt, NoSession, Crowded}
 use Rattle.script_lines.specs.Sessions.SessionAnswer.{Many}
-use Rattle.store_core.specs.Groups.{refused_in, group_tree}
+use Rattle.staged_tree.specs.Groups.{refused_in, group_tree}
 
 -- how many sessions may be live
 abbrev pub live_limit : ℕ

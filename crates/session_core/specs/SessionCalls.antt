@@ -9,7 +9,7 @@ use Rattle.image_check.specs.Faults.{apply_faults_after}
 use Rattle.script_lines.specs.Sessions.{SessionCall, SessionAnswer}
 use Rattle.script_lines.specs.Sessions.SessionAnswer.{Done, Conflicting, RefusedAt, NoSession, Crowded, Many}
 use Rattle.script_lines.specs.Replies.{reply_of}
-use Rattle.store_core.specs.StoreCalls.{ChangesImage}
+use Rattle.staged_tree.specs.ImageChanges.{ChangesImage}
 use Rattle.session_core.specs.declared.fault.SessionFault.{SessionFault}
 use Rattle.session_core.specs.declared.fault.SessionFault.TheVariants as causes
 use Rattle.session_core.specs.declared.committed.Committed.{Committed}

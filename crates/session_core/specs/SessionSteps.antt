@@ -13,7 +13,7 @@ use Rattle.image_check.specs.declared.fault.ApplyFault.TheVariants as apply
 use Rattle.script_lines.specs.declared.reply.Reply.{Reply}
 use Rattle.script_lines.specs.Replies.{reply_of}
 use Rattle.store_core.specs.StoreCalls.{Applies, StepsStore}
-use Rattle.store_core.specs.Groups.{group_tree}
+use Rattle.staged_tree.specs.Groups.{group_tree}
 use Rattle.store_core.specs.StoreState.{StoreState}
 use Rattle.session_core.specs.declared.fault.SessionFault.{SessionFault}
 use Rattle.session_core.specs.declared.fault.SessionFault.TheVariants as causes

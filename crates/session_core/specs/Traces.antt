@@ -15,7 +15,7 @@ use Rattle.store_model.specs.Scripts.{replies_by, tree_by}
 use Rattle.script_lines.specs.Sessions.{SessionAnswer, is_change}
 use Rattle.script_lines.specs.Sessions.SessionCall.{Begin, Ask, Stage, Commit, Leave}
 use Rattle.script_lines.specs.Sessions.SessionAnswer.{Began, Replied, Done, Conflicting, RefusedAt, NoSession}
-use Rattle.store_core.specs.Groups.{step_under, refusal_in}
+use Rattle.staged_tree.specs.Groups.{step_under, refusal_in}
 use Rattle.session_core.specs.Machine.{Note, World, Event, world_at, happens, commit_answer}
 use Rattle.session_core.specs.Machine.Event.{Acts, Breaks, Crashes, Attaches}
 

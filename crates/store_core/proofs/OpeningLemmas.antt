@@ -38,13 +38,13 @@ use Rattle.page_store.specs.StagedState.{StagedState}
 use Rattle.image_check.specs.declared.fault.AttachFault.{AttachFault}
 use Rattle.image_check.specs.declared.fault.AttachFault.TheVariants as attach
 use Rattle.store_core.specs.Opening.{IsSynced, ChecksSynced, OpensWith, IsOpenAt}
-use Rattle.store_core.specs.StagedTree.{AreAt}
+use Rattle.staged_tree.specs.StagedTree.{AreAt}
 use Rattle.image_check.specs.Standing.{IsFitting, Stands}
 use Rattle.store_core.specs.StoreState.{StoreState}
 use Rattle.store_core.specs.StoreCalls.{IsOpened, IsAttached, KeepsImage, IsRefused}
-use Rattle.store_core.proofs.CostLemmas.{counts_opening}
-use Rattle.store_core.proofs.DiskLemmas.{keeps_then, keeps_calls}
-use Rattle.store_core.proofs.TreePages.{table_pages}
+use Rattle.store_core.proofs.OpeningCosts.{counts_opening}
+use Rattle.staged_tree.proofs.DiskLemmas.{keeps_then, keeps_calls}
+use Rattle.staged_tree.proofs.TreePages.{table_pages}
 
 -- ---- a sync, and reads
 

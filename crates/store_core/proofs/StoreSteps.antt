@@ -3,32 +3,32 @@ use Rattle.std.proofs.Common.{◌≡◌, ℕ, Option, Bool, true, false, List, R
 use Rattle.std.proofs.Common.{ap, subst, ◌∙◌, ⊎_elim}
 use Rattle.std.proofs.lemmas.Bool.{cases_Bool, false≢true}
 use Rattle.store_model.specs.Parameters.{Parameters}
-use Rattle.store_model.specs.Trees.{Tree}
+use Rattle.store_model.specs.Trees.{Tree, empty_tree}
+use Rattle.store_model.specs.Pages.{IsTreeUnder}
 use Rattle.store_model.specs.Images.{layout}
-use Rattle.store_model.specs.Commands.{Command, IsCommand}
+use Rattle.store_model.specs.Commands.{Command}
 use Rattle.store_model.specs.Steps.{step}
-use Rattle.store_model.proofs.TreesLemmasFits.{Fits-step}
-use Rattle.store_model.proofs.TreesLemmasSteps.{IsTree-step}
 use Rattle.disk_model.specs.DiskState.{DiskState, IsObservable}
 use Rattle.seeded_draw.specs.AnyDrawn.{any_draw}
 use Rattle.script_lines.specs.declared.reply.Reply.{Reply}
 use Rattle.script_lines.specs.InPlace.{in_place}
 use Rattle.image_check.specs.declared.fault.ApplyFault.{ApplyFault}
 use Rattle.image_check.specs.declared.fault.ApplyFault.TheVariants as apply
-use Rattle.store_core.specs.declared.group.GroupAnswer.{GroupAnswer}
-use Rattle.store_core.specs.Groups.{group_tree, IsGroupAnswer}
+use Rattle.staged_tree.specs.declared.group.GroupAnswer.{GroupAnswer}
+use Rattle.staged_tree.specs.Groups.{group_tree, IsGroupAnswer}
 use Rattle.store_core.specs.Known.{KnownState, MovesOn}
 use Rattle.image_check.specs.Standing.{IsFitting, Stands}
-use Rattle.store_core.specs.StagedTree.{TreeList, StagesTreePages, IsListAt, GoesOn}
-use Rattle.store_core.specs.Steps.{StepsPages, EndsStep, IsReplyTo}
+use Rattle.staged_tree.specs.StagedTree.{TreeList, StagesTreePages, IsListAt, GoesOn}
+use Rattle.staged_tree.specs.Steps.{StepsPages, EndsStep, IsReplyTo}
 use Rattle.store_core.specs.StoreCalls.{StepsStore}
 use Rattle.store_core.specs.StoreFields.{HoldsKnown}
 use Rattle.store_core.specs.StoreState.{StoreState}
 use Rattle.store_model.specs.Pairs.{Pair}
-use Rattle.store_core.specs.declared.load.LoadAnswer.{LoadAnswer}
-use Rattle.store_core.specs.Loads.{loaded_tree, IsLoadAnswer}
-use Rattle.store_core.proofs.NextPairs.{IsNextOf}
-use Rattle.store_core.proofs.Unchanged.{stands_reading, keeps_itself}
+use Rattle.staged_tree.specs.declared.load.LoadAnswer.{LoadAnswer}
+use Rattle.staged_tree.specs.Loads.{loaded_tree, IsLoadAnswer}
+use Rattle.staged_tree.proofs.LoadSteps.{fitting_loaded}
+use Rattle.staged_tree.proofs.NextPairs.{IsNextOf}
+use Rattle.staged_tree.proofs.Unchanged.{stands_reading, keeps_itself}
 
 -- a store with these fields, as it is seen
 abbrev pub store_of : {D : Type 0} → KnownState D → TreeList D → StoreState D
@@ -37,15 +37,6 @@ store_of known list = record {
   tree = known.tree;
   disk = list.pages.disk;
   is_stopped = list.pages.is_spent;
-}
-
--- the step of a command leads from a tree that fits to one that does
-pub fitting_step : (t : Tree) (c : Command) (p : Parameters) → IsFitting t p → IsCommand c
-    → IsFitting (step t c p).tree p
-fitting_step t c p fitting is = record {
-  in_range = fitting.in_range;
-  tree = IsTree-step t c p fitting.tree is;
-  fits = Fits-step t c p fitting.tree fitting.fits;
 }
 
 -- what steps answer, and the trees that they lead to, by the parameters and the tree
@@ -266,6 +257,35 @@ carried {D} {A} state next IsAnswer known old new now result p is_stopped served
       goes = goes;
       ends = subst (λ (q : Parameters). (t : Tree) → IsListAt state t q old
           → EndsStep state t (next q t) (IsAnswer q t) q old.pages new.pages result) params call known.tree served.at;
+    }
+
+-- a store that is empty was loaded
+pub load_carried : {D : Type 0} (state : D → DiskState) (t : Tree) (known : KnownState D) (old new : TreeList D)
+    (now : StoreState D) (result : Result LoadAnswer ApplyFault) (p : Parameters) (is_stopped : Bool)
+    → HoldsKnown state known old → store_of known old ≡ now → is_stopped ≡ now.is_stopped → is_stopped ≡ false
+    → p ≡ known.params → now.tree ≡ empty_tree → IsTreeUnder t now.params → GoesOn state old new
+    → (IsTreeUnder t p → EndsStep state empty_tree (loaded_tree p empty_tree t)
+    (IsLoadAnswer p t) p old.pages new.pages result)
+    → IsCarried state (load_next t) (LoadReply t) known old new now result
+load_carried {D} state t known old new now result p is_stopped served seen stopped_is runs params
+    empty under goes call =
+    let tree_is : known.tree ≡ empty_tree = ap (λ (x : StoreState D). x.tree) seen ∙ empty in
+    let here : IsTreeUnder t known.params = subst (IsTreeUnder t) (sym (ap (λ (x : StoreState D). x.params) seen)) under
+    in
+    record {
+      served = served;
+      seen = seen;
+      fits = λ observable answer is. subst (λ (u : Tree). IsFitting (loaded_tree known.params u t) known.params)
+          (sym tree_is)
+          (fitting_loaded t known.params (subst (λ (u : Tree). IsFitting u known.params) tree_is served.at.fitting)
+          here);
+      runs = ap (λ (x : StoreState D). x.is_stopped) seen ∙ sym stopped_is ∙ runs;
+      goes = goes;
+      ends = subst (λ (u : Tree). EndsStep state u (loaded_tree known.params u t)
+          (IsLoadAnswer known.params t) known.params old.pages new.pages result) (sym tree_is)
+          (subst (λ (q : Parameters). IsTreeUnder t q
+          → EndsStep state empty_tree (loaded_tree q empty_tree t) (IsLoadAnswer q t) q old.pages new.pages result)
+          params call here);
     }
 
 -- a value was put in its place where the call says so

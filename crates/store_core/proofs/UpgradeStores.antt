@@ -13,14 +13,14 @@ use Rattle.image_check.specs.declared.fault.ApplyFault.{ApplyFault}
 use Rattle.image_check.specs.declared.fault.ApplyFault.TheVariants as apply
 use Rattle.image_check.specs.Standing.{Stands}
 use Rattle.store_core.specs.Known.{KnownState}
-use Rattle.store_core.specs.StagedTree.{TreeList, IsListAt, GoesOn}
-use Rattle.store_core.specs.Steps.{UpgradesPages, EndsUpgrade}
+use Rattle.staged_tree.specs.StagedTree.{TreeList, IsListAt, GoesOn}
+use Rattle.staged_tree.specs.Steps.{UpgradesPages, EndsUpgrade}
 use Rattle.store_core.specs.StoreCalls.{Upgrades}
 use Rattle.store_core.specs.StoreFields.{HoldsKnown}
 use Rattle.store_core.specs.StoreState.{StoreState}
 use Rattle.store_core.proofs.StoreSteps.{store_of, ok_value, err_fault}
-use Rattle.store_core.proofs.TreePages.{fitting_upgraded}
-use Rattle.store_core.proofs.Unchanged.{stands_reading, keeps_itself}
+use Rattle.staged_tree.proofs.TreePages.{fitting_upgraded}
+use Rattle.staged_tree.proofs.Unchanged.{stands_reading, keeps_itself}
 
 -- a store that is stopped does nothing
 pub upgrade_stopped : {D : Type 0} (state : D → DiskState) (store : StoreState D) → store.is_stopped ≡ true

@@ -1,12 +1,6 @@
-pub mod Groups
-pub mod TableChanges
 pub mod Known
 pub mod Loads
 pub mod Opening
-pub mod StagedTree
-pub mod Staging
-pub mod Steps
 pub mod StoreCalls
 pub mod StoreFields
 pub mod StoreState
-pub mod UsedSlots

@@ -1,6 +1,5 @@
 -- What the calls of a store do.
-use Rattle.std.specs.Prelude.{◌≡◌, ◌↔◌, ◌⊎◌, Bool, true, false, List, Result, Ok, Err, IfOk, IfErr, OnOk, OnErr}
-use Rattle.std.specs.Prelude.{IsErrOf}
+use Rattle.std.specs.Prelude.{◌≡◌, ◌↔◌, ◌⊎◌, true, false, List, Result, Ok, Err, IfOk, IfErr, OnOk, OnErr}
 use Rattle.store_model.specs.declared.version.Version.TheVariants.{One, Two}
 use Rattle.store_model.specs.Parameters.{Parameters, with_version}
 use Rattle.store_model.specs.Trees.{Tree}
@@ -8,11 +7,11 @@ use Rattle.store_model.specs.Images.{Represents}
 use Rattle.store_model.specs.Commands.{Command}
 use Rattle.store_model.specs.Steps.{step}
 use Rattle.disk_model.specs.DiskState.{DiskState, IsObservable}
-use Rattle.disk_model.specs.DiskCalls.{Rose, LeavesOnly}
+use Rattle.disk_model.specs.DiskCalls.{LeavesOnly}
 use Rattle.gate_journal.specs.Phases.{HasEmptyJournal}
-use Rattle.gate_journal.specs.Places.{Made, ReadsOnly}
+use Rattle.gate_journal.specs.Places.{Made}
 use Rattle.gate_journal.specs.Disks.{KeepsDisk, IsUnwritten, IsOnlySynced}
-use Rattle.gate_journal.specs.Costs.{opening_writes, opening_syncs, MadeAtMost, CountsCommit}
+use Rattle.gate_journal.specs.Costs.{opening_writes, opening_syncs, MadeAtMost}
 use Rattle.gate_journal.specs.Headers.{HasParameters}
 use Rattle.image_check.specs.Verdicts.{IsNoImage, IsDamaged}
 use Rattle.script_lines.specs.declared.reply.Reply.{Reply}
@@ -21,12 +20,11 @@ use Rattle.image_check.specs.declared.fault.AttachFault.{AttachFault}
 use Rattle.image_check.specs.declared.fault.AttachFault.TheVariants as attach
 use Rattle.image_check.specs.declared.fault.ApplyFault.{ApplyFault}
 use Rattle.image_check.specs.declared.fault.ApplyFault.TheVariants as apply
-use Rattle.page_store.specs.CommitKinds.{CountsUpgrade}
-use Rattle.store_core.specs.TableChanges.{slots_between, slots_upgraded}
 use Rattle.image_check.specs.Faults.{attach_faults_by, apply_faults_after}
 use Rattle.image_check.specs.Standing.{IsFitting, Stands}
-use Rattle.store_core.specs.declared.group.GroupAnswer.{GroupAnswer}
-use Rattle.store_core.specs.Groups.{group_tree, IsGroupAnswer}
+use Rattle.staged_tree.specs.declared.group.GroupAnswer.{GroupAnswer}
+use Rattle.staged_tree.specs.Groups.{group_tree, IsGroupAnswer}
+use Rattle.staged_tree.specs.ImageChanges.{ChangesImage, UpgradesImage}
 use Rattle.store_core.specs.StoreState.{StoreState}
 
 -- ---- attach
@@ -91,23 +89,6 @@ pub record Attaches {D : Type 0} (state : D → DiskState) (old : DiskState)
 
 -- ---- a step
 
--- What carrying out a step does to an observable disk that stands at a tree, where the step leads to the next one.
-pub record ChangesImage {T : Type 0} (t next : Tree) (p : Parameters) (old new : DiskState) (is_stopped : Bool)
-    (result : Result T ApplyFault) : Type 0 where
-  pub stands : OnOk result (Stands new next p)
-  -- a crash at any moment of the call leaves an image of the one tree or of the other, and the disk reads one
-  pub crash : LeavesOnly old new (λ image. Represents image t p ⊎ Represents image next p)
-  pub reads : Represents new.bytes t p ⊎ Represents new.bytes next p
-  -- where nothing changes and where memory ran out, the disk was read at most
-  pub still : next ≡ t → ReadsOnly old new
-  pub no_memory : IsErrOf result apply.NoMemory → ReadsOnly old new
-  -- the slots that differ are committed, and no others
-  pub counts : CountsCommit (slots_between p t next) old new result
-  -- the store is stopped only by a fault at a write or a sync, or after one, and any other fault leaves the disk as it
-  -- was
-  pub stops : is_stopped ≡ true → IsErrOf result apply.Disk × (Rose old.writes new.writes ⊎ Rose old.syncs new.syncs)
-  pub goes_on : is_stopped ≡ false → IsErrOf result apply.Disk → ReadsOnly old new
-
 -- A store takes a step: from its tree it goes on to the next one and answers as is meant, or it fails. A command is
 -- such a step, and so is a group of changes.
 pub record StepsStore {D A : Type 0} (state : D → DiskState) (next : Tree) (IsAnswer : A → Type 0)
@@ -143,23 +124,6 @@ AppliesAll state changes old new result =
     StepsStore state (group_tree old.params old.tree changes) (IsGroupAnswer old.params old.tree changes) old new result
 
 -- ---- upgrade
-
--- What an upgrade does to an observable disk that stands at a tree under these parameters, which are of version 1.
-pub record UpgradesImage {T : Type 0} (t : Tree) (p : Parameters) (old new : DiskState) (is_stopped : Bool)
-    (result : Result T ApplyFault) : Type 0 where
-  pub stands : OnOk result (Stands new t (with_version p Two))
-  -- a crash at any moment of the call leaves an image of the tree under the one version or the other, and the disk
-  -- reads one
-  pub crash : LeavesOnly old new (λ image. Represents image t p ⊎ Represents image t (with_version p Two))
-  pub reads : Represents new.bytes t p ⊎ Represents new.bytes t (with_version p Two)
-  -- where memory ran out, the disk was read at most
-  pub no_memory : IsErrOf result apply.NoMemory → ReadsOnly old new
-  -- the slots that differ are committed, and no others
-  pub counts : CountsUpgrade (slots_upgraded p t) old new result
-  -- the store is stopped only by a fault at a write or a sync, or after one, and any other fault leaves the disk as it
-  -- was
-  pub stops : is_stopped ≡ true → IsErrOf result apply.Disk × (Rose old.writes new.writes ⊎ Rose old.syncs new.syncs)
-  pub goes_on : is_stopped ≡ false → IsErrOf result apply.Disk → ReadsOnly old new
 
 -- A store makes its image one of version 2 that holds the same tree.
 pub record Upgrades {D : Type 0} (state : D → DiskState) (old new : StoreState D)

@@ -2,7 +2,7 @@
 use Rattle.std.specs.Prelude.{◌≡◌}
 use Rattle.disk_model.specs.DiskState.{DiskState}
 use Rattle.store_core.specs.Known.{KnownState}
-use Rattle.store_core.specs.StagedTree.{TreeList, IsListAt}
+use Rattle.staged_tree.specs.StagedTree.{TreeList, IsListAt}
 
 -- The list is that of the known tree, which fits, and its disk tells its bytes where it did when it was last settled.
 pub record HoldsKnown {D : Type 0} (state : D → DiskState) (known : KnownState D) (list : TreeList D) : Type 0 where

@@ -4,11 +4,11 @@ ghost use Rattle.script_lines.specs.InPlace.{in_place};
 ghost use Rattle.script_lines.specs.Parsing.{command_of};
 ghost use Rattle.store_core.specs.StoreCalls.{Applies};
 
-use crate::commands::carry_out;
 use crate::store::Store;
 use disk_model::Disk;
 use image_check::ApplyFault;
 use script_lines::{Command, Reply};
+use staged_tree::carry_out;
 use tree_commands::reveal;
 
 impl<D: Disk> Store<D> {

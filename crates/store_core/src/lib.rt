@@ -5,23 +5,19 @@
 //! stages them one after another, and settles once. `upgrade` makes the image one of version 2. `next_pair` gives the
 //! pairs one after another, and `load` fills an empty store with the pairs of a whole tree.
 //!
-//! No part of the tree is in memory between two commands. A command works on the skip list in the staged pages of the
-//! table, and reads the pages that it asks for. What it changed is settled at once, and only the slots that differ
-//! are written. After every command nothing is staged.
+//! No part of the tree is in memory between two commands. What a command does with the pages of the tree is in
+//! `staged_tree`. After every command nothing is staged.
 #![tactic(auto)]
 
 mod apply;
 mod attach;
-mod commands;
 mod group;
 mod known;
 mod load;
 mod next_pair;
 mod store;
 mod upgrade;
-mod used_slots;
 
-pub use group::GroupAnswer;
 pub use image_check::{ApplyFault, AttachFault};
-pub use load::LoadAnswer;
+pub use staged_tree::{GroupAnswer, LoadAnswer};
 pub use store::Store;

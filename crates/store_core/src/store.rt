@@ -6,9 +6,9 @@ ghost use Rattle.store_model.specs.Pages.{page_count};
 ghost use Rattle.disk_model.specs.DiskState.{IsObservable};
 ghost use Rattle.image_check.specs.Standing.{IsFitting, Stands};
 
-use crate::commands::TreeList;
 use crate::known::KnownTree;
 use disk_model::Disk;
+use staged_tree::TreeList;
 use std::alloc::Global;
 use std::marker::Model;
 use store_base::Params;

@@ -6,8 +6,8 @@ use Rattle.std.proofs.lemmas.Result.{err_from_is_err_and}
 use Rattle.image_check.specs.declared.fault.ApplyFault.{ApplyFault}
 use Rattle.script_lines.specs.Replies.{reply_of}
 use Rattle.script_lines.specs.Sessions.{question_of, change_of}
-use Rattle.store_core.specs.declared.group.GroupAnswer.{GroupAnswer}
-use Rattle.store_core.specs.declared.group.GroupAnswer.TheVariants as groups
+use Rattle.staged_tree.specs.declared.group.GroupAnswer.{GroupAnswer}
+use Rattle.staged_tree.specs.declared.group.GroupAnswer.TheVariants as groups
 use Rattle.session_core.specs.declared.committed.Committed.{Committed}
 use Rattle.session_core.specs.Machine.{Note, Session}
 use Rattle.session_core.specs.Noted.{note_of}

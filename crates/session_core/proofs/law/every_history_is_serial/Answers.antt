@@ -9,7 +9,7 @@ use Rattle.store_model.specs.Commands.Reply.{Acknowledged}
 use Rattle.script_lines.specs.Sessions.{SessionAnswer}
 use Rattle.script_lines.specs.Sessions.SessionCall.{Begin, Ask, Commit}
 use Rattle.script_lines.specs.Sessions.SessionAnswer.{Began, Replied, Done, NoSession}
-use Rattle.store_core.specs.Groups.{refusal_in}
+use Rattle.staged_tree.specs.Groups.{refusal_in}
 use Rattle.session_core.specs.Machine.{Note, Session, session_at, first_difference, commit_answer, answered}
 use Rattle.session_core.specs.Machine.Event.{Acts}
 use Rattle.session_core.specs.Traces.{Entry, trace, groups, changes_of, serial_tree, is_live, asked_since, staged_since}

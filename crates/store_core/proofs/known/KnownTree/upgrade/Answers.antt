@@ -4,7 +4,7 @@ use Rattle.store_model.specs.Parameters.{Parameters, with_version}
 use Rattle.store_model.specs.Images.{layout}
 use Rattle.disk_model.specs.DiskState.{DiskState, IsObservable}
 use Rattle.store_core.specs.Known.{KnownState, IsKnownTree, TellsTree}
-use Rattle.store_core.proofs.TreePages.{fitting_upgraded}
+use Rattle.staged_tree.proofs.TreePages.{fitting_upgraded}
 use Rattle.store_core.proofs.known.KnownTree.upgrade.Goals as goal
 
 -- the tree that was known is known under version 2

@@ -1,6 +1,6 @@
 use Rattle.std.proofs.Common.{map, ap, ◌∙◌}
 use Rattle.script_lines.specs.Sessions.{change_of}
-use Rattle.store_core.specs.StagedTree.{TreeList}
+use Rattle.staged_tree.specs.StagedTree.{TreeList}
 use Rattle.store_core.proofs.StoreSteps.{group_next, GroupReply, on_value, carried, tree_there, served_ok, applies_ok}
 use Rattle.store_core.proofs.StoreSteps.{served_err, applies_err}
 use Rattle.store_core.proofs.store.Store.apply_all.Goals as goal

@@ -1,7 +1,8 @@
 use Rattle.std.proofs.Common.{ap, ◌∙◌}
 use Rattle.script_lines.specs.Parsing.{command_of}
-use Rattle.store_core.specs.StagedTree.{TreeList}
-use Rattle.store_core.proofs.StoreSteps.{command_tree, CommandReply, fitting_step, is_ok-in_place, carried, tree_there}
+use Rattle.staged_tree.specs.StagedTree.{TreeList}
+use Rattle.staged_tree.proofs.TreePages.{fitting_step}
+use Rattle.store_core.proofs.StoreSteps.{command_tree, CommandReply, is_ok-in_place, carried, tree_there}
 use Rattle.store_core.proofs.StoreSteps.{served_ok, applies_ok, served_err, applies_err}
 use Rattle.store_core.proofs.store.Store.apply_into.Goals as goal
 

@@ -4,7 +4,7 @@ use Rattle.store_model.specs.Pages.{page_count}
 use Rattle.disk_model.specs.DiskState.{IsObservable}
 use Rattle.image_check.specs.Standing.{IsFitting}
 use Rattle.store_core.specs.StoreState.{StoreState}
-use Rattle.store_core.proofs.UsedLemmas.{none_used, empty_count}
+use Rattle.staged_tree.proofs.UsedLemmas.{none_used, empty_count}
 use Rattle.store_core.proofs.store.Store.is_empty.Goals as goal
 
 pub returns-clause-told : goal.returns-clause-told

@@ -3,10 +3,9 @@ use Rattle.store_model.specs.Parameters.{Parameters}
 use Rattle.store_model.specs.Trees.{Tree, empty_tree}
 use Rattle.store_model.specs.Pairs.{pairs}
 use Rattle.store_model.specs.Pages.{IsTreeUnder}
-use Rattle.store_core.specs.StagedTree.{TreeList, IsListAt}
+use Rattle.staged_tree.specs.StagedTree.{TreeList, IsListAt}
 use Rattle.store_core.specs.StoreState.{StoreState}
-use Rattle.store_core.proofs.LoadSteps.{load_carried}
-use Rattle.store_core.proofs.StoreSteps.{tree_there, served_ok, applies_ok, served_err, applies_err}
+use Rattle.store_core.proofs.StoreSteps.{load_carried, tree_there, served_ok, applies_ok, served_err, applies_err}
 use Rattle.store_core.proofs.store.Store.load.Goals as goal
 
 pub load_list-result-requires-clause-list : goal.load_list-result-requires-clause-list

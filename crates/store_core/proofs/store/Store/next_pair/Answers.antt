@@ -1,5 +1,5 @@
 use Rattle.std.proofs.Common.{refl, ap, ◌∙◌}
-use Rattle.store_core.specs.StagedTree.{TreeList}
+use Rattle.staged_tree.specs.StagedTree.{TreeList}
 use Rattle.store_core.proofs.StoreSteps.{next_tree, NextReply, carried, tree_there, served_ok, applies_ok, served_err}
 use Rattle.store_core.proofs.StoreSteps.{applies_err}
 use Rattle.store_core.proofs.store.Store.next_pair.Goals as goal

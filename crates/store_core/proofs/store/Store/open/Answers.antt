@@ -6,11 +6,11 @@ use Rattle.seeded_draw.specs.declared.any.AnyDraw.{AnyDraw}
 use Rattle.page_store.specs.PageImages.{pages_in_table, SlotStandsAt}
 use Rattle.page_store.specs.StagedState.{StagedState}
 use Rattle.store_core.specs.Known.{KnownState, IsKnownTree}
-use Rattle.store_core.specs.StagedTree.{AreAt}
+use Rattle.staged_tree.specs.StagedTree.{AreAt}
 use Rattle.store_core.specs.StoreFields.{HoldsKnown}
-use Rattle.store_core.proofs.AnswerSteps.{list_at}
+use Rattle.staged_tree.proofs.AnswerSteps.{list_at}
 use Rattle.store_core.proofs.OpeningLemmas.{open_pages}
-use Rattle.store_core.proofs.TreePages.{tree_holds, held_count, stands_pages, table_pages}
+use Rattle.staged_tree.proofs.TreePages.{tree_holds, held_count, stands_pages, table_pages}
 use Rattle.store_core.proofs.store.Store.open.Goals as goal
 
 pub new-pages-requires-clause-drawn : goal.new-pages-requires-clause-drawn

@@ -1,5 +1,5 @@
 use Rattle.std.proofs.Common.{ap, ◌∙◌}
-use Rattle.store_core.specs.StagedTree.{TreeList}
+use Rattle.staged_tree.specs.StagedTree.{TreeList}
 use Rattle.store_core.proofs.UpgradeStores.{upgraded_store, upgraded_observable, upgraded_bytes, known_upgraded}
 use Rattle.store_core.proofs.UpgradeStores.{upgrades_ok, known_stays, upgrades_err}
 use Rattle.store_core.proofs.store.Store.upgrade_running.Goals as goal

@@ -2,9 +2,9 @@ use Rattle.std.proofs.Common.{◌≡◌, false, ap, subst, ◌∙◌}
 use Rattle.std.specs.FinMap as maps
 use Rattle.store_model.specs.Pages.{page_count}
 use Rattle.disk_model.specs.DiskState.{IsObservable}
-use Rattle.store_core.specs.StagedTree.{TreeList}
+use Rattle.staged_tree.specs.StagedTree.{TreeList}
 use Rattle.store_core.specs.StoreState.{StoreState}
-use Rattle.store_core.proofs.TreePages.{tree_holds, held_count}
+use Rattle.staged_tree.proofs.TreePages.{tree_holds, held_count}
 use Rattle.store_core.proofs.store.Store.used.Goals as goal
 
 pub returns : goal.returns

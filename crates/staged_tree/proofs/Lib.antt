@@ -1,0 +1,16 @@
+pub mod AnswerSteps
+pub mod CostLemmas
+pub mod DifferLemmas
+pub mod DiskLemmas
+pub mod GroupLemmas
+pub mod GroupSteps
+pub mod ListSteps
+pub mod NextPairs
+pub mod StagedAnswers
+pub mod StagedSteps
+pub mod TreePages
+pub mod Unchanged
+pub mod UsedLemmas
+pub mod LoadSteps
+pub mod UpgradeLists
+pub mod UpgradeSteps

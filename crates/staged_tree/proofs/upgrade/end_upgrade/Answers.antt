@@ -1,0 +1,58 @@
+use Rattle.std.proofs.Common.{◌≡◌, Ok, Err, sym, ap, subst, ◌∙◌}
+use Rattle.store_model.specs.declared.version.Version.TheVariants.{One}
+use Rattle.store_model.specs.Draws.{draw_of}
+use Rattle.seeded_draw.specs.declared.any.AnyDraw.{AnyDraw}
+use Rattle.seeded_draw.specs.AnyDrawn.{any_draw}
+use Rattle.page_store.specs.StagedState.{StagedState}
+use Rattle.image_check.specs.declared.fault.ApplyFault.{ApplyFault}
+use Rattle.staged_tree.specs.StagedTree.{TreeList, IsUpgradeStaged}
+use Rattle.staged_tree.specs.Steps.{settle_cause, EndsUpgrade}
+use Rattle.staged_tree.proofs.ListSteps.{keeps_stays, settle_stays, table_behind_settle}
+use Rattle.staged_tree.proofs.UpgradeSteps.{upgraded}
+use Rattle.staged_tree.proofs.upgrade.end_upgrade.Goals as goal
+
+pub invariant_of-pairs-in-Err : goal.invariant_of-pairs-in-Err
+invariant_of-pairs-in-Err g c =
+    let s = c.pairs.inside in
+    let runs = ap (λ (v : TreeList g.row.D.Denot). v.pages.is_spent) c.pairs.view_is ∙ c.requires.runs in
+    keeps_stays g.D.Disk.state (any_draw s.draw)
+    s.is_whole s.walk.known s.pages c.settle_upgrade.new.self
+    (settle_stays g.D.Disk.state s.pages c.settle_upgrade.new.self runs c.in-Err.ensures.call) c.pairs.invariant
+
+pub give_up-requires : goal.give_up-requires
+give_up-requires g c =
+    let state = g.D.Disk.state in
+    let s = c.pairs.inside in
+    let some = c.requires.staged in
+    let runs = ap (λ (v : TreeList g.row.D.Denot). v.pages.is_spent) c.pairs.view_is ∙ c.requires.runs in
+    let staged = subst (λ (v : TreeList g.row.D.Denot). IsUpgradeStaged state some.0 some.1.0 v.pages
+    × ((any_draw v.draw ≡ draw_of some.1.0) × (some.1.0.version ≡ One))) (sym c.pairs.view_is) some.1.1 in
+    table_behind_settle state s.pages c.settle_upgrade.new.self runs
+    some.0 some.1.0 s.draw staged.0.fitting staged.0.table_is staged.1.0 c.in-Err.ensures.call
+
+pub returns-in-Ok-clause-call : goal.returns-in-Ok-clause-call
+returns-in-Ok-clause-call g c t p staged =
+    let state = g.D.Disk.state in
+    let s = c.pairs.inside in
+    let runs = ap (λ (v : TreeList g.row.D.Denot). v.pages.is_spent) c.pairs.view_is ∙ c.requires.runs in
+    let here = subst (λ (v : TreeList g.row.D.Denot). IsUpgradeStaged state t p v.pages) (sym c.pairs.view_is) staged in
+    let ends = upgraded state t p s.pages c.settle_upgrade.new.self (Ok tt) g.met.D.Disk.sound here runs
+    c.in-Ok.ensures.call in
+    subst (λ (v : TreeList g.row.D.Denot). EndsUpgrade state t p v.pages c.discard.new.self (Ok tt)) c.pairs.view_is
+    (subst (λ (x : StagedState g.row.D.Denot AnyDraw). EndsUpgrade state t p s.pages x (Ok tt))
+    (sym c.discard.ensures) ends)
+
+pub returns-in-Err-clause-call : goal.returns-in-Err-clause-call
+returns-in-Err-clause-call g c t p staged =
+    let state = g.D.Disk.state in
+    let s = c.pairs.inside in
+    let runs = ap (λ (v : TreeList g.row.D.Denot). v.pages.is_spent) c.pairs.view_is ∙ c.requires.runs in
+    let here = subst (λ (v : TreeList g.row.D.Denot). IsUpgradeStaged state t p v.pages) (sym c.pairs.view_is) staged in
+    let ends = upgraded state t p s.pages c.settle_upgrade.new.self (Err c.in-Err.fault) g.met.D.Disk.sound here runs
+    c.in-Err.ensures.call in
+    subst (λ (v : TreeList g.row.D.Denot). EndsUpgrade state t p
+    v.pages c.give_up.new.pairs.pages (Err c.cause_of.result)) c.pairs.view_is
+    (subst (λ (f : ApplyFault). EndsUpgrade state t p s.pages c.give_up.new.pairs.pages (Err f))
+    (sym c.cause_of.ensures)
+    (subst (λ (x : StagedState g.row.D.Denot AnyDraw).
+    EndsUpgrade state t p s.pages x (Err (settle_cause c.in-Err.fault))) (sym c.give_up.ensures.pages) ends))
