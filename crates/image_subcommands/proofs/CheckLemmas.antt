@@ -20,7 +20,8 @@ use Rattle.image_subcommands.specs.Outside.{Outside}
 use Rattle.image_check.specs.Standing.{RepresentsSome}
 use Rattle.image_subcommands.specs.Reports.{verdict_status, PrintsVerdict, PrintsReport}
 use Rattle.image_subcommands.specs.ScrubCall.{ScrubsToSome, ScrubsTree, IsScrub}
-use Rattle.image_subcommands.specs.Statuses.{Subcommand as words, IsStatusOf, IsJudged, done_of_verdict}
+use Rattle.image_subcommands.specs.Statuses.{Subcommand as words, row, is_among, IsStatusOf, IsJudged, done_of_verdict}
+use Rattle.image_subcommands.proofs.EachStatus.{implied}
 use Rattle.image_subcommands.proofs.ReportLemmas.{is_no_verdict, ends_in, is_reported, is_silent, Found}
 use Rattle.image_subcommands.proofs.ReportLemmas.{ends_by_verdict}
 
@@ -135,14 +136,9 @@ module _ {D R W : Type 0} (disk_of : D → DiskState) (sink_of : W → SinkState
 
 -- ---- scrub
 
-fails_scrub : (fault : Fault) → IsStatusOf words.Scrub (fault_status fault)
-fails_scrub causes.Disk = refl
-fails_scrub causes.NoMemory = refl
-
-judges_scrub : (verdict : Verdict) → IsStatusOf words.Scrub (verdict_status verdict)
-judges_scrub (verdicts.Clean pages dirs files bytes) = refl
-judges_scrub verdicts.NotImage = refl
-judges_scrub verdicts.Damaged = refl
+-- it ends as a check may
+ends_as_check : (status : Status) → IsStatusOf words.Check status → IsStatusOf words.Scrub status
+ends_as_check = implied (λ s. is_among words.Check (row s).words) (λ s. is_among words.Scrub (row s).words) refl
 
 module _ (old : DiskState) (observable : IsObservable old) where
   found_by_scrub : (verdict : Verdict) → IsScrubVerdict old verdict
@@ -208,8 +204,8 @@ module _ {D R W : Type 0} (disk_of : D → DiskState) (sink_of : W → SinkState
   scrub_ends disk result sink status call prints =
       let old = disk_of before.disk in
       record {
-        ends = ends_in sink_of (IsStatusOf words.Scrub) fails_scrub refl judges_scrub result
-            before.sink sink status prints;
+        ends = ends_as_check status (ends_in sink_of (IsStatusOf words.Check) fails_check refl judges_check result
+            before.sink sink status prints);
         done = refl;
         observed = λ observable. record {
           ends = ends_by_verdict (ScrubsToSome old) (IsBeyondScrubbing old) old (disk_of disk)

@@ -1,5 +1,6 @@
 pub mod CheckLemmas
 pub mod CostLemmas
+pub mod EachStatus
 pub mod FormatLemmas
 pub mod LineLimits
 pub mod MirrorLemmas

@@ -166,7 +166,17 @@ row NotEmpty = record (with_code 14) { words = Load ∷ []; is_past_header = tru
 row BadListing = record (with_code 15) { words = Load ∷ []; is_past_header = true }
 row TooFull = record (with_code 16) { words = Load ∷ []; is_past_header = true }
 
+-- all statuses, of which each predicate below is a filter
+abbrev pub every_status : List Status
+every_status = Done ∷ Usage ∷ SourceFault ∷ SinkFault ∷ DiskFault ∷ TooLong ∷ NotImage ∷ Damaged ∷ NoMemory
+    ∷ AlreadyImage ∷ WrongLength ∷ Unequal ∷ NotEmpty ∷ BadListing ∷ TooFull ∷ []
+
 -- ---- what follows from it
+
+-- the status is one of these
+abbrev pub IsOneOf : Status → List Status → Type 0
+IsOneOf status [] = ⊥
+IsOneOf status (first ∷ others) = (status ≡ first) ⊎ IsOneOf status others
 
 -- a call with this subcommand may end so
 abbrev pub IsStatusOf : Subcommand → Status → Type 0
@@ -175,6 +185,11 @@ IsStatusOf word status = IsTrue (is_among word (row status).words)
 -- how a call with this subcommand may end, once its image was taken
 abbrev pub IsEndOf : Subcommand → Status → Type 0
 IsEndOf word status = IsTrue (is_among word (row status).words && not (row status).refuses_image)
+
+-- how it may end without being done, its image not refused
+abbrev pub IsStopOf : Subcommand → Status → Type 0
+IsStopOf word status =
+    IsTrue (is_among word (row status).words && not (row status).refuses_image && not (row status).is_done)
 
 -- they were all carried out, and summed up
 abbrev pub IsSummed : Status → Type 0

@@ -19,43 +19,43 @@ pub enum Status {
     /// image is the first, or the disk is wiped. Or no line of the script is left and every reply is written, or all
     /// commands of a number are carried out and summed up, or the whole dump is printed, or the tree of the listing
     /// is loaded.
-    Done,
+    Done = 0,
     /// The words are not served. Nothing was read, written or printed.
-    Usage,
+    Usage = 2,
     /// A take from the source failed. The image is the layout of the tree after the answered lines; with a load, of
     /// the tree that it had.
-    SourceFault,
+    SourceFault = 3,
     /// A put into the sink failed. With `run` and `session` the image is the layout of the tree after the answered
     /// lines, with `big` that of the tree after all commands; with `scrub` it is scrubbed, where scrubbing leaves the
     /// layout of a tree; with `dump` and `load` it is that of the tree that it had; with a mirror the second image is
     /// the first.
-    SinkFault,
+    SinkFault = 4,
     /// A read, a write or a sync of a disk failed.
-    DiskFault,
+    DiskFault = 5,
     /// As many bytes were taken as a script may have, and one more came. The image is the layout of the tree after
     /// the answered lines; with a load, of the tree that it had.
-    TooLong,
+    TooLong = 6,
     /// The disk's header, as recovery would leave it, is that of no image of its length; with a mirror, that of either
     /// disk. Nothing was written.
-    NotImage,
+    NotImage = 7,
     /// What recovery would leave is the layout of no tree, or for `scrub` what scrubbing would leave; with a mirror, so
     /// it is of the first image. Nothing was written.
-    Damaged,
+    Damaged = 8,
     /// Memory ran out.
-    NoMemory,
+    NoMemory = 9,
     /// There is an image on the disk already. Nothing was written.
-    AlreadyImage,
+    AlreadyImage = 10,
     /// The disk has not the length of the image. Nothing was written.
-    WrongLength,
+    WrongLength = 11,
     /// The images of a mirror have other parameters, or are of other versions of the format. Nothing was written.
-    Unequal,
+    Unequal = 13,
     /// The image of a load is not empty. It is as it was, and nothing was taken from the source.
-    NotEmpty,
+    NotEmpty = 14,
     /// What a load was given is no listing. The image is as it was, and the source was read to its end.
-    BadListing,
+    BadListing = 15,
     /// The tree of a listing has more pages than the image has slots. The image is as it was, and both numbers are
     /// printed.
-    TooFull,
+    TooFull = 16,
 }
 
 impl Status {
@@ -63,23 +63,7 @@ impl Status {
     pub fn code(self) -> u8
         ensures { result ≡ (row self).code }
     {
-        match self {
-            Status::Done => 0,
-            Status::Usage => 2,
-            Status::SourceFault => 3,
-            Status::SinkFault => 4,
-            Status::DiskFault => 5,
-            Status::TooLong => 6,
-            Status::NotImage => 7,
-            Status::Damaged => 8,
-            Status::NoMemory => 9,
-            Status::AlreadyImage => 10,
-            Status::WrongLength => 11,
-            Status::Unequal => 13,
-            Status::NotEmpty => 14,
-            Status::BadListing => 15,
-            Status::TooFull => 16,
-        }
+        self as u8
     }
 
     /// How many pieces of work were carried out by `format`, `wipe`, `upgrade`, `dump` or `load`: one or none.

@@ -12,8 +12,8 @@ use Rattle.image_check.specs.declared.fault.ApplyFault.{ApplyFault}
 use Rattle.image_check.specs.declared.fault.ApplyFault.TheVariants as apply
 use Rattle.store_core.specs.StoreState.{StoreState}
 use Rattle.store_core.specs.StoreCalls.{StepsStore}
-use Rattle.store_core.proofs.DiskLemmas.{keeps_then}
-use Rattle.store_core.proofs.Unchanged.{keeps_itself}
+use Rattle.staged_tree.proofs.DiskLemmas.{keeps_then}
+use Rattle.staged_tree.proofs.Unchanged.{keeps_itself}
 use Rattle.image_subcommands.specs.declared.status.Status.{Status}
 use Rattle.image_subcommands.specs.Endings.{apply_status}
 use Rattle.image_subcommands.specs.Statuses.{disk_faults_by, sink_faults_by}

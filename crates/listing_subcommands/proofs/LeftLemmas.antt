@@ -20,7 +20,7 @@ use Rattle.ordered_pairs.specs.PairsState.{next_pair}
 use Rattle.tree_listing.specs.Dumps.{commands_text, dump_text}
 use Rattle.script_lines.specs.SinkState.{SinkState}
 use Rattle.image_check.specs.Standing.{IsFitting}
-use Rattle.store_core.proofs.TreePages.{few_pairs}
+use Rattle.staged_tree.proofs.TreePages.{few_pairs}
 use Rattle.listing_subcommands.specs.Dumping.{Spot, spots, place_of, spot_pairs, first_pair, spots_text, IsSpot}
 use Rattle.listing_subcommands.specs.Dumping.{AreLeft, WritesSpot, WritesNext}
 use Rattle.listing_subcommands.proofs.DumpStores.{HasWritten, none_written, more_written, all_written}

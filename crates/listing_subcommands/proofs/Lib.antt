@@ -1,4 +1,3 @@
-pub mod UncalledLemmas
 pub mod AttributeSpots
 pub mod DumpEnds
 pub mod DumpStores
@@ -7,7 +6,6 @@ pub mod LoadCalls
 pub mod LoadEnds
 pub mod LineLemmas
 pub mod NodeLemmas
-pub mod OpeningEnds
 pub mod PieceLemmas
 pub mod ReadLemmas
 pub mod SpotLemmas

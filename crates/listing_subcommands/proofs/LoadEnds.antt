@@ -24,21 +24,22 @@ use Rattle.image_check.specs.declared.fault.ApplyFault.{ApplyFault}
 use Rattle.image_check.specs.declared.fault.AttachFault.{AttachFault}
 use Rattle.image_check.specs.declared.fault.AttachFault.TheVariants as faults
 use Rattle.image_check.specs.Standing.{IsFitting, Stands}
-use Rattle.store_core.specs.StoreCalls.{IsRefused, KeepsImage, IsOpened, ChangesImage, LeavesImage}
-use Rattle.store_core.specs.TableChanges.{slots_between}
-use Rattle.store_core.proofs.CostLemmas.{made_reading, made_then, at_most_then, at_most}
-use Rattle.store_core.proofs.Unchanged.{standing_represents, stands_reading}
+use Rattle.staged_tree.specs.ImageChanges.{ChangesImage}
+use Rattle.store_core.specs.StoreCalls.{IsRefused, KeepsImage, IsOpened, LeavesImage}
+use Rattle.staged_tree.specs.TableChanges.{slots_between}
+use Rattle.staged_tree.proofs.CostLemmas.{made_reading, made_then, at_most_then, at_most}
+use Rattle.staged_tree.proofs.Unchanged.{standing_represents, stands_reading}
 use Rattle.image_subcommands.specs.declared.outcome.Outcome.{Outcome}
 use Rattle.image_subcommands.specs.declared.status.Status.{Status}
 use Rattle.image_subcommands.specs.declared.status.Status.TheVariants as statuses
 use Rattle.image_subcommands.specs.Endings.{attach_status}
 use Rattle.image_subcommands.specs.Outside.{Outside}
-use Rattle.image_subcommands.specs.Statuses.{Row, row, IsRefusedImage, MayComeFirst, ComesExactly}
+use Rattle.image_subcommands.specs.Statuses.{Row, row, MayComeFirst, ComesExactly}
 use Rattle.image_subcommands.proofs.StatusLemmas.{other_than}
 use Rattle.listing_subcommands.specs.LoadCall.{LoadsNothing, EndsBeforeListing, EndsBeforeTree, Lists, full_text}
 use Rattle.listing_subcommands.specs.LoadCall.{ListsNone, ListsTooMany, PrintsFull, LoadsTree, KeepsTree, LoadsFrom}
 use Rattle.listing_subcommands.specs.LoadCall.{LoadsNothing as nothing}
-use Rattle.listing_subcommands.proofs.OpeningEnds.{quiet_unopened}
+use Rattle.image_work.proofs.OpeningEnds.{quiet_unopened}
 
 -- ---- a script is the listing of one tree
 
@@ -75,38 +76,21 @@ lists_few t p script lists room many =
 
 -- ---- the disk, where nothing is loaded
 
--- the row of a status with which nothing was loaded
-record IsNothing (status : Status) : Type 0 where
-  pub later : (row status).may_come_first ≡ false
-  pub accepts : (row status).refuses_image ≡ false
-  pub undone : (row status).is_done ≡ false
+-- a status with which nothing was loaded may not come first, and is not done
+nothing_is : (status : Status) → LoadsNothing status
+    → ((row status).may_come_first ≡ false) × ((row status).is_done ≡ false)
+nothing_is status nothing.SourceFault = (refl, refl)
+nothing_is status nothing.SinkFault = (refl, refl)
+nothing_is status nothing.TooLong = (refl, refl)
+nothing_is status nothing.NotEmpty = (refl, refl)
+nothing_is status nothing.BadListing = (refl, refl)
+nothing_is status nothing.TooFull = (refl, refl)
 
-nothing_is : (status : Status) → LoadsNothing status → IsNothing status
-nothing_is statuses.SourceFault nothing.SourceFault = record { later = refl; accepts = refl; undone = refl }
-nothing_is statuses.SinkFault nothing.SinkFault = record { later = refl; accepts = refl; undone = refl }
-nothing_is statuses.TooLong nothing.TooLong = record { later = refl; accepts = refl; undone = refl }
-nothing_is statuses.NotEmpty nothing.NotEmpty = record { later = refl; accepts = refl; undone = refl }
-nothing_is statuses.BadListing nothing.BadListing = record { later = refl; accepts = refl; undone = refl }
-nothing_is statuses.TooFull nothing.TooFull = record { later = refl; accepts = refl; undone = refl }
-nothing_is statuses.Done none = elim none [ ]
-nothing_is statuses.Usage none = elim none [ ]
-nothing_is statuses.DiskFault none = elim none [ ]
-nothing_is statuses.NotImage none = elim none [ ]
-nothing_is statuses.Damaged none = elim none [ ]
-nothing_is statuses.NoMemory none = elim none [ ]
-nothing_is statuses.AlreadyImage none = elim none [ ]
-nothing_is statuses.WrongLength none = elim none [ ]
-nothing_is statuses.Unequal none = elim none [ ]
-
--- it is none that may come first, none that refuses an image, and not done
 pub first_loads : (status : Status) → MayComeFirst status → LoadsNothing status → ⊥
-first_loads status first none = false≢true (sym (nothing_is status none).later ∙ first)
-
-pub refuses_none : (status : Status) → LoadsNothing status → IsRefusedImage status → ⊥
-refuses_none status none refused = false≢true (sym (nothing_is status none).accepts ∙ refused)
+first_loads status first none = false≢true (sym (nothing_is status none).0 ∙ first)
 
 pub not_loaded : LoadsNothing statuses.Done → ⊥
-not_loaded none = false≢true (sym (nothing_is statuses.Done none).undone)
+not_loaded none = false≢true (sym (nothing_is statuses.Done none).1)
 
 module _ (u : Tree) (p : Parameters) (status : Status) (old new : DiskState) where
   -- the image was opened, and then read at most

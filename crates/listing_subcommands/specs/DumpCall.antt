@@ -6,24 +6,21 @@ use Rattle.store_model.specs.Images.{Represents}
 use Rattle.tree_listing.specs.Dumps.{dump_text}
 use Rattle.store_base.specs.Counts.{Rose}
 use Rattle.disk_model.specs.DiskState.{DiskState}
-use Rattle.disk_model.specs.DiskState as disks
 use Rattle.disk_model.specs.DiskCalls.{LeavesOnly}
 use Rattle.gate_journal.specs.Costs.{opening_writes, opening_syncs, MadeAtMost}
 use Rattle.gate_journal.specs.Disks.{IsUnwritten}
-use Rattle.gate_journal.specs.Headers.{HasParameters}
 use Rattle.gate_journal.specs.Phases.{HasEmptyJournal}
 use Rattle.gate_journal.specs.Places.{Made}
 use Rattle.script_lines.specs.SinkState.{SinkState, AppendsPrefix}
 use Rattle.script_lines.specs.SinkState as sinks
-use Rattle.image_check.specs.Standing.{Stands, RepresentsSome}
-use Rattle.image_check.specs.Verdicts.{IsNoImage, IsDamaged}
+use Rattle.image_check.specs.Standing.{Stands}
 use Rattle.store_core.specs.StoreCalls.{LeavesImage}
 use Rattle.image_subcommands.specs.declared.outcome.Outcome.{Outcome}
 use Rattle.image_subcommands.specs.declared.status.Status.{Status}
 use Rattle.image_subcommands.specs.declared.status.Status.TheVariants as statuses
 use Rattle.image_subcommands.specs.Outside.{Outside}
-use Rattle.image_subcommands.specs.Statuses.{Subcommand as words, IsStatusOf, IsRefusedImage, IsPastHeader}
-use Rattle.image_subcommands.specs.Statuses.{MayComeFirst, ComesExactly, done_of_work}
+use Rattle.image_subcommands.specs.Statuses.{Subcommand as words, done_of_work}
+use Rattle.image_work.specs.Works.{Works}
 
 -- the whole tree was dumped, or as much of it as the sink took
 abbrev pub IsDumped : Status → Type 0
@@ -53,27 +50,16 @@ pub record DumpsTree (t : Tree) (p : Parameters) (status : Status) (old new : Di
   pub complete : (Rose old.faults new.faults → ⊥) → (Rose sink.faults sink_new.faults → ⊥)
       → (status ≡ statuses.Done) ⊎ (status ≡ statuses.NoMemory)
 
--- A dump of a disk that tells its bytes.
-pub record DumpsDisk (status : Status) (old new : DiskState) (sink sink_new : SinkState) : Type 0 where
-  -- how it ends
-  pub not_image : ComesExactly statuses.NotImage (IsNoImage old) MayComeFirst status
-  pub damaged : ComesExactly statuses.Damaged (IsDamaged old) MayComeFirst status
-  pub represented : IsDumped status → RepresentsSome old
-  -- what stands then, where the image is none or damaged
-  pub nothing : ((t : Tree) (p : Parameters) → Represents old.bytes t p → ⊥) → LeavesImage old new
-  pub unprinted : ((t : Tree) (p : Parameters) → Represents old.bytes t p → ⊥) → sink_new ≡ sink
-  -- and where it represents a tree
-  pub dumps : (t : Tree) (p : Parameters) → Represents old.bytes t p → DumpsTree t p status old new sink sink_new
+-- What a dump leaves, whatever the disk holds.
+pub record KeepsDump {D R W : Type 0} (before : Outside D R W) (after : Outcome D R W) : Type 0 where
+  pub done : after.done ≡ done_of_work after.status
+  pub source : after.source ≡ before.source
 
 module _ {D R W : Type 0} (disk_of : D → DiskState) (sink_of : W → SinkState) where
-  pub record IsDump (before : Outside D R W) (after : Outcome D R W) : Type 0 where
-    -- how it ends
-    pub ends : IsStatusOf words.Dump after.status
-    pub done : after.done ≡ done_of_work after.status
-    pub named : IsPastHeader after.status → (p : Parameters) × HasParameters (disk_of before.disk) p
-    -- what stands then
-    pub source : after.source ≡ before.source
-    pub observed : disks.IsObservable (disk_of before.disk)
-        → DumpsDisk after.status (disk_of before.disk) (disk_of after.disk) (sink_of before.sink) (sink_of after.sink)
-    -- where the image is refused nothing is put out
-    pub refused : IsRefusedImage after.status → after.sink ≡ before.sink
+  abbrev pub DumpsAt : Tree → Parameters → Outside D R W → Outcome D R W → Type 0
+  DumpsAt t p before after =
+      DumpsTree t p after.status (disk_of before.disk) (disk_of after.disk) (sink_of before.sink) (sink_of after.sink)
+
+  -- the image is opened, and its tree put out
+  abbrev pub IsDump : Outside D R W → Outcome D R W → Type 0
+  IsDump before after = Works disk_of words.Dump KeepsDump DumpsAt before after

@@ -12,21 +12,14 @@ use Rattle.script_lines.specs.SourceState.{SourceState}
 use Rattle.script_lines.specs.SinkState.{SinkState, IsPut}
 use Rattle.script_lines.specs.LineState.{LineState}
 use Rattle.image_check.specs.declared.fault.ApplyFault.{ApplyFault}
-use Rattle.image_check.specs.Standing.{IsFitting, Stands}
-use Rattle.store_core.specs.declared.load.LoadAnswer.{LoadAnswer}
-use Rattle.store_core.specs.declared.load.LoadAnswer.TheVariants as answers
+use Rattle.staged_tree.specs.declared.load.LoadAnswer.{LoadAnswer}
+use Rattle.staged_tree.specs.declared.load.LoadAnswer.TheVariants as answers
 use Rattle.store_core.specs.Loads.{Loads}
 use Rattle.store_core.specs.StoreState.{StoreState}
 use Rattle.image_subcommands.specs.declared.status.Status.{Status}
 use Rattle.image_subcommands.specs.declared.status.Status.TheVariants as statuses
 use Rattle.image_subcommands.specs.Endings.{apply_status}
 use Rattle.listing_subcommands.specs.Listings.{ReadsListing}
-
--- A store that is ready to be loaded, but that it may hold a tree.
-pub record IsReady {D : Type 0} (disk_of : D → DiskState) (store : StoreState D) : Type 0 where
-  pub runs : store.is_stopped ≡ false
-  pub fitting : IsFitting store.tree store.params
-  pub stands : IsObservable (disk_of store.disk) → Stands (disk_of store.disk) store.tree store.params
 
 -- an empty store is loaded with the tree of a listing
 abbrev pub LoadsListing : {D : Type 0} → (D → DiskState) → Listing → StoreState D → StoreState D

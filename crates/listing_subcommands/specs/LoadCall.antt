@@ -12,27 +12,24 @@ use Rattle.store_model.specs.Pages.{IsTreeUnder}
 use Rattle.tree_listing.specs.Dumps.{IsListing, ListsSome}
 use Rattle.store_base.specs.Counts.{Rose}
 use Rattle.disk_model.specs.DiskState.{DiskState}
-use Rattle.disk_model.specs.DiskState as disks
 use Rattle.disk_model.specs.DiskCalls.{LeavesOnly}
 use Rattle.gate_journal.specs.Costs.{opening_writes, opening_syncs, commit_writes, commit_syncs, MadeAtMost}
 use Rattle.gate_journal.specs.Disks.{IsUnwritten}
-use Rattle.gate_journal.specs.Headers.{HasParameters}
 use Rattle.gate_journal.specs.Phases.{HasEmptyJournal}
 use Rattle.gate_journal.specs.Places.{Made}
 use Rattle.script_lines.specs.SourceState.{SourceState}
 use Rattle.script_lines.specs.SourceState as sources
 use Rattle.script_lines.specs.SinkState.{SinkState, AppendsPrefix}
 use Rattle.script_lines.specs.SinkState as sinks
-use Rattle.image_check.specs.Standing.{Stands, RepresentsSome}
-use Rattle.image_check.specs.Verdicts.{IsNoImage, IsDamaged}
+use Rattle.image_check.specs.Standing.{Stands}
 use Rattle.store_core.specs.StoreCalls.{LeavesImage}
 use Rattle.image_subcommands.specs.declared.outcome.Outcome.{Outcome}
 use Rattle.image_subcommands.specs.declared.status.Status.{Status}
 use Rattle.image_subcommands.specs.declared.status.Status.TheVariants as statuses
 use Rattle.image_subcommands.specs.Limits.{KeepsLimit}
 use Rattle.image_subcommands.specs.Outside.{Outside, IsIdle}
-use Rattle.image_subcommands.specs.Statuses.{Subcommand as words, IsStatusOf, IsRefusedImage, IsPastHeader}
-use Rattle.image_subcommands.specs.Statuses.{MayComeFirst, ComesExactly, done_of_work}
+use Rattle.image_subcommands.specs.Statuses.{Subcommand as words, MayComeFirst, ComesExactly, done_of_work}
+use Rattle.image_work.specs.Works.{Works}
 
 -- the image stays that of the tree that it was: nothing was loaded, and no call on the disk failed
 pub data LoadsNothing : Status → Type 0 where
@@ -139,33 +136,23 @@ module _ {D R W : Type 0} (disk_of : D → DiskState) (source_of : R → SourceS
         → (Rose (source_of before.source).faults (source_of after.source).faults → ⊥)
         → (after.status ≡ statuses.Done) ⊎ (after.status ≡ statuses.NoMemory)
 
-  -- A load into a disk that tells its bytes.
-  pub record LoadsDisk (before : Outside D R W) (after : Outcome D R W) : Type 0 where
-    pub not_image : ComesExactly statuses.NotImage (IsNoImage (disk_of before.disk)) MayComeFirst after.status
-    pub damaged : ComesExactly statuses.Damaged (IsDamaged (disk_of before.disk)) MayComeFirst after.status
-    pub represented : (after.status ≡ statuses.Done) ⊎ LoadsNothing after.status → RepresentsSome (disk_of before.disk)
-    -- what stands then, where the image is none or damaged
-    pub nothing : ((t : Tree) (p : Parameters) → Represents (disk_of before.disk).bytes t p → ⊥)
-        → IsIdle before after × LeavesImage (disk_of before.disk) (disk_of after.disk)
-    -- and where it represents a tree
-    pub loads : sources.IsObservable (source_of before.source) → (u : Tree) (p : Parameters)
-        → Represents (disk_of before.disk).bytes u p
-        → LoadsFrom u p (source_of before.source).left before after
-
-  pub record IsLoad (before : Outside D R W) (after : Outcome D R W) : Type 0 where
-    -- how it ends
-    pub ends : IsStatusOf words.Load after.status
+  -- What a load leaves, whatever the disk holds.
+  pub record KeepsLoad (before : Outside D R W) (after : Outcome D R W) : Type 0 where
     pub done : after.done ≡ done_of_work after.status
-    pub named : IsPastHeader after.status → (p : Parameters) × HasParameters (disk_of before.disk) p
-    -- what stands then
     pub limit : sources.IsObservable (source_of before.source)
         → KeepsLimit after.status (source_of before.source) (source_of after.source)
     pub whole : sources.IsObservable (source_of before.source) → IsReadWhole after.status
         → (source_of after.source).left ≡ []
-    pub observed : disks.IsObservable (disk_of before.disk) → LoadsDisk before after
-    -- where the image is refused, or is not empty, nothing is taken
-    pub refused : IsRefusedImage after.status → IsIdle before after
+    -- where the image is not empty nothing is taken
     pub not_taken : after.status ≡ statuses.NotEmpty → IsIdle before after
     -- and nothing is printed but that a tree is too large
     pub silent : (after.status ≡ statuses.TooFull → ⊥) → (after.status ≡ statuses.SinkFault → ⊥)
         → after.sink ≡ before.sink
+
+  abbrev pub LoadsAt : Tree → Parameters → Outside D R W → Outcome D R W → Type 0
+  LoadsAt u p before after =
+      sources.IsObservable (source_of before.source) → LoadsFrom u p (source_of before.source).left before after
+
+  -- the image is opened, and the tree of the listing is loaded into it
+  abbrev pub IsLoad : Outside D R W → Outcome D R W → Type 0
+  IsLoad before after = Works disk_of words.Load KeepsLoad LoadsAt before after

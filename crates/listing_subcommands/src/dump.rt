@@ -16,7 +16,9 @@ ghost use Rattle.script_lines.specs.Parsing.{command_of};
 ghost use Rattle.script_lines.specs.Replies.{reply_of};
 ghost use Rattle.image_check.specs.Standing.{IsFitting};
 ghost use Rattle.image_subcommands.specs.Outside.{KeepsOutside, outside_of};
-ghost use Rattle.listing_subcommands.specs.DumpCall.{IsDump};
+ghost use Rattle.image_subcommands.specs.Statuses.{Subcommand as words};
+ghost use Rattle.image_work.specs.Works.{IsReady, WorksOnStore};
+ghost use Rattle.listing_subcommands.specs.DumpCall.{KeepsDump, DumpsAt, IsDump};
 ghost use Rattle.listing_subcommands.specs.Dumping.{Spot, IsSpot, IsStanding, first_pair, spots_text, AreLeft};
 ghost use Rattle.listing_subcommands.specs.Dumping.{WritesNext, KeepsStore, KeepsSink};
 
@@ -29,6 +31,23 @@ use store_base::{Bytes, Key, Value};
 use store_core::Store;
 use tree_listing::DUMP_PIECE as PIECE;
 use tree_pairs::{Kind, attribute_in, inline_in, kind_told};
+
+/// Puts out the dump of a store's tree.
+fn dump_store<D: Disk, R: Source, W: Sink>(store: Store<D>, source: R, sink: W) -> Outcome<D, R, W>
+    requires ready { IsReady D.state store }
+    ensures { WorksOnStore D.state R.state W.state words.Dump KeepsDump
+        (DumpsAt D.state W.state) (source, sink) store result }
+{
+    let (mut store, mut sink) = (store, sink);
+    let status = ended_status(write_dump(&mut store, &mut sink));
+    Outcome {
+        status,
+        done: status.done_of_work(),
+        disk: store.into_disk(),
+        source,
+        sink,
+    }
+}
 
 /// Puts out the dump of an image's tree: the commands that make it, in the order of paths, a line each. It takes no
 /// memory but the store's.
@@ -43,18 +62,9 @@ pub fn dump_image<D: Disk, R: Source, W: Sink>(
         (D.state result.disk) (R.state source)
         (R.state result.source) (W.state sink) (W.state result.sink) }
 {
-    let mut store = match Store::attach(alloc, disk) {
-        Ok(store) => store,
-        Err((fault, disk)) => return Outcome::idle(fault.into(), disk, source, sink),
-    };
-    let mut sink = sink;
-    let status = ended_status(write_dump(&mut store, &mut sink));
-    Outcome {
-        status,
-        done: status.done_of_work(),
-        disk: store.into_disk(),
-        source,
-        sink,
+    match Store::attach(alloc, disk) {
+        Ok(store) => dump_store(store, source, sink),
+        Err((fault, disk)) => Outcome::idle(fault.into(), disk, source, sink),
     }
 }
 

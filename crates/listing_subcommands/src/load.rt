@@ -5,8 +5,10 @@ ghost use Rattle.store_model.specs.Trees.{Tree, empty_tree};
 ghost use Rattle.tree_listing.specs.Listings.{IsListed};
 ghost use Rattle.image_subcommands.specs.Limits.{IsUnread};
 ghost use Rattle.image_subcommands.specs.Outside.{KeepsOutside, outside_of};
-ghost use Rattle.listing_subcommands.specs.Filling.{IsReady, LoadsListing, FillsStore, PutsFull, PrintsFilled};
-ghost use Rattle.listing_subcommands.specs.LoadCall.{IsLoad};
+ghost use Rattle.image_subcommands.specs.Statuses.{Subcommand as words};
+ghost use Rattle.image_work.specs.Works.{IsReady, WorksOnStore};
+ghost use Rattle.listing_subcommands.specs.Filling.{LoadsListing, FillsStore, PutsFull, PrintsFilled};
+ghost use Rattle.listing_subcommands.specs.LoadCall.{KeepsLoad, LoadsAt, IsLoad};
 
 use crate::read::read_listing;
 use disk_model::Disk;
@@ -75,8 +77,33 @@ fn print_filled<W: Sink>(sink: &mut W, filled: Result<LoadAnswer, Status>) -> St
     }
 }
 
+/// Loads a store with the tree of the listing whose lines come.
+fn load_store<D: Disk, R: Source, W: Sink>(
+    alloc: Global,
+    store: Store<D>,
+    reader: LineReader<R>,
+    sink: W,
+) -> Outcome<D, R, W>
+    requires unread { IsUnread reader }
+    requires ready { IsReady D.state store }
+    ensures { WorksOnStore D.state R.state W.state words.Load
+        (KeepsLoad D.state R.state W.state) (LoadsAt D.state R.state W.state)
+        (reader.source, sink) store result }
+{
+    let (mut store, mut reader, mut sink) = (store, reader, sink);
+    let filled = fill_store(alloc, &mut store, &mut reader);
+    let status = print_filled(&mut sink, filled);
+    Outcome {
+        status,
+        done: status.done_of_work(),
+        disk: store.into_disk(),
+        source: reader.into_source(),
+        sink,
+    }
+}
+
 /// Loads the tree of the listing that the source has into an empty image, by one commit: takes the room of the reader
-/// of lines, attaches the image, and reads the source to its end.
+/// of lines, opens the image, and reads the source to its end.
 pub fn load_image<D: Disk, R: Source, W: Sink>(
     alloc: Global,
     disk: D,
@@ -88,24 +115,12 @@ pub fn load_image<D: Disk, R: Source, W: Sink>(
         (D.state result.disk) (R.state source)
         (R.state result.source) (W.state sink) (W.state result.sink) }
 {
-    let mut reader = match LineReader::new(alloc, source) {
+    let reader = match LineReader::new(alloc, source) {
         Ok(reader) => reader,
         Err((_, source)) => return Outcome::idle(Status::NoMemory, disk, source, sink),
     };
-    let mut store = match Store::attach(alloc, disk) {
-        Ok(store) => store,
-        Err((fault, disk)) => {
-            return Outcome::idle(fault.into(), disk, reader.into_source(), sink);
-        }
-    };
-    let mut sink = sink;
-    let filled = fill_store(alloc, &mut store, &mut reader);
-    let status = print_filled(&mut sink, filled);
-    Outcome {
-        status,
-        done: status.done_of_work(),
-        disk: store.into_disk(),
-        source: reader.into_source(),
-        sink,
+    match Store::attach(alloc, disk) {
+        Ok(store) => load_store(alloc, store, reader, sink),
+        Err((fault, disk)) => Outcome::idle(fault.into(), disk, reader.into_source(), sink),
     }
 }

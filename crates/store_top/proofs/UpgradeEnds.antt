@@ -7,7 +7,6 @@ use Rattle.store_model.specs.declared.version.Version.TheVariants.{One, Two}
 use Rattle.store_model.specs.Parameters.{Parameters, with_version}
 use Rattle.store_model.specs.Trees.{Tree}
 use Rattle.store_model.specs.Images.{Represents}
-use Rattle.store_model.proofs.TreesLemmasLayouts.{images_tell}
 use Rattle.store_base.specs.Counts.{Rose}
 use Rattle.disk_model.specs.DiskState.{DiskState, IsSound}
 use Rattle.disk_model.specs.DiskState as disks
@@ -21,44 +20,28 @@ use Rattle.script_lines.specs.SinkState.{SinkState}
 use Rattle.image_check.specs.declared.fault.ApplyFault.{ApplyFault}
 use Rattle.image_check.specs.declared.fault.ApplyFault.TheVariants as apply
 use Rattle.image_check.specs.declared.fault.AttachFault.{AttachFault}
-use Rattle.image_check.specs.declared.fault.AttachFault.TheVariants as faults
 use Rattle.image_check.specs.Faults.{apply_faults_after}
 use Rattle.image_check.specs.Standing.{IsFitting, Stands}
-use Rattle.store_core.specs.StoreCalls.{IsAttached, IsRefused, KeepsImage, IsOpened, Upgrades, UpgradesImage}
+use Rattle.store_core.specs.StoreCalls.{IsRefused, KeepsImage, IsOpened, Upgrades}
+use Rattle.staged_tree.specs.ImageChanges.{UpgradesImage}
 use Rattle.store_core.specs.StoreState.{StoreState}
-use Rattle.store_core.specs.TableChanges.{slots_upgraded}
-use Rattle.store_core.proofs.CostLemmas.{made_none, made_reading, made_then, made_as, at_most_then, at_most}
-use Rattle.store_core.proofs.DiskLemmas.{keeps_then}
-use Rattle.store_core.proofs.Unchanged.{standing_represents, stands_reading}
+use Rattle.staged_tree.specs.TableChanges.{slots_upgraded}
+use Rattle.staged_tree.proofs.CostLemmas.{made_none, made_reading, made_then, made_as, at_most_then, at_most}
+use Rattle.staged_tree.proofs.Unchanged.{standing_represents, stands_reading}
 use Rattle.image_subcommands.specs.declared.status.Status.TheVariants as statuses
 use Rattle.image_subcommands.specs.Endings.{attach_status, apply_status, status_of}
-use Rattle.image_subcommands.specs.Outside.{Outside, outside_of, KeepsOutside}
-use Rattle.image_subcommands.specs.Statuses.{Subcommand as words, IsStatusOf, IsRefusedImage, done_of_work}
+use Rattle.image_subcommands.specs.Outside.{KeepsOutside}
+use Rattle.image_subcommands.specs.Statuses.{Subcommand as words, IsEndOf, done_of_work}
 use Rattle.image_subcommands.proofs.ReportLemmas.{rose}
+use Rattle.image_work.specs.Works.{IsReady, IsUnopened, WorksOnStore}
+use Rattle.image_work.proofs.OpeningEnds.{never_behind, none_done, memory_left, memory_only, quiet_unopened}
 use Rattle.store_top.specs.UpgradeCall.{writes_behind, syncs_behind, RepresentsEither, KeepsVersion, UpgradesTree}
-use Rattle.store_top.specs.UpgradeCall.{IsUpgrade}
-use Rattle.store_top.proofs.RunEnds.{no_image_by, damaged_by, says_no_image, says_damaged, named_by, memory_left}
-use Rattle.store_top.proofs.RunEnds.{memory_only, quiet_unopened}
+use Rattle.store_top.specs.UpgradeCall.{KeepsUpgrade, UpgradesAt}
 
 -- ---- no store was had
 
-upgrade_so : (fault : AttachFault) → IsStatusOf words.Upgrade (attach_status fault)
-upgrade_so faults.Disk = refl
-upgrade_so faults.NoMemory = refl
-upgrade_so faults.NotImage = refl
-upgrade_so faults.Damaged = refl
-
-none_done : (fault : AttachFault) → 0 ≡ done_of_work (attach_status fault)
-none_done faults.Disk = refl
-none_done faults.NoMemory = refl
-none_done faults.NotImage = refl
-none_done faults.Damaged = refl
-
 not_done : (fault : AttachFault) → attach_status fault ≡ statuses.Done → ⊥
-not_done faults.Disk e = cc
-not_done faults.NoMemory e = cc
-not_done faults.NotImage e = cc
-not_done faults.Damaged e = cc
+not_done fault e = never_behind fault statuses.Done refl e
 
 -- the image represents the tree still
 tree_unopened : (fault : AttachFault) (old new : DiskState) (t : Tree) (p : Parameters) → disks.IsObservable old
@@ -82,55 +65,25 @@ tree_unopened fault old new t p o refused keeps = record {
   complete = λ whole. inr (memory_left fault old new t p refused keeps whole);
 }
 
-module _ {D R W : Type 0} (disk_of : D → DiskState) where
-  -- The call had no store.
-  pub upgrade_unopened : (before : Outside D R W) (fault : AttachFault) (disk : D)
-      → IsRefused (disk_of before.disk) fault (disk_of disk)
-      → IsUpgrade disk_of before (record {
-        status = attach_status fault;
-        done = 0;
-        disk = disk;
-        source = before.source;
-        sink = before.sink;
-      })
-  upgrade_unopened before fault disk refused =
-      let old = disk_of before.disk in
-      let new = disk_of disk in
-      record {
-        ends = upgrade_so fault;
-        done = none_done fault;
-        named = named_by fault old refused.damaged;
-        source = refl;
-        sink = refl;
-        observed = λ o. record {
-          not_image = record {
-            only = λ e. refused.not_image (no_image_by fault e);
-            always = says_no_image fault old new refused o fault refl;
-          };
-          damaged = record {
-            only = λ e. refused.damaged (damaged_by fault e);
-            always = says_damaged fault old new refused o fault refl;
-          };
-          represented = λ e. absurd (not_done fault e);
-          nothing = λ none. refused.unrepresented o none;
-          upgrades = λ t p represents. tree_unopened fault old new t p o refused (refused.represented o t p represents);
-        };
-      }
+-- The call had no store.
+pub upgrade_unopened : {D R W : Type 0} (disk_of : D → DiskState) (given : R × W) (disk : D) (fault : AttachFault)
+    (disk_new : D) → IsRefused (disk_of disk) fault (disk_of disk_new)
+    → IsUnopened disk_of words.Upgrade KeepsUpgrade (UpgradesAt disk_of) given disk fault disk_new
+upgrade_unopened disk_of given disk fault disk_new refused = record {
+  fails = refl;
+  refuses = refl;
+  keeps = record { done = none_done fault; source = refl; sink = refl };
+  does = λ o t p represents keeps. tree_unopened fault (disk_of disk) (disk_of disk_new) t p o refused keeps;
+}
 
 -- ---- a store was upgraded
 
 -- how an upgrade ends that answers so
-ends_so : (result : Result (Unit {0}) ApplyFault) → IsStatusOf words.Upgrade (status_of apply_status result)
+ends_so : (result : Result (Unit {0}) ApplyFault) → IsEndOf words.Upgrade (status_of apply_status result)
 ends_so (Ok value) = refl
 ends_so (Err apply.Disk) = refl
 ends_so (Err apply.NoMemory) = refl
 ends_so (Err apply.Stopped) = refl
-
-image_kept : (result : Result (Unit {0}) ApplyFault) → IsRefusedImage (status_of apply_status result) → ⊥
-image_kept (Ok value) h = false≢true h
-image_kept (Err apply.Disk) h = false≢true h
-image_kept (Err apply.NoMemory) h = false≢true h
-image_kept (Err apply.Stopped) h = false≢true h
 
 when_done : {P : Type 0} (result : Result (Unit {0}) ApplyFault)
     → status_of apply_status result ≡ statuses.Done → OnOk result P → P
@@ -279,81 +232,46 @@ tree_upgraded t p old mid new result fitting opened upgraded ran count =
       complete = done_or_lacks result old.faults new.faults ran count;
     }
 
-module _ {D R W : Type 0} (disk_of : D → DiskState) (sound : (disk : D) → disks.IsObservable (disk_of disk)
-    → IsSound (disk_of disk))
-    (disk : D) (store store_new : StoreState D) (source : R) (sink : W) (result : Result (Unit {0}) ApplyFault)
-    (attached : IsAttached disk_of (disk_of disk) store) (upgrades : Upgrades disk_of store store_new result) where
+module _ {D : Type 0} (disk_of : D → DiskState) (sound : (disk : D) → disks.IsObservable (disk_of disk)
+    → IsSound (disk_of disk)) (store store_new : StoreState D) (result : Result (Unit {0}) ApplyFault)
+    (ready : IsReady disk_of store) (upgrades : Upgrades disk_of store store_new result) where
   -- the store was not stopped
   ran : result ≡ Err apply.Stopped → ⊥
-  ran e = false≢true (sym attached.runs ∙ upgrades.stopped.0 e)
+  ran e = false≢true (sym ready.runs ∙ upgrades.stopped.0 e)
 
-  count : (disk_of store_new.disk).faults ≡ apply_faults_after (disk_of disk).faults result
-  count = upgrades.faults ∙ ap (λ (n : ℕ). apply_faults_after n result) attached.faults
-
-  pub upgrade_outside : (left : SourceState) (written : SinkState)
-      → KeepsOutside (status_of apply_status result) (disk_of disk) (disk_of store_new.disk) left left written written
-  upgrade_outside left written = outside_by result (disk_of disk) (disk_of store_new.disk) left written ran
-      (keeps_then (disk_of disk) (disk_of store.disk) (disk_of store_new.disk) attached.kept upgrades.kept) count
-
-  standing : disks.IsObservable (disk_of disk)
+  standing : disks.IsObservable (disk_of store.disk)
       → UpgradesStanding store.tree store.params (disk_of store.disk) (disk_of store_new.disk) result
   standing o = by store.params.version refl
     where
       by : (version : Version) → store.params.version ≡ version
           → UpgradesStanding store.tree store.params (disk_of store.disk) (disk_of store_new.disk) result
       by One one = standing_one store.tree store.params (disk_of store.disk)
-          (disk_of store_new.disk) store_new.is_stopped result one
-          (upgrades.observed (attached.kept.observable ∙ o) attached.runs one)
+          (disk_of store_new.disk) store_new.is_stopped result one (upgrades.observed o ready.runs one)
       by Two two =
-          let idle = upgrades.idle attached.runs two in
+          let idle = upgrades.idle ready.runs two in
           let there = standing_two store.tree store.params (disk_of store.disk)
-          (sound store.disk (attached.kept.observable ∙ o)) attached.fitting (attached.observed o).stands two in
+          (sound store.disk o) ready.fitting (ready.stands o) two in
           subst (λ (r : Result (Unit {0}) ApplyFault). UpgradesStanding store.tree store.params (disk_of store.disk)
           (disk_of store_new.disk) r) (sym idle.0)
           (subst (λ (s : StoreState D). UpgradesStanding store.tree store.params (disk_of store.disk) (disk_of s.disk)
           (Ok tt)) (sym idle.1) there)
 
-  -- The call upgraded a store.
-  pub upgrade_answered : IsUpgrade disk_of (outside_of disk source sink)
-      (record {
+  -- A store was upgraded.
+  pub upgrade_works : {R W : Type 0} (source_of : R → SourceState) (sink_of : W → SinkState) (given : R × W)
+      → WorksOnStore disk_of source_of sink_of words.Upgrade KeepsUpgrade (UpgradesAt disk_of) given store (record {
         status = status_of apply_status result;
         done = done_of_work (status_of apply_status result);
         disk = store_new.disk;
-        source = source;
-        sink = sink;
+        source = given.0;
+        sink = given.1;
       })
-  upgrade_answered =
-      let old = disk_of disk in
-      let mid = disk_of store.disk in
-      let new = disk_of store_new.disk in
-      let status = status_of apply_status result in
-      record {
-        ends = ends_so result;
-        done = refl;
-        named = λ h. (store.params, attached.has_parameters);
-        source = refl;
-        sink = refl;
-        observed = λ o. record {
-          not_image = record {
-            only = λ e. absurd (image_kept result (subst IsRefusedImage (sym e) refl));
-            always = λ none. absurd (none o store.params (attached.has_parameters.named o));
-          };
-          damaged = record {
-            only = λ e. absurd (image_kept result (subst IsRefusedImage (sym e) refl));
-            always = λ damaged. absurd (damaged.no_tree o store.tree store.params (attached.observed o).represents);
-          };
-          represented = λ e. record {
-            tree = store.tree;
-            params = store.params;
-            represents = (attached.observed o).represents;
-          };
-          nothing = λ none. absurd (none store.tree store.params (attached.observed o).represents);
-          upgrades = λ t p represents.
-              let opened = attached.observed o in
-              let same = images_tell old.bytes store.tree t store.params p opened.represents represents in
-              let there = tree_upgraded store.tree store.params old mid new result attached.fitting opened
-              (standing o) ran count in
-              subst (λ (q : Parameters). UpgradesTree t q status old new)
-              same.1 (subst (λ (u : Tree). UpgradesTree u store.params status old new) same.0 there);
-        };
-      }
+  upgrade_works source_of sink_of given = record {
+    ends = ends_so result;
+    outside = outside_by result (disk_of store.disk) (disk_of store_new.disk) (source_of given.0) (sink_of given.1)
+        ran upgrades.kept upgrades.faults;
+    keeps = λ disk. record { done = refl; source = refl; sink = refl };
+    does = λ disk attached o.
+        tree_upgraded store.tree store.params (disk_of disk) (disk_of store.disk) (disk_of store_new.disk) result
+        ready.fitting (attached.observed o) (standing (attached.kept.observable ∙ o)) ran
+        (upgrades.faults ∙ ap (λ (n : ℕ). apply_faults_after n result) attached.faults);
+  }

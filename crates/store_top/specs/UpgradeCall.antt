@@ -6,23 +6,21 @@ use Rattle.store_model.specs.Parameters.{Parameters, with_version}
 use Rattle.store_model.specs.Trees.{Tree}
 use Rattle.store_model.specs.Images.{Represents}
 use Rattle.store_base.specs.Counts.{Rose}
-use Rattle.disk_model.specs.DiskState.{DiskState, IsObservable}
+use Rattle.disk_model.specs.DiskState.{DiskState}
 use Rattle.disk_model.specs.DiskCalls.{LeavesOnly}
 use Rattle.gate_journal.specs.Costs.{opening_writes, opening_syncs, upgrade_writes, upgrade_syncs, MadeAtMost}
 use Rattle.gate_journal.specs.Disks.{IsOnlySynced, IsUnwritten}
-use Rattle.gate_journal.specs.Headers.{HasParameters}
 use Rattle.gate_journal.specs.Phases.{HasEmptyJournal}
 use Rattle.gate_journal.specs.Places.{Made}
-use Rattle.image_check.specs.Standing.{Stands, RepresentsSome}
-use Rattle.image_check.specs.Verdicts.{IsNoImage, IsDamaged}
+use Rattle.image_check.specs.Standing.{Stands}
 use Rattle.store_core.specs.StoreCalls.{LeavesImage}
-use Rattle.store_core.specs.TableChanges.{slots_upgraded}
+use Rattle.staged_tree.specs.TableChanges.{slots_upgraded}
 use Rattle.image_subcommands.specs.declared.outcome.Outcome.{Outcome}
 use Rattle.image_subcommands.specs.declared.status.Status.{Status}
 use Rattle.image_subcommands.specs.declared.status.Status.TheVariants as statuses
 use Rattle.image_subcommands.specs.Outside.{Outside}
-use Rattle.image_subcommands.specs.Statuses.{Subcommand as words, IsStatusOf, IsPastHeader, MayComeFirst, ComesExactly}
-use Rattle.image_subcommands.specs.Statuses.{done_of_work}
+use Rattle.image_subcommands.specs.Statuses.{Subcommand as words, done_of_work}
+use Rattle.image_work.specs.Works.{Works}
 
 -- the writes after the opening of an image that was of this version, where so many slots differ between the two
 -- versions
@@ -75,25 +73,16 @@ pub record UpgradesTree (t : Tree) (p : Parameters) (status : Status) (old new :
   -- it is done where no call failed and memory was there
   pub complete : (Rose old.faults new.faults → ⊥) → (status ≡ statuses.Done) ⊎ (status ≡ statuses.NoMemory)
 
--- An upgrade of a disk that tells its bytes.
-pub record UpgradesDisk (status : Status) (old new : DiskState) : Type 0 where
-  -- how it ends
-  pub not_image : ComesExactly statuses.NotImage (IsNoImage old) MayComeFirst status
-  pub damaged : ComesExactly statuses.Damaged (IsDamaged old) MayComeFirst status
-  pub represented : status ≡ statuses.Done → RepresentsSome old
-  -- what stands then, where the image is none or damaged
-  pub nothing : ((t : Tree) (p : Parameters) → Represents old.bytes t p → ⊥) → LeavesImage old new
-  -- and where it represents a tree
-  pub upgrades : (t : Tree) (p : Parameters) → Represents old.bytes t p → UpgradesTree t p status old new
+-- What a call leaves that calls neither the source nor the sink.
+pub record KeepsUpgrade {D R W : Type 0} (before : Outside D R W) (after : Outcome D R W) : Type 0 where
+  pub done : after.done ≡ done_of_work after.status
+  pub source : after.source ≡ before.source
+  pub sink : after.sink ≡ before.sink
 
 module _ {D R W : Type 0} (disk_of : D → DiskState) where
-  pub record IsUpgrade (before : Outside D R W) (after : Outcome D R W) : Type 0 where
-    -- how it ends
-    pub ends : IsStatusOf words.Upgrade after.status
-    pub done : after.done ≡ done_of_work after.status
-    pub named : IsPastHeader after.status → (p : Parameters) × HasParameters (disk_of before.disk) p
-    -- what stands then
-    pub source : after.source ≡ before.source
-    pub sink : after.sink ≡ before.sink
-    pub observed : IsObservable (disk_of before.disk)
-        → UpgradesDisk after.status (disk_of before.disk) (disk_of after.disk)
+  abbrev pub UpgradesAt : Tree → Parameters → Outside D R W → Outcome D R W → Type 0
+  UpgradesAt t p before after = UpgradesTree t p after.status (disk_of before.disk) (disk_of after.disk)
+
+  -- the image is opened, and made one of version 2
+  abbrev pub IsUpgrade : Outside D R W → Outcome D R W → Type 0
+  IsUpgrade before after = Works disk_of words.Upgrade KeepsUpgrade UpgradesAt before after

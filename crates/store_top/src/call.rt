@@ -1,25 +1,13 @@
 //! The whole program as one call.
 
-ghost use Rattle.std.specs.Prelude.{◌≡◌, ◌≢◌, ◌⊎◌, ℕ, Some, None};
-ghost use Rattle.store_model.specs.Parameters.{Parameters};
+ghost use Rattle.std.specs.Prelude.{◌≡◌, ◌≢◌, ◌⊎◌, Some, None};
+ghost use Rattle.store_model.specs.Words as requests;
 ghost use Rattle.store_model.specs.Words.{request_of};
-ghost use Rattle.store_model.specs.Words.Request.{Format, Run, Session, Check, Scrub, Wipe, Upgrade, Dump, Load, Big};
-ghost use Rattle.store_top.specs.BigCall.{IsBig};
-ghost use Rattle.image_subcommands.specs.CheckCall.{IsCheck};
-ghost use Rattle.image_subcommands.specs.FormatCall.{IsFormat};
+ghost use Rattle.store_model.specs.Words.Request.{Check, Scrub};
 ghost use Rattle.image_subcommands.specs.Outside.{KeepsOutside, CallsNothing, outside_of};
-ghost use Rattle.store_top.specs.RunCall.{IsRun};
-ghost use Rattle.image_subcommands.specs.ScrubCall.{IsScrub};
-ghost use Rattle.store_top.specs.SessionCall.{IsSession};
-ghost use Rattle.store_top.specs.UpgradeCall.{IsUpgrade};
-ghost use Rattle.image_subcommands.specs.WipeCall.{IsWipe};
-ghost use Rattle.listing_subcommands.specs.DumpCall.{IsDump};
-ghost use Rattle.listing_subcommands.specs.LoadCall.{IsLoad};
 ghost use Rattle.command_line.specs.Requests.{request_seen};
+ghost use Rattle.store_top.specs.Performing.{Performs};
 
-use crate::big::big;
-use crate::run::run;
-use crate::session::session;
 use crate::uncalled::{no_memory, usage};
 use crate::upgrade::upgrade;
 use command_line::{Request, Words};
@@ -27,6 +15,7 @@ use disk_model::Disk;
 use image_subcommands::{Outcome, Status, check_disk, format_disk, scrub_disk, wipe_disk};
 use listing_subcommands::{dump_image, load_image};
 use script_lines::{Sink, Source};
+use script_runs::{big_image, run_image, session_image};
 use std::alloc::Global;
 use store_base::NoMemory;
 
@@ -60,27 +49,9 @@ pub fn top<D: Disk, R: Source, W: Sink>(
         (D.state result.disk) (R.state source)
         (R.state result.source) (W.state sink) (W.state result.sink) }
 
-    // What each subcommand does.
-    ensures format { (p : Parameters) → request_of words.now ≡ Some (Format p)
-        → IsFormat D.state p (outside_of disk source sink) result }
-    ensures run { request_of words.now ≡ Some Run
-        → IsRun D.state R.state W.state (outside_of disk source sink) result }
-    ensures session { request_of words.now ≡ Some Session
-        → IsSession D.state R.state W.state (outside_of disk source sink) result }
-    ensures check { request_of words.now ≡ Some Check
-        → IsCheck D.state W.state (outside_of disk source sink) result }
-    ensures scrub { request_of words.now ≡ Some Scrub
-        → IsScrub D.state W.state (outside_of disk source sink) result }
-    ensures wipe { request_of words.now ≡ Some Wipe
-        → IsWipe D.state (outside_of disk source sink) result }
-    ensures upgrade { request_of words.now ≡ Some Upgrade
-        → IsUpgrade D.state (outside_of disk source sink) result }
-    ensures dump { request_of words.now ≡ Some Dump
-        → IsDump D.state W.state (outside_of disk source sink) result }
-    ensures load { request_of words.now ≡ Some Load
-        → IsLoad D.state R.state W.state (outside_of disk source sink) result }
-    ensures big { (number count : ℕ) → request_of words.now ≡ Some (Big number count)
-        → IsBig D.state W.state number count (outside_of disk source sink) result }
+    // What is asked for.
+    ensures performs { (request : requests.Request) → request_of words.now ≡ Some request
+        → Performs D.state R.state W.state request (outside_of disk source sink) result }
 {
     match words.request() {
         Ok(Some(request)) => serve_request(alloc, request, disk, source, sink),
@@ -103,37 +74,19 @@ fn serve_request<D: Disk, R: Source, W: Sink>(
     ensures outside { KeepsOutside result.status (D.state disk)
         (D.state result.disk) (R.state source)
         (R.state result.source) (W.state sink) (W.state result.sink) }
-    ensures format { (p : Parameters) → request_seen request ≡ Format p
-        → IsFormat D.state p (outside_of disk source sink) result }
-    ensures run { request_seen request ≡ Run
-        → IsRun D.state R.state W.state (outside_of disk source sink) result }
-    ensures session { request_seen request ≡ Session
-        → IsSession D.state R.state W.state (outside_of disk source sink) result }
-    ensures check { request_seen request ≡ Check
-        → IsCheck D.state W.state (outside_of disk source sink) result }
-    ensures scrub { request_seen request ≡ Scrub
-        → IsScrub D.state W.state (outside_of disk source sink) result }
-    ensures wipe { request_seen request ≡ Wipe
-        → IsWipe D.state (outside_of disk source sink) result }
-    ensures upgrade { request_seen request ≡ Upgrade
-        → IsUpgrade D.state (outside_of disk source sink) result }
-    ensures dump { request_seen request ≡ Dump
-        → IsDump D.state W.state (outside_of disk source sink) result }
-    ensures load { request_seen request ≡ Load
-        → IsLoad D.state R.state W.state (outside_of disk source sink) result }
-    ensures big { (number count : ℕ) → request_seen request ≡ Big number count
-        → IsBig D.state W.state number count (outside_of disk source sink) result }
+    ensures performs { Performs D.state R.state W.state (request_seen request)
+        (outside_of disk source sink) result }
 {
     match request {
         Request::Format(params) => format_disk(&params, disk, source, sink),
-        Request::Run => run(alloc, disk, source, sink),
-        Request::Session => session(alloc, disk, source, sink),
+        Request::Run => run_image(alloc, disk, source, sink),
+        Request::Session => session_image(alloc, disk, source, sink),
         Request::Check => check_disk(disk, source, sink),
         Request::Scrub => scrub_disk(disk, source, sink),
         Request::Wipe => wipe_disk(disk, source, sink),
         Request::Upgrade => upgrade(alloc, disk, source, sink),
         Request::Dump => dump_image(alloc, disk, source, sink),
         Request::Load => load_image(alloc, disk, source, sink),
-        Request::Big(number, count) => big(alloc, number, count, disk, source, sink),
+        Request::Big(number, count) => big_image(alloc, number, count, disk, source, sink),
     }
 }

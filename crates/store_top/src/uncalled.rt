@@ -1,18 +1,9 @@
 //! Calls that end before anything is called.
 
-ghost use Rattle.std.specs.Prelude.{◌≡◌, ℕ};
-ghost use Rattle.store_model.specs.Parameters.{Parameters};
-ghost use Rattle.store_top.specs.BigCall.{IsBig};
-ghost use Rattle.image_subcommands.specs.CheckCall.{IsCheck};
-ghost use Rattle.image_subcommands.specs.FormatCall.{IsFormat};
+ghost use Rattle.std.specs.Prelude.{◌≡◌};
+ghost use Rattle.store_model.specs.Words.{Request};
 ghost use Rattle.image_subcommands.specs.Outside.{KeepsOutside, CallsNothing, outside_of};
-ghost use Rattle.store_top.specs.RunCall.{IsRun};
-ghost use Rattle.image_subcommands.specs.ScrubCall.{IsScrub};
-ghost use Rattle.store_top.specs.SessionCall.{IsSession};
-ghost use Rattle.store_top.specs.UpgradeCall.{IsUpgrade};
-ghost use Rattle.image_subcommands.specs.WipeCall.{IsWipe};
-ghost use Rattle.listing_subcommands.specs.DumpCall.{IsDump};
-ghost use Rattle.listing_subcommands.specs.LoadCall.{IsLoad};
+ghost use Rattle.store_top.specs.Performing.{Performs};
 
 use disk_model::Disk;
 use image_subcommands::{Outcome, Status};
@@ -40,17 +31,8 @@ pub(crate) fn no_memory<D: Disk, R: Source, W: Sink>(
     ensures outside { KeepsOutside result.status (D.state disk)
         (D.state result.disk) (R.state source)
         (R.state result.source) (W.state sink) (W.state result.sink) }
-    ensures format { (p : Parameters) → IsFormat D.state p (outside_of disk source sink) result }
-    ensures run { IsRun D.state R.state W.state (outside_of disk source sink) result }
-    ensures session { IsSession D.state R.state W.state (outside_of disk source sink) result }
-    ensures check { IsCheck D.state W.state (outside_of disk source sink) result }
-    ensures scrub { IsScrub D.state W.state (outside_of disk source sink) result }
-    ensures wipe { IsWipe D.state (outside_of disk source sink) result }
-    ensures upgrade { IsUpgrade D.state (outside_of disk source sink) result }
-    ensures dump { IsDump D.state W.state (outside_of disk source sink) result }
-    ensures load { IsLoad D.state R.state W.state (outside_of disk source sink) result }
-    ensures big { (number count : ℕ)
-        → IsBig D.state W.state number count (outside_of disk source sink) result }
+    ensures performs { (request : Request)
+        → Performs D.state R.state W.state request (outside_of disk source sink) result }
 {
     Outcome::idle(Status::NoMemory, disk, source, sink)
 }

@@ -4,7 +4,9 @@ ghost use Rattle.std.specs.Prelude.{◌≡◌};
 ghost use Rattle.image_subcommands.specs.Endings as endings;
 ghost use Rattle.image_subcommands.specs.Endings.{apply_status};
 ghost use Rattle.image_subcommands.specs.Outside.{KeepsOutside, outside_of};
-ghost use Rattle.store_top.specs.UpgradeCall.{IsUpgrade};
+ghost use Rattle.image_subcommands.specs.Statuses.{Subcommand as words};
+ghost use Rattle.image_work.specs.Works.{IsReady, WorksOnStore};
+ghost use Rattle.store_top.specs.UpgradeCall.{KeepsUpgrade, UpgradesAt, IsUpgrade};
 
 use disk_model::Disk;
 use image_subcommands::{Outcome, Status};
@@ -22,6 +24,27 @@ fn upgrade_status(upgraded: Result<(), ApplyFault>) -> Status
     }
 }
 
+/// Makes the image of a store one of version 2.
+fn upgrade_store<D: Disk, R: Source, W: Sink>(
+    store: Store<D>,
+    source: R,
+    sink: W,
+) -> Outcome<D, R, W>
+    requires ready { IsReady D.state store }
+    ensures { WorksOnStore D.state R.state W.state words.Upgrade KeepsUpgrade
+        (UpgradesAt D.state) (source, sink) store result }
+{
+    let mut store = store;
+    let status = upgrade_status(store.upgrade());
+    Outcome {
+        status,
+        done: status.done_of_work(),
+        disk: store.into_disk(),
+        source,
+        sink,
+    }
+}
+
 /// Makes the image one of version 2 that holds the same tree. It takes no memory but the store's.
 pub fn upgrade<D: Disk, R: Source, W: Sink>(
     alloc: Global,
@@ -34,16 +57,8 @@ pub fn upgrade<D: Disk, R: Source, W: Sink>(
         (D.state result.disk) (R.state source)
         (R.state result.source) (W.state sink) (W.state result.sink) }
 {
-    let mut store = match Store::attach(alloc, disk) {
-        Ok(store) => store,
-        Err((fault, disk)) => return Outcome::idle(fault.into(), disk, source, sink),
-    };
-    let status = upgrade_status(store.upgrade());
-    Outcome {
-        status,
-        done: status.done_of_work(),
-        disk: store.into_disk(),
-        source,
-        sink,
+    match Store::attach(alloc, disk) {
+        Ok(store) => upgrade_store(store, source, sink),
+        Err((fault, disk)) => Outcome::idle(fault.into(), disk, source, sink),
     }
 }

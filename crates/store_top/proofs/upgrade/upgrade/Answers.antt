@@ -1,36 +1,44 @@
-use Rattle.std.proofs.Common.{sym, subst}
-use Rattle.image_subcommands.specs.declared.status.Status.{Status}
-use Rattle.image_subcommands.specs.Outside.{outside_of}
-use Rattle.store_top.specs.UpgradeCall.{IsUpgrade}
-use Rattle.store_top.proofs.UpgradeEnds.{upgrade_unopened, upgrade_answered, upgrade_outside}
+use Rattle.image_subcommands.specs.Statuses.{Subcommand as words}
+use Rattle.image_work.proofs.OpeningEnds.{attached_is_ready}
+use Rattle.image_work.proofs.WorkEnds.{outside_unopened, works_unopened, outside_worked, works_opened}
+use Rattle.store_top.specs.UpgradeCall.{KeepsUpgrade, UpgradesAt}
+use Rattle.store_top.proofs.UpgradeEnds.{upgrade_unopened}
 use Rattle.store_top.proofs.upgrade.upgrade.Goals as goal
+
+pub upgrade_store-requires : goal.upgrade_store-requires
+upgrade_store-requires g c = record {
+  ready = attached_is_ready g.D.Disk.state (g.D.Disk.state c.args.disk) c.in-Ok.store
+      c.in-Ok.ensures.call.attached;
+}
+
+pub returns-in-Ok-clause-upgrade : goal.returns-in-Ok-clause-upgrade
+returns-in-Ok-clause-upgrade g c =
+    let disk_of = g.D.Disk.state in
+    works_opened disk_of words.Upgrade KeepsUpgrade
+    (UpgradesAt disk_of) (c.args.source, c.args.sink) c.args.disk g.R.Source.state
+    g.W.Sink.state c.in-Ok.store c.upgrade_store.result c.in-Ok.ensures.call.attached c.upgrade_store.ensures
+
+pub returns-in-Ok-clause-outside : goal.returns-in-Ok-clause-outside
+returns-in-Ok-clause-outside g c =
+    let disk_of = g.D.Disk.state in
+    outside_worked disk_of words.Upgrade KeepsUpgrade
+    (UpgradesAt disk_of) (c.args.source, c.args.sink) c.args.disk g.R.Source.state
+    g.W.Sink.state c.in-Ok.store c.upgrade_store.result c.in-Ok.ensures.call.attached c.upgrade_store.ensures
 
 pub returns-in-Err-clause-upgrade : goal.returns-in-Err-clause-upgrade
 returns-in-Err-clause-upgrade g c =
-    let before = outside_of c.args.disk c.args.source c.args.sink in
-    subst (λ after. IsUpgrade g.D.Disk.state before after) (sym c.idle.ensures)
-    (subst (λ (status : Status). IsUpgrade g.D.Disk.state before (record {
-      status = status;
-      done = 0;
-      disk = c.in-Err.disk;
-      source = c.args.source;
-      sink = c.args.sink;
-    }))
-    (sym c.into.ensures)
-    (upgrade_unopened g.D.Disk.state before c.in-Err.fault c.in-Err.disk c.in-Err.ensures.call.refused))
+    let disk_of = g.D.Disk.state in
+    rw (c.idle.ensures, c.into.ensures)
+    (works_unopened disk_of words.Upgrade KeepsUpgrade
+    (UpgradesAt disk_of) (c.args.source, c.args.sink) c.args.disk c.in-Err.fault
+    c.in-Err.disk c.in-Err.ensures.call.refused
+    (upgrade_unopened disk_of (c.args.source, c.args.sink) c.args.disk c.in-Err.fault c.in-Err.disk
+    c.in-Err.ensures.call.refused))
 
-pub returns-clause-upgrade : goal.returns-clause-upgrade
-returns-clause-upgrade g c =
-    let st = g.D.Disk.state in
-    let before = outside_of c.args.disk c.args.source c.args.sink in
-    rw (c.done_of_work.ensures, c.upgrade_status-status.ensures, c.into_disk.ensures)
-    (upgrade_answered st g.met.D.Disk.sound c.args.disk c.in-Ok.store c.upgrade.new.self c.args.source c.args.sink
-    c.upgrade.result c.in-Ok.ensures.call.attached c.upgrade.ensures.call)
-
-pub returns-clause-outside : goal.returns-clause-outside
-returns-clause-outside g c =
-    let st = g.D.Disk.state in
-    rw (c.upgrade_status-status.ensures, c.into_disk.ensures)
-    (upgrade_outside st g.met.D.Disk.sound c.args.disk c.in-Ok.store c.upgrade.new.self c.args.source c.args.sink
-    c.upgrade.result c.in-Ok.ensures.call.attached c.upgrade.ensures.call
-    (g.R.Source.state c.args.source) (g.W.Sink.state c.args.sink))
+pub returns-in-Err-clause-outside : goal.returns-in-Err-clause-outside
+returns-in-Err-clause-outside g c =
+    let disk_of = g.D.Disk.state in
+    rw (c.idle.ensures, c.into.ensures)
+    (outside_unopened c.in-Err.fault (disk_of c.args.disk) (disk_of c.in-Err.disk)
+    (g.R.Source.state c.args.source) (g.W.Sink.state c.args.sink)
+    c.in-Err.ensures.call.refused)

@@ -1,0 +1,2 @@
+pub mod OpeningEnds
+pub mod WorkEnds

@@ -1,0 +1,83 @@
+use Rattle.std.proofs.Common.{ap, subst}
+use Rattle.script_lines.specs.LineState.{LineState}
+use Rattle.image_check.specs.declared.fault.AttachFault.TheVariants as faults
+use Rattle.image_subcommands.specs.Outside.{KeepsOutside, outside_of}
+use Rattle.image_subcommands.specs.Statuses.{Subcommand as words}
+use Rattle.image_work.proofs.OpeningEnds.{nothing_opened, new_reader_is_unread, attached_is_ready}
+use Rattle.image_work.proofs.WorkEnds.{outside_unopened, works_unopened, outside_worked, works_opened}
+use Rattle.script_runs.specs.RunCall.{IsRun}
+use Rattle.script_runs.specs.Runs.{run_texts, run_trees}
+use Rattle.script_runs.specs.ScriptCall.{KeepsScript, AnswersAt}
+use Rattle.script_runs.proofs.RunEnds.{script_unopened}
+use Rattle.script_runs.proofs.ScriptWords.{run_each}
+use Rattle.script_runs.proofs.run.run_image.Goals as goal
+
+pub run_store-requires-clause-ready : goal.run_store-requires-clause-ready
+run_store-requires-clause-ready g c =
+    attached_is_ready g.D.Disk.state (g.D.Disk.state c.args.disk) c.in-Ok-attach.store
+    c.in-Ok-attach.ensures.call.attached
+
+pub run_store-requires-clause-unread : goal.run_store-requires-clause-unread
+run_store-requires-clause-unread g c = new_reader_is_unread c.in-Ok.reader c.args.source c.in-Ok.ensures.ok
+
+pub returns-in-Err-clause-run : goal.returns-in-Err-clause-run
+returns-in-Err-clause-run g c =
+    let disk_of = g.D.Disk.state in
+    let nothing = nothing_opened (disk_of c.args.disk) (g.met.D.Disk.sound c.args.disk) in
+    rw (c.idle.ensures, c.in-Err.ensures.err)
+    (works_unopened disk_of words.Run (KeepsScript g.R.Source.state)
+    (AnswersAt run_texts run_trees disk_of g.R.Source.state g.W.Sink.state) (c.args.source, c.args.sink)
+    c.args.disk faults.NoMemory c.args.disk nothing
+    (script_unopened words.Run run_texts run_trees run_each disk_of g.R.Source.state g.W.Sink.state
+    g.met.D.Disk.sound (c.args.source, c.args.sink) c.args.disk faults.NoMemory c.args.disk nothing))
+
+pub returns-in-Ok-attach-clause-run : goal.returns-in-Ok-attach-clause-run
+returns-in-Ok-attach-clause-run g c =
+    let disk_of = g.D.Disk.state in
+    subst (λ source. IsRun g.D.Disk.state g.R.Source.state g.W.Sink.state
+    (outside_of c.args.disk source c.args.sink) c.run_store.result)
+    (ap (λ (r : LineState g.row.R.Denot). r.source) c.in-Ok.ensures.ok)
+    (works_opened disk_of words.Run (KeepsScript g.R.Source.state)
+    (AnswersAt run_texts run_trees disk_of g.R.Source.state g.W.Sink.state) (c.in-Ok.reader.source, c.args.sink)
+    c.args.disk g.R.Source.state
+    g.W.Sink.state c.in-Ok-attach.store c.run_store.result c.in-Ok-attach.ensures.call.attached c.run_store.ensures)
+
+pub returns-in-Ok-attach-clause-outside : goal.returns-in-Ok-attach-clause-outside
+returns-in-Ok-attach-clause-outside g c =
+    let disk_of = g.D.Disk.state in
+    subst (λ source. KeepsOutside c.run_store.result.status (g.D.Disk.state c.args.disk)
+    (g.D.Disk.state c.run_store.result.disk) (g.R.Source.state source) (g.R.Source.state c.run_store.result.source)
+    (g.W.Sink.state c.args.sink) (g.W.Sink.state c.run_store.result.sink))
+    (ap (λ (r : LineState g.row.R.Denot). r.source) c.in-Ok.ensures.ok)
+    (outside_worked disk_of words.Run (KeepsScript g.R.Source.state)
+    (AnswersAt run_texts run_trees disk_of g.R.Source.state g.W.Sink.state) (c.in-Ok.reader.source, c.args.sink)
+    c.args.disk g.R.Source.state
+    g.W.Sink.state c.in-Ok-attach.store c.run_store.result c.in-Ok-attach.ensures.call.attached c.run_store.ensures)
+
+pub returns-in-Err-attach-clause-run : goal.returns-in-Err-attach-clause-run
+returns-in-Err-attach-clause-run g c =
+    let disk_of = g.D.Disk.state in
+    subst (λ source. IsRun g.D.Disk.state g.R.Source.state g.W.Sink.state
+    (outside_of c.args.disk source c.args.sink) c.idle-in-Err-attach.result)
+    (ap (λ (r : LineState g.row.R.Denot). r.source) c.in-Ok.ensures.ok)
+    (rw (c.idle-in-Err-attach.ensures, c.into.ensures, c.into_source.ensures)
+    (works_unopened disk_of words.Run (KeepsScript g.R.Source.state)
+    (AnswersAt run_texts run_trees disk_of g.R.Source.state g.W.Sink.state) (c.in-Ok.reader.source, c.args.sink)
+    c.args.disk c.in-Err-attach.fault
+    c.in-Err-attach.disk c.in-Err-attach.ensures.call.refused
+    (script_unopened words.Run run_texts run_trees run_each disk_of g.R.Source.state g.W.Sink.state
+    g.met.D.Disk.sound (c.in-Ok.reader.source, c.args.sink) c.args.disk c.in-Err-attach.fault c.in-Err-attach.disk
+    c.in-Err-attach.ensures.call.refused)))
+
+pub returns-in-Err-attach-clause-outside : goal.returns-in-Err-attach-clause-outside
+returns-in-Err-attach-clause-outside g c =
+    let disk_of = g.D.Disk.state in
+    subst (λ source. KeepsOutside c.idle-in-Err-attach.result.status (g.D.Disk.state c.args.disk)
+    (g.D.Disk.state c.idle-in-Err-attach.result.disk) (g.R.Source.state source)
+    (g.R.Source.state c.idle-in-Err-attach.result.source)
+    (g.W.Sink.state c.args.sink) (g.W.Sink.state c.idle-in-Err-attach.result.sink))
+    (ap (λ (r : LineState g.row.R.Denot). r.source) c.in-Ok.ensures.ok)
+    (rw (c.idle-in-Err-attach.ensures, c.into.ensures, c.into_source.ensures)
+    (outside_unopened c.in-Err-attach.fault (disk_of c.args.disk) (disk_of c.in-Err-attach.disk)
+    (g.R.Source.state c.in-Ok.reader.source) (g.W.Sink.state c.args.sink)
+    c.in-Err-attach.ensures.call.refused))
