@@ -1,90 +1,49 @@
 -- How many writes and syncs a call makes.
-use Rattle.std.proofs.Common.{◌≡◌, ◌≢◌, ◌+◌, ◌/◌, ◌<◌, ◌==◌, ◌&&◌, ℕ, true, false, not, List, [], ◌∷◌, slice_index, sym}
-use Rattle.std.proofs.Common.{ap, subst, ◌∙◌, inl, inr, ⊎_elim, arith}
+use Rattle.std.proofs.Common.{◌≡◌, ◌+◌, ◌==◌, ◌&&◌, ℕ, true, false, not, List, [], ◌∷◌, slice_index, refl, sym, ap}
+use Rattle.std.proofs.Common.{subst, ◌∙◌, inl, inr, ⊎_elim, arith}
 use Rattle.std.proofs.lemmas.Bool.{cases_eq, ne_eqb}
 use Rattle.std.specs.Cmp.Lexicographic.{bytes_decides}
 use Rattle.store_model.specs.Lists.{same_bytes, zeros}
-use Rattle.store_model.specs.Parameters.{Parameters, image_len, table_at, block_len}
+use Rattle.store_model.specs.Parameters.{Parameters, table_at}
 use Rattle.store_model.specs.Trees.{Tree}
-use Rattle.store_model.specs.Images.{first_byte, layout, bytes_at, recovered_slot, scrubbed_slot, scrubbed_block}
+use Rattle.store_model.specs.Images.{layout, bytes_at, recovered_slot, scrubbed_slot, scrubbed_block}
 use Rattle.store_model.proofs.ImagesLemmas.{recovered-layout, length-layout}
 use Rattle.store_model.proofs.ImagesLemmasScrubbed.{scrubbed-layout, slot_of_recovered, slot_of_scrubbed}
-use Rattle.disk_model.specs.DiskState.{DiskState, IsObservable}
+use Rattle.disk_model.specs.DiskState.{DiskState}
 use Rattle.gate_journal.specs.Costs.{opening_writes, opening_syncs, MadeAtMost}
 use Rattle.gate_journal.specs.Places.{Made}
-use Rattle.gate_journal.specs.Wipes.{block_count}
 use Rattle.gate_journal.proofs.Layouts.{layout-has-empty-journal}
 use Rattle.gate_journal.proofs.Openings.{opening_of_empty}
 use Rattle.scrub_free.specs.FreeSlots.{scrub_writes, is_unclean, StandClean}
+use Rattle.scrub_free.specs.Scrubbing.{writes_to_scrub}
 use Rattle.scrub_free.specs.ScrubCalls.{ScrubsTo}
 use Rattle.scrub_free.proofs.Blocks.{free_block}
 use Rattle.scrub_free.proofs.Counting.{scrub_writes-clean}
-use Rattle.script_lines.specs.SinkState.{SinkState}
-use Rattle.image_subcommands.specs.declared.outcome.Outcome.{Outcome}
+use Rattle.script_lines.specs.Memory.{sink_state}
 use Rattle.image_subcommands.specs.declared.status.Status.{Status}
 use Rattle.image_subcommands.specs.declared.status.Status.TheVariants.{Done, SinkFault}
-use Rattle.image_subcommands.specs.CheckCall.{IsCheck}
-use Rattle.image_subcommands.specs.FormatCall.{IsFormat}
-use Rattle.image_subcommands.specs.Outside.{Outside}
 use Rattle.image_subcommands.specs.ScrubCall.{IsScrub}
-use Rattle.image_subcommands.specs.WipeCall.{IsWipe}
-use Rattle.image_claims.specs.Endings.{IsOneOf}
-use Rattle.image_claims.specs.Costs.{MakesJust, MakesAtMost, Costs, CostsOfFormat, CostsOfWipe, CostsNothing}
-use Rattle.image_claims.specs.Costs.{CostsOfScrub}
+use Rattle.script_claims.specs.declared.machines.Machine.{Machine}
+use Rattle.script_claims.specs.Machines.{Ended, bytes_of, meaning}
+use Rattle.image_claims.specs.Endings.{given}
+use Rattle.image_claims.specs.Costs.{Costs, CostsOfScrub}
 use Rattle.image_claims.proofs.EndingLemmas.{is_judged}
 
 -- ---- counts
 
-pub just : (writes syncs : ℕ) (old new : DiskState) → Made writes syncs old new → MakesJust writes syncs old new
-just writes syncs old new made = record {
-  writes_are = λ low. let is = made.write_count in omega arith;
-  syncs_are = λ low. let is = made.sync_count in omega arith;
-}
+-- what was made where the work is done, and no more
+pub costs_done : {writes syncs : ℕ} {status : Status} {old new : DiskState}
+    → (status ≡ Done → Made writes syncs old new) → MadeAtMost writes syncs old new
+    → Costs writes syncs (Done ∷ []) status old new
+costs_done made limit = record { just = λ so. made (⊎_elim (λ e. e) (λ none. absurd none) so); limit = limit }
 
-pub at_most : (writes syncs : ℕ) (old new : DiskState) → MadeAtMost writes syncs old new
-    → MakesAtMost writes syncs old new
-at_most writes syncs old new made = record {
-  write_limit = λ low. let is = made.write_limit in omega arith;
-  sync_limit = λ low. let is = made.sync_limit in omega arith;
-}
-
--- with one status
-pub with_one : (expected status : Status) → IsOneOf status (expected ∷ []) → status ≡ expected
-with_one expected status is = ⊎_elim (λ e. e) (λ none. absurd none) is
-
--- ---- making, wiping and checking
-
-pub format_costs : {D R W : Type 0} (disk_of : D → DiskState) (p : Parameters) (before : Outside D R W)
-    (after : Outcome D R W) → IsFormat disk_of p before after → IsObservable (disk_of before.disk)
-    → (disk_of before.disk).size ≡ image_len p.slots → slice_index (disk_of before.disk).bytes 0 ≢ first_byte
-    → CostsOfFormat p after.status (disk_of before.disk) (disk_of after.disk)
-format_costs disk_of p before after is told size other =
-    let counts = ((is.observed told).blank (record { size_is = size; other_byte = other })).counts in
-    record {
-      just = λ so. just (image_len p.slots / block_len + 1) 2 (disk_of before.disk) (disk_of after.disk)
-          (counts.done (with_one Done after.status so));
-      limit = at_most (image_len p.slots / block_len + 1) 2 (disk_of before.disk) (disk_of after.disk) counts.limit;
-    }
-
-pub wipe_costs : {D R W : Type 0} (disk_of : D → DiskState) (before : Outside D R W) (after : Outcome D R W)
-    → IsWipe disk_of before after → IsObservable (disk_of before.disk) → 0 < (disk_of before.disk).size
-    → CostsOfWipe after.status (disk_of before.disk) (disk_of after.disk)
-wipe_costs disk_of before after is told some =
-    let counts = (is.wipes told).counts some in
-    let writes = 1 + block_count (disk_of before.disk).size in
-    record {
-      just = λ so. just writes 2 (disk_of before.disk) (disk_of after.disk)
-          (counts.done (with_one Done after.status so));
-      limit = at_most writes 2 (disk_of before.disk) (disk_of after.disk) counts.limit;
-    }
-
-pub check_costs : {D R W : Type 0} (disk_of : D → DiskState) (sink_of : W → SinkState) (before : Outside D R W)
-    (after : Outcome D R W) → IsCheck disk_of sink_of before after → IsObservable (disk_of before.disk)
-    → CostsNothing (disk_of before.disk) (disk_of after.disk)
-check_costs disk_of sink_of before after is told = record {
-  writes = (is.observed told).reads.write_count;
-  syncs = (is.observed told).reads.sync_count;
-}
+-- equal counts
+pub costs_so : {writes writes_so syncs syncs_so : ℕ} {statuses : List Status} {status : Status} {old new : DiskState}
+    → writes ≡ writes_so → syncs ≡ syncs_so → Costs writes syncs statuses status old new
+    → Costs writes_so syncs_so statuses status old new
+costs_so {writes} {writes_so} {syncs} {syncs_so} {statuses} {status} {old} {new} same_writes same_syncs costs =
+    subst (λ (n : ℕ). Costs n syncs_so statuses status old new) same_writes
+    (subst (λ (n : ℕ). Costs writes n statuses status old new) same_syncs costs)
 
 -- ---- scrubbing
 
@@ -111,7 +70,7 @@ module _ (t : Tree) (p : Parameters) (image : List ℕ) (to : ScrubsTo image t p
       ∙ ap (λ (l : List ℕ). bytes_at l (table_at p.slots i) 4096) (recovered-layout t p valid to.tree to.fits) in
       clean_slot (recovered_slot p.slots (layout t p) i) (scrubbed_is ∙ sym recovered_is)
 
-  no_writes : opening_writes p.slots image + scrub_writes (recovered_slot p.slots image) p.slots ≡ 0
+  no_writes : writes_to_scrub p.slots image ≡ 0
   no_writes =
       let empty = layout-has-empty-journal t p to.image_is.names.in_range to.tree to.fits in
       let opening : opening_writes p.slots image ≡ 0 =
@@ -126,31 +85,17 @@ module _ (t : Tree) (p : Parameters) (image : List ℕ) (to : ScrubsTo image t p
       ∙ (opening_of_empty p.slots (layout t p)
       (layout-has-empty-journal t p to.image_is.names.in_range to.tree to.fits)).1
 
-pub scrub_costs : {D R W : Type 0} (disk_of : D → DiskState) (sink_of : W → SinkState) (before : Outside D R W)
-    (after : Outcome D R W) → IsScrub disk_of sink_of before after → IsObservable (disk_of before.disk)
-    → CostsOfScrub after.status (disk_of before.disk) (disk_of after.disk)
-scrub_costs disk_of sink_of before after is told = record {
+pub scrub_costs : (machine : Machine) (after : Ended) → IsScrub meaning sink_state (given machine) after
+    → CostsOfScrub after.status (meaning machine.disk) (meaning after.disk)
+scrub_costs machine after is = record {
   scrub = costs;
-  clean = λ t p to same.
-      subst (λ (writes : ℕ). Costs writes 2 (Done ∷ SinkFault ∷ []) after.status (disk_of before.disk)
-      (disk_of after.disk)) (no_writes t p (disk_of before.disk).bytes to same)
-      (subst (λ (syncs : ℕ). Costs (opening_writes p.slots (disk_of before.disk).bytes
-      + scrub_writes (recovered_slot p.slots (disk_of before.disk).bytes) p.slots) syncs
-      (Done ∷ SinkFault ∷ []) after.status (disk_of before.disk) (disk_of after.disk))
-      (two_syncs t p (disk_of before.disk).bytes to same) (costs t p to));
+  clean = λ t p to same. costs_so (no_writes t p (bytes_of machine.disk) to same)
+      (two_syncs t p (bytes_of machine.disk) to same) (costs t p to);
 }
   where
-    costs : (t : Tree) (p : Parameters) → ScrubsTo (disk_of before.disk).bytes t p
-        → Costs (opening_writes p.slots (disk_of before.disk).bytes
-        + scrub_writes (recovered_slot p.slots (disk_of before.disk).bytes) p.slots)
-        (opening_syncs p.slots (disk_of before.disk).bytes)
-        (Done ∷ SinkFault ∷ []) after.status (disk_of before.disk) (disk_of after.disk)
+    costs : (t : Tree) (p : Parameters) → ScrubsTo (bytes_of machine.disk) t p
+        → Costs (writes_to_scrub p.slots (bytes_of machine.disk)) (opening_syncs p.slots (bytes_of machine.disk))
+        (Done ∷ SinkFault ∷ []) after.status (meaning machine.disk) (meaning after.disk)
     costs t p to =
-        let old = disk_of before.disk in
-        let scrubs = (is.observed told).scrubs t p to in
-        let writes = opening_writes p.slots old.bytes + scrub_writes (recovered_slot p.slots old.bytes) p.slots in
-        record {
-          just = λ so. just writes (opening_syncs p.slots old.bytes) old (disk_of after.disk)
-              (scrubs.made (is_judged after.status so));
-          limit = at_most writes (opening_syncs p.slots old.bytes) old (disk_of after.disk) scrubs.limit;
-        }
+        let scrubs = (is.observed refl).scrubs t p to in
+        record { just = λ so. scrubs.made (is_judged after.status so); limit = scrubs.limit }

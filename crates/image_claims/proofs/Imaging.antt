@@ -1,70 +1,75 @@
--- What making, scrubbing and wiping an image leaves.
-use Rattle.std.proofs.Common.{◌≡◌, ◌≢◌, ℕ, zero, suc, List, [], ◌∷◌, length, slice_index, refl, sym, ap, subst, ◌∙◌}
-use Rattle.std.proofs.Common.{inl, inr, ⊎_elim, arith}
+-- What making, scrubbing and wiping an image leaves, also where it is cut short, and what it costs.
+use Rattle.std.proofs.Common.{◌≡◌, ◌≢◌, ◌<◌, ℕ, zero, suc, List, [], ◌∷◌, length, take, slice_index, refl, sym, ap}
+use Rattle.std.proofs.Common.{subst, ◌∙◌, inl, inr, ⊎_elim, arith}
+use Rattle.std.proofs.lemmas.Bool.{cases_eq}
 use Rattle.store_model.specs.Lists.{zeros}
-use Rattle.store_model.specs.Parameters.{Parameters}
+use Rattle.store_model.specs.Parameters.{Parameters, image_len}
 use Rattle.store_model.specs.Trees.{Tree}
 use Rattle.store_model.specs.Images.{first_byte, Represents, scrubbed}
-use Rattle.store_model.proofs.ImagesLemmasScrubbed.{scrubbed-recovered, scrubbed-layout}
+use Rattle.store_model.proofs.ImagesLemmasScrubbed.{scrubbed-recovered, scrubbed-layout, take-scrubbed}
 use Rattle.store_model.proofs.TreesLemmasLayouts.{layouts_tell}
 use Rattle.store_base.specs.Counts.{Rose}
-use Rattle.disk_model.specs.DiskState.{DiskState, IsObservable, IsSound}
+use Rattle.disk_model.specs.DiskState.{DiskState, IsDurable}
+use Rattle.disk_model.proofs.Images.{SameOutside-empty}
+use Rattle.gate_journal.specs.Wipes.{IsWiping}
 use Rattle.gate_journal.proofs.Formatting.{no_image}
 use Rattle.image_check.specs.declared.verdict.Verdict.TheVariants as verdicts
 use Rattle.image_check.proofs.Images.{one_name}
-use Rattle.scrub_free.specs.ScrubCalls.{ScrubsTo, IsScrubVerdict, IsBeyondScrubbing}
-use Rattle.script_lines.specs.SourceState.{SourceState}
-use Rattle.script_lines.specs.SinkState.{SinkState}
-use Rattle.script_lines.specs.SinkState as sinks
-use Rattle.image_subcommands.specs.declared.outcome.Outcome.{Outcome}
+use Rattle.scrub_free.specs.Scrubbing.{ScrubsAs}
+use Rattle.scrub_free.specs.ScrubCalls.{ScrubsTo, IsScrubVerdict}
+use Rattle.script_lines.specs.Memory.{source_state, sink_state}
 use Rattle.image_subcommands.specs.declared.status.Status.{Status}
 use Rattle.image_subcommands.specs.declared.status.Status.TheVariants.{Done, DiskFault, NoMemory, AlreadyImage}
 use Rattle.image_subcommands.specs.declared.status.Status.TheVariants.{WrongLength}
-use Rattle.image_subcommands.specs.FormatCall.{IsFormat}
-use Rattle.image_subcommands.specs.Outside.{Outside, KeepsOutside}
+use Rattle.image_subcommands.specs.FormatCall.{FormatsBlank, IsFormat}
+use Rattle.image_subcommands.specs.Outside.{outside_of, KeepsOutside}
 use Rattle.image_subcommands.specs.ScrubCall.{IsScrub, ScrubsToSome}
+use Rattle.image_subcommands.specs.Statuses.{Subcommand as words, row, is_among, IsJudged}
 use Rattle.image_subcommands.specs.WipeCall.{IsWipe}
-use Rattle.image_claims.specs.Endings.{IsOneOf}
-use Rattle.image_claims.specs.Checks.{IsBroken, IsSome}
-use Rattle.image_claims.specs.Images.{SparesAllElse, MakesImage, ScrubsExactly, WipesAll, MakesBehindWipe}
-use Rattle.image_claims.proofs.Checking.{TellsTree, judges_exactly}
-use Rattle.image_claims.proofs.CutShort.{scrubs_alike}
-use Rattle.image_claims.proofs.EndingLemmas.{found, format_ends, is_judged, is_refused_disk}
+use Rattle.image_subcommands.proofs.EachStatus.{ends_in}
+use Rattle.script_claims.specs.declared.machines.Machine.{Machine}
+use Rattle.script_claims.specs.Machines.{Disk, Ended, bytes_of, meaning}
+use Rattle.image_claims.specs.Endings.{given}
+use Rattle.image_claims.specs.Checks.{MightLeave}
+use Rattle.image_claims.specs.Costs.{CostsOfFormat, CostsOfWipe}
+use Rattle.image_claims.specs.Images.{MakesImage, MakesAllOrNone, ScrubsExactly, ScrubsAgain, WipesAll, IsGoneOrWhole}
+use Rattle.image_claims.specs.Images.{WipesAllOrNone, MakesBehindWipe}
+use Rattle.image_claims.proofs.Checking.{JudgedBy, judges_exactly}
+use Rattle.image_claims.proofs.Costing.{costs_done}
+use Rattle.image_claims.proofs.EndingLemmas.{has_column, but, is_judged, comes_first, unreported, or_before, exactly}
+use Rattle.image_claims.proofs.EndingLemmas.{done_or_lacks}
 
 -- ---- an image is made
 
-module _ {D R W : Type 0} (disk_of : D → DiskState) (p : Parameters) (before : Outside D R W) (after : Outcome D R W)
-    (is : IsFormat disk_of p before after) where
-  pub format_exact : IsObservable (disk_of before.disk)
-      → MakesImage p after.status (disk_of before.disk) (disk_of after.disk)
-  format_exact told =
-      let seen = is.observed told in
+module _ (p : Parameters) (machine : Machine) (after : Ended) (is : IsFormat meaning p (given machine) after) where
+  pub format_exact : MakesImage p after.status (meaning machine.disk) (meaning after.disk)
+  format_exact =
+      let seen = is.observed refl in
       record {
         fresh = seen.formatted;
-        wrong_length = record {
-          only = is.wrong_length.only;
-          always = λ differs. ⊎_elim inl (λ e. inr (inl e)) (is.wrong_length.always differs);
-        };
-        already_image = record {
-          only = λ e. let begins = seen.already_image.only e in record {
-            size_is = begins.size_is;
-            first_is = begins.first_is;
-          };
-          always = λ has. found AlreadyImage after.status
-              (seen.already_image.always (record { size_is = has.size_is; first_is = has.first_is }));
-        };
+        wrong_length = exactly is.wrong_length (λ differs. differs) (λ differs. differs) inl;
+        already_image = exactly seen.already_image (λ begins. (begins.size_is, begins.first_is))
+            (λ has. record { size_is = has.0; first_is = has.1 }) (comes_first after.status);
         keeps_image = seen.keeps;
-        keeps_refused = λ refused. seen.refused (is_refused_disk after.status refused);
+        keeps_refused = λ so. seen.refused (has_column (λ s. (row s).refuses_disk) (AlreadyImage ∷ WrongLength ∷ [])
+            (refl, (refl, tt)) after.status so);
       }
 
-  pub format_spares : SparesAllElse after.status before.disk after.disk before.source
-      after.source before.sink after.sink
-  format_spares = record { source_is = is.source; sink_is = is.sink; disk_is = is.no_memory }
+  module _ (size : (meaning machine.disk).size ≡ image_len p.slots)
+      (other : slice_index (bytes_of machine.disk) 0 ≢ first_byte) where
+    blank : FormatsBlank after.status p (meaning machine.disk) (meaning after.disk)
+    blank = (is.observed refl).blank (record { size_is = size; other_byte = other })
+
+    pub format_cut_short : MakesAllOrNone p (meaning machine.disk) (meaning after.disk)
+    format_cut_short = record { reads = blank.reads; crash = λ durable. (blank.crash durable).each }
+
+    pub format_costs : CostsOfFormat p after.status (meaning machine.disk) (meaning after.disk)
+    format_costs = costs_done blank.counts.done blank.counts.limit
 
 -- ---- one is scrubbed
 
 -- an image that represents a tree scrubs to its layout
-pub represented_scrubs : (image : List ℕ) (t : Tree) (p : Parameters) → Represents image t p → ScrubsTo image t p
+represented_scrubs : (image : List ℕ) (t : Tree) (p : Parameters) → Represents image t p → ScrubsTo image t p
 represented_scrubs image t p is = record {
   image_is = record { names = is.names; length_is = is.length_is };
   tree = is.tree;
@@ -81,65 +86,90 @@ one_scrubbed image t u p q h g =
     layouts_tell t u p q h.image_is.names.in_range g.image_is.names.in_range h.tree g.tree h.fits g.fits
     (sym h.layout_is ∙ ap (λ (r : Parameters). scrubbed r.slots image) same ∙ g.layout_is)
 
-module _ (disk : DiskState) (told : IsObservable disk) (sound : IsSound disk) where
-  to_some : ScrubsToSome disk → IsSome (ScrubsTo disk.bytes)
-  to_some some = (some.tree, some.params, some.scrubs)
+-- what scrubs to the same as an image scrubs to the same tree's
+scrubs_alike : (old image : List ℕ) (t : Tree) (p : Parameters) → ScrubsTo old t p
+    → ScrubsAs p.slots old image → ScrubsTo image t p
+scrubs_alike old image t p to same =
+    let long : length image ≡ image_len p.slots = same.same_length ∙ to.image_is.length_is in
+    record {
+      image_is = record {
+        names = record {
+          in_range = to.image_is.names.in_range;
+          header_is = sym (take-scrubbed p.slots image long) ∙ ap (take 4096) same.scrubs
+              ∙ take-scrubbed p.slots old to.image_is.length_is ∙ to.image_is.names.header_is;
+        };
+        length_is = long;
+      };
+      tree = to.tree;
+      fits = to.fits;
+      layout_is = same.scrubs ∙ to.layout_is;
+    }
 
-  from_some : IsSome (ScrubsTo disk.bytes) → ScrubsToSome disk
-  from_some some = record { tree = some.0; params = some.1; scrubs = some.2 }
-
-  to_broken : IsBeyondScrubbing disk → IsBroken (ScrubsTo disk.bytes) disk.bytes
-  to_broken is = record { image = (is.params, is.has_parameters.named told); none = is.no_tree told }
-
-  from_broken : IsBroken (ScrubsTo disk.bytes) disk.bytes → IsBeyondScrubbing disk
-  from_broken is = record {
+by_scrub : (disk : Disk)
+    → JudgedBy (ScrubsTo (bytes_of disk)) disk (IsScrubVerdict (meaning disk)) (ScrubsToSome (meaning disk))
+by_scrub disk = record {
+  one = one_scrubbed (bytes_of disk);
+  clean = λ pages dirs files count is.
+      let scrubs = is.scrubs refl in
+      record { tree = scrubs.tree; params = is.params; holds = scrubs.scrubs; verdict_is = scrubs.verdict_is };
+  none = λ is. is;
+  broken = λ is. record { image = (is.params, is.has_parameters.named refl); none = is.no_tree refl };
+  beyond = λ is. record {
     params = is.image.0;
     has_parameters = record {
       in_range = is.image.1.names.in_range;
-      size_is = sym sound.size ∙ is.image.1.length_is;
+      size_is = is.image.1.length_is;
       named = λ observable. is.image.1;
     };
     no_tree = λ observable. is.none;
-  }
+  };
+  some = λ some. (some.tree, some.params, some.scrubs);
+  whole = λ some. record { tree = some.0; params = some.1; scrubs = some.2 };
+}
 
-  clean_verdict : (pages dirs files count : ℕ) → IsScrubVerdict disk (verdicts.Clean pages dirs files count)
-      → TellsTree (ScrubsTo disk.bytes) (verdicts.Clean pages dirs files count)
-  clean_verdict pages dirs files count is = let scrubs = is.scrubs told in record {
-    tree = scrubs.tree;
-    params = is.params;
-    holds = scrubs.scrubs;
-    verdict_is = scrubs.verdict_is;
-  }
+pub scrub_exact : (machine : Machine) (after : Ended) → IsScrub meaning sink_state (given machine) after
+    → ScrubsExactly after.status (meaning machine.disk) (meaning after.disk) (sink_state machine.sink)
+    (sink_state after.sink)
+scrub_exact machine after is =
+    let old = bytes_of machine.disk in
+    let seen = is.observed refl in
+    record {
+      judges = judges_exactly (by_scrub machine.disk) after.status (meaning after.disk) machine.sink after.sink
+          seen.ends is.report is.silent;
+      scrubbed = λ so t p to. (seen.scrubs t p to).scrubbed (is_judged after.status so);
+      still = λ t p to. scrubs_alike old (bytes_of after.disk) t p to (seen.scrubs t p to).reads;
+      tree = λ so t p represents. (seen.scrubs t p (represented_scrubs old t p represents)).scrubbed
+          (is_judged after.status so);
+      untouched = seen.nothing;
+    }
 
-module _ {D R W : Type 0} (disk_of : D → DiskState) (sink_of : W → SinkState) (before : Outside D R W)
-    (after : Outcome D R W) (is : IsScrub disk_of sink_of before after) where
-  pub scrub_exact : IsObservable (disk_of before.disk) → IsSound (disk_of before.disk)
-      → sinks.IsObservable (sink_of before.sink)
-      → ScrubsExactly after.status (disk_of before.disk) (disk_of after.disk) (sink_of before.sink) (sink_of after.sink)
-  scrub_exact told sound sink_told =
-      let old = disk_of before.disk in
-      let seen = is.observed told in
-      record {
-        judges = judges_exactly (ScrubsTo old.bytes) (one_scrubbed old.bytes) old.bytes (IsScrubVerdict old)
-            (clean_verdict old told sound) (λ none. none told) (to_broken old told sound)
-            (ScrubsToSome old) (IsBeyondScrubbing old) after.status old (disk_of after.disk) (sink_of before.sink)
-            (sink_of after.sink) sink_told (to_some old told sound) (from_some old told sound) (λ none. none told)
-            (λ none observable. none)
-            (to_broken old told sound) (from_broken old told sound)
-            seen.ends is.report (λ other. ap sink_of (is.silent other));
-        scrubbed = λ so t p to. (seen.scrubs t p to).scrubbed (is_judged after.status so);
-        still = λ t p to. scrubs_alike old.bytes (disk_of after.disk).bytes t p to (seen.scrubs t p to).reads;
-        tree = λ so t p represents. (seen.scrubs t p (represented_scrubs old.bytes t p represents)).scrubbed
-            (is_judged after.status so);
-        untouched = seen.nothing;
-      }
-
-  pub scrub_takes_nothing : after.source ≡ before.source
-  scrub_takes_nothing = is.source
-
-  -- for want of memory nothing is called
-  pub scrub_unscrubbed : after.status ≡ NoMemory → after.disk ≡ before.disk
-  scrub_unscrubbed = is.no_memory
+-- Three scrubs: one of an image on which nothing was pending, which was perhaps cut short; one of what a crash of it
+-- might have left; and one of the same image as the first, which ended with 0.
+pub scrub_cut_short : (cut : Machine) (cut_after : Ended) (again : Machine) (again_after : Ended) (whole : Machine)
+    (whole_after : Ended) → IsScrub meaning sink_state (given cut) cut_after
+    → IsScrub meaning sink_state (given again) again_after → IsScrub meaning sink_state (given whole) whole_after
+    → IsDurable (meaning cut.disk) → MightLeave (meaning cut.disk) (meaning cut_after.disk) (bytes_of again.disk)
+    → bytes_of whole.disk ≡ bytes_of cut.disk → whole_after.status ≡ Done
+    → ScrubsAgain (bytes_of whole_after.disk) again_after.status (meaning again_after.disk)
+scrub_cut_short cut cut_after again again_after whole whole_after first second third durable left same done =
+    let some = (third.observed refl).ends.clean.only done in
+    let t = some.tree in
+    let p = some.params in
+    let to : ScrubsTo (bytes_of cut.disk) t p = subst (λ (bytes : List ℕ). ScrubsTo bytes t p) same some.scrubs in
+    let scrubs = (first.observed refl).scrubs t p to in
+    let here : ScrubsTo (bytes_of again.disk) t p =
+    ⊎_elim (λ before. subst (λ (bytes : List ℕ). ScrubsTo bytes t p) (sym (durable (bytes_of again.disk) before)) to)
+    (λ alike. scrubs_alike (bytes_of cut.disk) (bytes_of again.disk) t p to alike)
+    (scrubs.crash.each (bytes_of again.disk) left) in
+    let next = (second.observed refl).scrubs t p here in
+    let last = (third.observed refl).scrubs t p some.scrubs in
+    record {
+      ends = or_before ((second.observed refl).ends.clean.always (record { tree = t; params = p; scrubs = here }))
+          (unreported again_after.status);
+      same = λ is. (next.scrubbed (is_judged again_after.status is)).layout_is
+          ∙ sym (last.scrubbed (subst IsJudged (sym done) refl)).layout_is;
+      durable = λ is. (next.scrubbed (is_judged again_after.status is)).durable;
+    }
 
 -- ---- a disk is wiped
 
@@ -150,83 +180,90 @@ first_of_zeros (suc n) = refl
 zeros_are_no_image : (bytes : List ℕ) (n : ℕ) → bytes ≡ zeros n → slice_index bytes 0 ≡ first_byte → ⊥
 zeros_are_no_image bytes n is first = omega (arith, ap (λ (l : List ℕ). slice_index l 0) is, first_of_zeros n, first)
 
-module _ {D R W : Type 0} (disk_of : D → DiskState) (before : Outside D R W) (after : Outcome D R W)
-    (is : IsWipe disk_of before after) where
-  pub wipe_exact : IsObservable (disk_of before.disk) → WipesAll after.status (disk_of before.disk) (disk_of after.disk)
-  wipe_exact told = record {
-    zero = λ e. ((is.wipes told).wiped e).zero;
-    durable = λ e. ((is.wipes told).wiped e).durable;
-    no_image = λ e. no_image (disk_of after.disk).bytes
-        (zeros_are_no_image (disk_of after.disk).bytes (length (disk_of before.disk).bytes)
-        ((is.wipes told).wiped e).zero);
+-- bytes that begin as an image does, with another first byte, are no image
+gone_or_whole : (old image : List ℕ) → slice_index old 0 ≡ first_byte → IsWiping old image → IsGoneOrWhole old image
+gone_or_whole old image first (inl torn) = elim (cases_eq (slice_index image 0) first_byte) [
+  | inl same ↦
+      let all : (i : ℕ) → slice_index image i ≡ slice_index old i = alike same in
+      inr (SameOutside-empty 0 old image (record {
+        same_length = torn.same_length;
+        below = λ i low. all i;
+        above = λ i low. all i;
+      }))
+  | inr other ↦ inl (no_image image other)
+]
+  where
+    alike : slice_index image 0 ≡ first_byte → (i : ℕ) → slice_index image i ≡ slice_index old i
+    alike same zero = same ∙ sym first
+    alike same (suc i) = torn.same (suc i) (inr (omega arith))
+gone_or_whole old image first (inr zeroing) = inl (no_image image (λ e. omega (arith, zeroing.1, e)))
+
+module _ (machine : Machine) (after : Ended) (is : IsWipe meaning (given machine) after) where
+  wiped_zero : after.status ≡ Done → bytes_of after.disk ≡ zeros (length (bytes_of machine.disk))
+  wiped_zero e = ((is.wipes refl).wiped e).zero
+
+  pub no_first_byte : after.status ≡ Done → slice_index (bytes_of after.disk) 0 ≢ first_byte
+  no_first_byte e = zeros_are_no_image (bytes_of after.disk) (length (bytes_of machine.disk)) (wiped_zero e)
+
+  pub wipe_exact : WipesAll after.status (meaning machine.disk) (meaning after.disk)
+  wipe_exact = record {
+    zero = wiped_zero;
+    durable = λ e. ((is.wipes refl).wiped e).durable;
+    no_image = λ e. no_image (bytes_of after.disk) (no_first_byte e);
   }
 
-  pub wipe_spares : SparesAllElse after.status before.disk after.disk before.source after.source before.sink after.sink
-  wipe_spares = record { source_is = is.source; sink_is = is.sink; disk_is = is.no_memory }
+  pub wipe_cut_short : slice_index (bytes_of machine.disk) 0 ≡ first_byte
+      → WipesAllOrNone (meaning machine.disk) (meaning after.disk)
+  wipe_cut_short first = record {
+    reads = gone_or_whole (bytes_of machine.disk) (bytes_of after.disk) first (is.wipes refl).reads;
+    crash = λ durable image left. gone_or_whole (bytes_of machine.disk) image first
+        (((is.wipes refl).crash durable).each image left);
+  }
 
-  -- of a disk of no byte nothing is called
-  pub wipe_of_nothing : (disk_of before.disk).size ≡ 0 → after.disk ≡ before.disk
-  wipe_of_nothing = is.empty
+  pub wipe_costs : 0 < (meaning machine.disk).size
+      → CostsOfWipe after.status (meaning machine.disk) (meaning after.disk)
+  wipe_costs some = let counts = (is.wipes refl).counts some in costs_done counts.done counts.limit
 
 -- ---- an image is made behind a wipe
 
--- a format that was not refused
-not_refused : (status : Status) → IsOneOf status (Done ∷ DiskFault ∷ NoMemory ∷ AlreadyImage ∷ WrongLength ∷ [])
-    → (status ≡ AlreadyImage → ⊥) → (status ≡ WrongLength → ⊥) → IsOneOf status (Done ∷ DiskFault ∷ NoMemory ∷ [])
-not_refused status (inl e) image length = inl e
-not_refused status (inr (inl e)) image length = inr (inl e)
-not_refused status (inr (inr (inl e))) image length = inr (inr (inl e))
-not_refused status (inr (inr (inr (inl e)))) image length = absurd (image e)
-not_refused status (inr (inr (inr (inr (inl e))))) image length = absurd (length e)
-not_refused status (inr (inr (inr (inr (inr none))))) image length = absurd none
-
-module _ {D R W : Type 0} (disk_of : D → DiskState) (source_of : R → SourceState) (sink_of : W → SinkState)
-    (p : Parameters) (before : Outside D R W) (middle after : Outcome D R W)
-    (wipe : IsWipe disk_of before middle)
-    (wipe_keeps : KeepsOutside middle.status (disk_of before.disk) (disk_of middle.disk) (source_of before.source)
-    (source_of middle.source) (sink_of before.sink) (sink_of middle.sink))
-    (format : IsFormat disk_of p (record { disk = middle.disk; source = middle.source; sink = middle.sink }) after)
-    (format_keeps : KeepsOutside after.status (disk_of middle.disk) (disk_of after.disk) (source_of middle.source)
-    (source_of after.source) (sink_of middle.sink) (sink_of after.sink))
-    (told : IsObservable (disk_of before.disk)) where
-  told_middle : IsObservable (disk_of middle.disk)
-  told_middle = wipe_keeps.disk_kept.observable ∙ told
-
-  wiped : middle.status ≡ Done → slice_index (disk_of middle.disk).bytes 0 ≢ first_byte
-  wiped e = zeros_are_no_image (disk_of middle.disk).bytes (length (disk_of before.disk).bytes)
-      ((wipe.wipes told).wiped e).zero
-
-  rose_before : Rose (disk_of before.disk).faults (disk_of middle.disk).faults
-      → Rose (disk_of before.disk).faults (disk_of after.disk).faults
+module _ (p : Parameters) (machine : Machine) (middle after : Ended)
+    (wipe : IsWipe meaning (given machine) middle)
+    (wipe_keeps : KeepsOutside middle.status (meaning machine.disk) (meaning middle.disk)
+    (source_state machine.source) (source_state middle.source) (sink_state machine.sink) (sink_state middle.sink))
+    (format : IsFormat meaning p (outside_of middle.disk middle.source middle.sink) after)
+    (format_keeps : KeepsOutside after.status (meaning middle.disk) (meaning after.disk)
+    (source_state middle.source) (source_state after.source) (sink_state middle.sink) (sink_state after.sink)) where
+  rose_before : Rose (meaning machine.disk).faults (meaning middle.disk).faults
+      → Rose (meaning machine.disk).faults (meaning after.disk).faults
   rose_before rose = let kept = format_keeps.disk_kept.faults in omega arith
 
-  rose_behind : Rose (disk_of middle.disk).faults (disk_of after.disk).faults
-      → Rose (disk_of before.disk).faults (disk_of after.disk).faults
+  rose_behind : Rose (meaning middle.disk).faults (meaning after.disk).faults
+      → Rose (meaning machine.disk).faults (meaning after.disk).faults
   rose_behind rose = let kept = wipe_keeps.disk_kept.faults in omega arith
 
-  pub format_behind_wipe : MakesBehindWipe p middle.status after.status (disk_of before.disk) (disk_of after.disk)
+  pub format_behind_wipe : MakesBehindWipe p middle.status after.status (meaning machine.disk) (meaning after.disk)
   format_behind_wipe =
-      let seen = format.observed told_middle in
+      let seen = format.observed refl in
       let same = wipe_keeps.disk_kept.size in
       record {
         fresh = seen.formatted;
-        not_refused = λ e right. not_refused after.status (format_ends after.status format.ends)
-            (λ already. wiped e (seen.already_image.only already).first_is)
-            (λ wrong. format.wrong_length.only wrong (same ∙ right));
-        wrong_length = record {
-          only = λ e right. format.wrong_length.only e (same ∙ right);
-          always = λ differs. ⊎_elim inl (λ e. inr (inl e))
-              (format.wrong_length.always (λ right. differs (sym same ∙ right)));
-        };
-        unwiped = λ e. subst (λ (disk : D). MakesImage p after.status (disk_of disk) (disk_of after.disk))
-            (wipe.no_memory e) (format_exact disk_of p (record {
+        not_refused = λ e right. but
+            (λ already. no_first_byte machine middle wipe e (seen.already_image.only already).first_is)
+            (λ wrong. format.wrong_length.only wrong (same ∙ right))
+            (ends_in (λ s. is_among words.Format (row s).words)
+            (AlreadyImage ∷ WrongLength ∷ Done ∷ DiskFault ∷ NoMemory ∷ []) refl after.status format.ends);
+        wrong_length = exactly format.wrong_length (λ differs right. differs (same ∙ right))
+            (λ differs right. differs (sym same ∙ right)) inl;
+        unwiped = λ e. subst (λ (disk : Disk). MakesImage p after.status (meaning disk) (meaning after.disk))
+            (wipe.no_memory e) (format_exact p (record {
               disk = middle.disk;
               source = middle.source;
               sink = middle.sink;
-            }) after format told_middle);
+            }) after format);
         made = λ right none. ⊎_elim
-            (λ e. inl (⊎_elim inl (λ lacks. inr (inl lacks))
-            ((seen.blank (record { size_is = same ∙ right; other_byte = wiped e })).complete
-            (λ rose. none (rose_behind rose)))))
+            (λ e. inl (done_or_lacks ((seen.blank (record {
+              size_is = same ∙ right;
+              other_byte = no_first_byte machine middle wipe e;
+            })).complete (λ rose. none (rose_behind rose)))))
             (λ lacks. inr lacks) (wipe.complete (λ rose. none (rose_before rose)));
       }

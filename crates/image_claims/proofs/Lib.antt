@@ -1,13 +1,7 @@
 pub mod Checking
 pub mod Costing
-pub mod CutShort
-pub mod EachStatus
 pub mod EndingLemmas
-pub mod FaultLemmas
 pub mod Imaging
-pub mod MachineLemmas
-pub mod MadeTrees
 pub mod Mirroring
 pub mod RequestLemmas
 pub mod Upgrading
-pub mod WordLemmas

@@ -15,8 +15,12 @@ use Rattle.script_lines.specs.SinkState.{SinkState, AppendsPrefix}
 use Rattle.image_subcommands.specs.declared.status.Status.{Status}
 use Rattle.image_subcommands.specs.declared.status.Status.TheVariants.{Done, SourceFault, SinkFault, DiskFault, TooLong}
 use Rattle.image_subcommands.specs.declared.status.Status.TheVariants.{NotImage, Damaged, NoMemory}
-use Rattle.image_claims.specs.Crashes.{MightLeave}
-use Rattle.image_claims.specs.Endings.{IsOneOf, EndsExactly}
+use Rattle.image_subcommands.specs.Statuses.{IsOneOf}
+use Rattle.image_claims.specs.Endings.{EndsExactly}
+
+-- a crash at some moment between these two might have left the image
+abbrev pub MightLeave : DiskState → DiskState → List ℕ → Type 0
+MightLeave old new image = new.crash_images_since old.clock image
 
 -- the line that tells a tree's numbers: its pages, directories without the root, files and bytes
 unfoldable pub clean_line : Tree → Parameters → List ℕ

@@ -1,6 +1,5 @@
 pub mod Checks
 pub mod Costs
-pub mod Crashes
 pub mod Endings
 pub mod Faults
 pub mod Images

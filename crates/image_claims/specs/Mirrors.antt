@@ -1,5 +1,5 @@
 -- What mirroring one image onto another leaves, and what it costs.
-use Rattle.std.specs.Prelude.{◌≡◌, ◌≢◌, ◌⊎◌, ◌+◌, ◌*◌, ◌<◌, ◌≤◌, ◌++◌, ℕ, List, length, [], ◌∷◌, codes}
+use Rattle.std.specs.Prelude.{◌≡◌, ◌≢◌, ◌⊎◌, ◌+◌, ◌*◌, ◌<◌, ◌++◌, ℕ, List, length, [], ◌∷◌, codes}
 use Rattle.std.specs.Fmt.{decimal}
 use Rattle.store_model.specs.Commands.{line}
 use Rattle.store_model.specs.Parameters.{Parameters}
@@ -7,6 +7,7 @@ use Rattle.store_model.specs.Trees.{Tree}
 use Rattle.store_model.specs.Images.{recovered, Represents}
 use Rattle.store_base.specs.Counts.{Rose}
 use Rattle.disk_model.specs.DiskState.{DiskState, IsObservable, MayLeaveOnly}
+use Rattle.gate_journal.specs.Disks.{KeepsDisk}
 use Rattle.gate_journal.specs.Headers.{IsImageWith}
 use Rattle.gate_journal.specs.Phases.{HasEmptyJournal}
 use Rattle.gate_journal.specs.Places.{ReadsOnly}
@@ -17,11 +18,11 @@ use Rattle.script_lines.specs.SinkState as sinks
 use Rattle.image_subcommands.specs.declared.status.Status.{Status}
 use Rattle.image_subcommands.specs.declared.status.Status.TheVariants.{Done, SinkFault, DiskFault, NotImage, Damaged}
 use Rattle.image_subcommands.specs.declared.status.Status.TheVariants.{NoMemory, Unequal}
-use Rattle.image_claims.specs.Checks.{IsNone, IsBroken, IsSome}
+use Rattle.image_subcommands.specs.Statuses.{Subcommand as words, IsOneOf}
+use Rattle.image_claims.specs.Checks.{MightLeave, IsNone, IsBroken, IsSome}
 use Rattle.image_claims.specs.Costs.{Costs}
-use Rattle.image_claims.specs.Crashes.{MightLeave}
-use Rattle.image_claims.specs.Endings.{IsOneOf, EndsExactly, mirror_endings}
-use Rattle.image_claims.specs.Faults.{CountsFault, IsDoneOrLacks}
+use Rattle.image_claims.specs.Endings.{EndsExactly, endings, CountsOne}
+use Rattle.image_claims.specs.Faults.{CountsFault}
 
 -- there is no first image; or the first holds a tree, and there is no second
 abbrev pub LacksOne : List ℕ → List ℕ → Type 0
@@ -41,7 +42,7 @@ abbrev pub mirror_line : Parameters → List ℕ → List ℕ → List ℕ
 mirror_line p first second = count_line (slots_differing p.slots second first)
 
 -- The first image is mirrored onto the second.
-pub record MirrorsImage (status : Status) (done : ℕ) (from from_new to to_new : DiskState)
+pub record MirrorsImage (status : Status) (from from_new to to_new : DiskState)
     (sink sink_new : SinkState) : Type 0 where
   -- exactly what is no image is refused as such, exactly a first image of no tree as a damaged one, and exactly
   -- images of other parameters or versions as that. The first is judged whole before the second
@@ -59,21 +60,16 @@ pub record MirrorsImage (status : Status) (done : ℕ) (from from_new to to_new 
   pub first_failed : from.faults < from_new.faults → ReadsOnly to to_new
   -- and a call of the second fails only where the first holds a tree
   pub second_failed : to.faults < to_new.faults → IsSome (Represents from.bytes)
-  -- it ends by one of these
-  pub ends : IsOneOf status mirror_endings
   -- done, or not printed: the second is the image of the first's tree, durably, whatever it held
   pub represents : IsOneOf status (Done ∷ SinkFault ∷ [])
       → (t : Tree) × (p : Parameters) × Represents from.bytes t p × IsImageWith to.bytes p
   pub equal : IsOneOf status (Done ∷ SinkFault ∷ []) → (t : Tree) (p : Parameters) → Represents from.bytes t p
       → (to_new.bytes ≡ recovered p.slots from.bytes) × Stands to_new t p
-  pub one : IsOneOf status (Done ∷ SinkFault ∷ []) → done ≡ 1
-  pub none : (IsOneOf status (Done ∷ SinkFault ∷ []) → ⊥) → done ≡ 0
   -- what is printed
   pub line : status ≡ Done → (t : Tree) (p : Parameters) → Represents from.bytes t p
       → sink_new.written ≡ sink.written ++ mirror_line p from.bytes to.bytes
   pub in_part : status ≡ SinkFault → (t : Tree) (p : Parameters) → Represents from.bytes t p
       → AppendsPrefix sink.written sink_new.written (mirror_line p from.bytes to.bytes)
-  pub silent : (IsOneOf status (Done ∷ SinkFault ∷ []) → ⊥) → sink_new ≡ sink
 
 -- the count of the one disk is one more where the call ended by a fault of a disk, and else as it was; that of the
 -- other is as it was
@@ -87,31 +83,15 @@ pub record NoneOfPairFailed (from from_new to to_new : DiskState) (sink sink_new
   pub to_well : Rose to.faults to_new.faults → ⊥
   pub sink_well : Rose sink.faults sink_new.faults → ⊥
 
--- Each failed call of a mirror is the status, and no other: one of the one disk, of the other or of the sink. Where
--- none failed and memory was there, it is done for a first image of a tree and a second one of the same parameters.
-pub record MirrorFails (status : Status) (from from_new to to_new : DiskState)
-    (sink sink_new : SinkState) : Type 0 where
-  pub disk_faults : FailsAlone status from.faults from_new.faults to.faults to_new.faults
-      ⊎ FailsAlone status to.faults to_new.faults from.faults from_new.faults
-  pub sink_faults : CountsFault status SinkFault sink.faults sink_new.faults
-  pub done_or_lacks : (t : Tree) (p : Parameters) → Represents from.bytes t p → IsImageWith to.bytes p
-      → NoneOfPairFailed from from_new to to_new sink sink_new → IsDoneOrLacks status
-
--- the disk has its size, tells its bytes where it did, and no count falls, so that another call can follow
-pub record StaysDisk (old new : DiskState) : Type 0 where
-  pub size : new.size ≡ old.size
-  pub tells : new.is_observable ≡ old.is_observable
-  pub writes : old.writes ≤ new.writes
-  pub syncs : old.syncs ≤ new.syncs
-
 -- A mirror of any two disks to any sink, whether they tell their bytes or not.
 pub record MirrorsAny (status : Status) (done : ℕ) (from from_new to to_new : DiskState)
     (sink sink_new : SinkState) : Type 0 where
-  pub from_stays : StaysDisk from from_new
-  pub to_stays : StaysDisk to to_new
+  -- each disk has its size, tells its bytes where it did, and no count falls, so that another call can follow
+  pub from_kept : KeepsDisk from from_new
+  pub to_kept : KeepsDisk to to_new
   pub sink_tells : sink_new.is_observable ≡ sink.is_observable
   -- it ends by one of these, and each failed call is the status, and no other
-  pub ends : IsOneOf status mirror_endings
+  pub ends : IsOneOf status (endings words.Mirror)
   pub disk_faults : FailsAlone status from.faults from_new.faults to.faults to_new.faults
       ⊎ FailsAlone status to.faults to_new.faults from.faults from_new.faults
   pub sink_faults : CountsFault status SinkFault sink.faults sink_new.faults
@@ -123,8 +103,7 @@ pub record MirrorsAny (status : Status) (done : ℕ) (from from_new to to_new : 
   pub in_part : sinks.IsObservable sink → status ≡ SinkFault
       → (count : ℕ) × AppendsPrefix sink.written sink_new.written (count_line count)
   pub silent : (IsOneOf status (Done ∷ SinkFault ∷ []) → ⊥) → sink_new ≡ sink
-  pub one : IsOneOf status (Done ∷ SinkFault ∷ []) → done ≡ 1
-  pub none : (IsOneOf status (Done ∷ SinkFault ∷ []) → ⊥) → done ≡ 0
+  pub counts : CountsOne (Done ∷ SinkFault ∷ []) status done
 
 -- the image is as long as the second and recovers to what that does
 pub record RecoversAlike (p : Parameters) (second image : List ℕ) : Type 0 where

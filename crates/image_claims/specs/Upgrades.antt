@@ -8,29 +8,25 @@ use Rattle.disk_model.specs.DiskState.{DiskState, MayLeaveOnly}
 use Rattle.gate_journal.specs.Costs.{opening_writes, opening_syncs}
 use Rattle.gate_journal.specs.Disks.{IsOnlySynced, IsUnwritten}
 use Rattle.gate_journal.specs.Phases.{HasEmptyJournal}
+use Rattle.gate_journal.specs.Places.{Made}
 use Rattle.image_check.specs.Standing.{Stands}
-use Rattle.store_core.specs.TableChanges.{slots_upgraded}
+use Rattle.store_core.specs.StoreCalls.{LeavesImage}
+use Rattle.staged_tree.specs.TableChanges.{slots_upgraded}
 use Rattle.image_subcommands.specs.declared.status.Status.{Status}
 use Rattle.image_subcommands.specs.declared.status.Status.TheVariants.{Done, DiskFault, NotImage, Damaged, NoMemory}
-use Rattle.image_claims.specs.Checks.{IsNone, IsBroken}
-use Rattle.image_claims.specs.Costs.{Costs, MakesJust}
-use Rattle.image_claims.specs.Crashes.{MightLeave}
+use Rattle.image_claims.specs.Checks.{MightLeave, IsNone, IsBroken}
+use Rattle.image_claims.specs.Costs.{Costs}
 use Rattle.image_claims.specs.Endings.{EndsExactly}
 
 -- an image of the tree, under these parameters or under the same with version 2
 abbrev pub IsOfEither : Tree → Parameters → List ℕ → Type 0
 IsOfEither t p image = Represents image t p ⊎ Represents image t (with_version p Two)
 
--- Nothing was written, and each image that a crash meanwhile might have left is one that a crash before might have.
-pub record StaysAsItWas (old new : DiskState) : Type 0 where
-  pub synced : IsOnlySynced old new
-  pub crash : (image : List ℕ) → MightLeave old new image → old.crash_images image
-
 -- The tree is there under the version that it had: durably, or all is as it was. Each image that a crash meanwhile
 -- might have left represents it so, or is one that a crash before might have left.
 pub record KeepsTree (t : Tree) (p : Parameters) (old new : DiskState) : Type 0 where
   pub reads : Represents new.bytes t p
-  pub stands : Stands new t p ⊎ StaysAsItWas old new
+  pub stands : Stands new t p ⊎ LeavesImage old new
   pub crash : (image : List ℕ) → MightLeave old new image → old.crash_images image ⊎ Represents image t p
 
 -- An image is upgraded.
@@ -45,7 +41,7 @@ pub record UpgradesImage (status : Status) (old new : DiskState) : Type 0 where
   -- where memory ran out the tree is there under the version that it had, after a crash too
   pub kept : status ≡ NoMemory → (t : Tree) (p : Parameters) → Represents old.bytes t p → KeepsTree t p old new
   -- what represents no tree is not written, and a crash leaves what one before might have
-  pub untouched : ((t : Tree) (p : Parameters) → Represents old.bytes t p → ⊥) → StaysAsItWas old new
+  pub untouched : ((t : Tree) (p : Parameters) → Represents old.bytes t p → ⊥) → LeavesImage old new
 
 -- An image of a tree is upgraded. What the disk reads at the end, whatever failed, is an image of the tree, under the
 -- one version or the other. Where each image that a crash before might have left was one, so is each image that a
@@ -65,6 +61,6 @@ pub record CostsOfUpgrade (status : Status) (old new : DiskState) : Type 0 where
   pub two : (t : Tree) (p : Parameters) → Represents old.bytes t p → p.version ≡ Two
       → Costs (opening_writes p.slots old.bytes) (opening_syncs p.slots old.bytes) (Done ∷ []) status old new
   pub no_memory : (t : Tree) (p : Parameters) → Represents old.bytes t p → status ≡ NoMemory
-      → MakesJust (opening_writes p.slots old.bytes) (opening_syncs p.slots old.bytes) old new ⊎ IsOnlySynced old new
+      → Made (opening_writes p.slots old.bytes) (opening_syncs p.slots old.bytes) old new ⊎ IsOnlySynced old new
   pub unwritten : (t : Tree) (p : Parameters) → Represents old.bytes t p → p.version ≡ Two
       → HasEmptyJournal p.slots old.bytes → (status ≡ DiskFault → ⊥) → IsUnwritten old new

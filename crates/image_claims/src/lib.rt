@@ -9,21 +9,15 @@
 
 mod call;
 mod checks;
-mod costs;
-mod crashes;
 mod faults;
 mod images;
 mod mirrors;
 mod runs;
 mod table;
-mod words;
 
 pub use checks::{Judged, check, check_then_run};
-pub use costs::{check_at_cost, format_at_cost, scrub_at_cost, upgrade_at_cost, wipe_at_cost};
-pub use crashes::{Scrubs, format_cut_short, scrub_cut_short, upgrade_cut_short, wipe_cut_short};
 pub use faults::call_anything;
-pub use images::{Remade, format, scrub, upgrade, wipe, wipe_then_format};
+pub use images::{Remade, Scrubs, format, scrub, scrub_cut_short, upgrade, wipe, wipe_then_format};
 pub use mirrors::{Mirrored, mirror, mirror_anything};
 pub use runs::check_behind_runs;
-pub use table::{call_counted, number_of, table_is_spelled_out};
-pub use words::call_unserved;
+pub use table::{number_of, table_is_spelled_out};

@@ -5,8 +5,9 @@ ghost use Rattle.store_model.specs.Trees.{Tree};
 ghost use Rattle.store_model.specs.Images.{Represents};
 ghost use Rattle.gate_journal.specs.Headers.{IsImageWith};
 ghost use Rattle.script_lines.specs.Memory.{sink_state};
-ghost use Rattle.image_claims.specs.Mirrors.{MirrorsImage, MirrorFails, MirrorsAllOrNone, MirrorsEither, CostsOfMirror};
-ghost use Rattle.image_claims.specs.Mirrors.{MirrorsAny};
+ghost use Rattle.image_claims.specs.Faults.{IsDoneOrLacks};
+ghost use Rattle.image_claims.specs.Mirrors.{MirrorsImage, NoneOfPairFailed, MirrorsAllOrNone, MirrorsEither};
+ghost use Rattle.image_claims.specs.Mirrors.{CostsOfMirror, MirrorsAny};
 ghost use Rattle.script_claims.specs.Machines.{meaning};
 
 use disk_model::Disk as AnyDisk;
@@ -24,12 +25,17 @@ pub type Mirrored = PairOutcome<Disk, Disk, MemSink>;
 /// what was pending on it did so too. Each failed call is the status, and no other; where none failed and memory was
 /// there, what can be mirrored is.
 pub fn mirror(alloc: Global, from: Disk, to: Disk, sink: MemSink) -> Mirrored
-    ensures mirrors { MirrorsImage result.status result.done (meaning from)
+    ensures any { MirrorsAny result.status result.done (meaning from)
         (meaning result.from) (meaning to)
         (meaning result.to) (sink_state sink) (sink_state result.sink) }
-    ensures fails { MirrorFails result.status (meaning from) (meaning result.from)
-        (meaning to) (meaning result.to)
-        (sink_state sink) (sink_state result.sink) }
+    ensures mirrors { MirrorsImage result.status (meaning from)
+        (meaning result.from) (meaning to)
+        (meaning result.to) (sink_state sink) (sink_state result.sink) }
+    ensures complete { (t : Tree) (p : Parameters) → Represents (meaning from).bytes t p
+        → IsImageWith (meaning to).bytes p
+        → NoneOfPairFailed (meaning from) (meaning result.from) (meaning to)
+        (meaning result.to) (sink_state sink) (sink_state result.sink)
+        → IsDoneOrLacks result.status }
     ensures cut_short { (t : Tree) (p : Parameters) → Represents (meaning from).bytes t p
         → IsImageWith (meaning to).bytes p → MirrorsAllOrNone t p (meaning to) (meaning result.to) }
     ensures either { (t u : Tree) (p : Parameters) → Represents (meaning from).bytes t p

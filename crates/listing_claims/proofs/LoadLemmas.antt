@@ -1,21 +1,47 @@
 -- A listing is loaded: from what a load promises.
-use Rattle.std.proofs.Common.{◌≡◌, ◌⊎◌, ◌++◌, List, ℕ, length, inl, inr, refl, ap, subst, ⊎_elim, arith, length-append}
+use Rattle.std.proofs.Common.{◌≡◌, ◌⊎◌, ◌∙◌, ◌++◌, ◌∷◌, [], List, ℕ, length, inl, inr, refl, sym, ap, subst, ⊎_elim}
+use Rattle.std.proofs.Common.{arith, length-append, false}
+use Rattle.std.proofs.lemmas.Bool.{false≢true}
 use Rattle.store_model.specs.Parameters.{Parameters}
 use Rattle.store_model.specs.Trees.{Tree, empty_tree}
 use Rattle.store_model.specs.Images.{Represents}
 use Rattle.store_model.specs.Commands.{reply_text, refusal_text}
 use Rattle.script_lines.specs.Memory.{SourceMemory, SinkMemory, source_state, sink_state}
 use Rattle.script_lines.specs.SinkState.{AppendsPrefix}
+use Rattle.image_subcommands.specs.declared.status.Status.{Status}
 use Rattle.image_subcommands.specs.declared.status.Status.TheVariants as statuses
 use Rattle.image_subcommands.specs.Outside.{outside_of}
-use Rattle.listing_subcommands.specs.LoadCall.{IsLoad, LoadsFrom, KeepsTree, Lists, ListsNone, ListsTooMany}
-use Rattle.listing_subcommands.specs.LoadCall.{EndsBeforeTree, full_text}
+use Rattle.image_subcommands.specs.Statuses.{row, IsOneOf, IsCutShort, MayComeFirst}
+use Rattle.image_subcommands.proofs.EachStatus.{implied, one_of}
+use Rattle.listing_subcommands.specs.LoadCall.{IsLoad, LoadsFrom, LoadsNothing, KeepsTree, Lists, ListsNone}
+use Rattle.listing_subcommands.specs.LoadCall.{ListsTooMany, EndsBeforeListing, EndsBeforeTree, full_text}
+use Rattle.listing_subcommands.specs.LoadCall.LoadsNothing.{SourceFault, SinkFault, TooLong, NotEmpty, BadListing}
+use Rattle.listing_subcommands.specs.LoadCall.LoadsNothing.{TooFull}
 use Rattle.script_claims.specs.Machines.{Disk, Ended, bytes_of, meaning}
-use Rattle.script_claims.proofs.NothingLemmas.{comes_first}
 use Rattle.script_claims.proofs.RunWays.{image_of}
-use Rattle.listing_claims.specs.Loaded.{Says, SaysNone, SaysTooMany, IsUnjudged, LeavesTree, LoadsListing}
-use Rattle.listing_claims.specs.Loaded.{LoadsAllOrNothing, full_line}
-use Rattle.listing_claims.proofs.Statuses.{loads_nothing, is_spared, unjudged}
+use Rattle.listing_claims.specs.Loaded.{Says, SaysNone, SaysTooMany, LeavesTree, LoadsListing, LoadsAllOrNothing}
+use Rattle.listing_claims.specs.Loaded.{full_line, not_loaded}
+
+-- ---- how it ends
+
+-- with these nothing is loaded, and neither the disk nor memory failed
+loads_nothing : (status : Status) → IsOneOf status not_loaded → LoadsNothing status
+loads_nothing = one_of LoadsNothing not_loaded
+    (SourceFault, (SinkFault, (TooLong, (NotEmpty, (BadListing, (TooFull, tt))))))
+
+spared : (status other : Status) → IsOneOf status not_loaded → MayComeFirst other → status ≡ other → ⊥
+spared status other none first e =
+    false≢true (sym (one_of (λ s. (row s).may_come_first ≡ false) not_loaded
+    (refl, (refl, (refl, (refl, (refl, (refl, tt)))))) status none)
+    ∙ ap (λ (s : Status). (row s).may_come_first) e ∙ first)
+
+-- a load of an image of the empty tree that ended before it judged its lines was cut short
+cut_short : (status : Status) → (status ≡ statuses.NotEmpty → ⊥) → EndsBeforeListing status → IsCutShort status
+cut_short status empty (inl e) = absurd (empty e)
+cut_short status empty (inr (inl e)) = subst IsCutShort (sym e) refl
+cut_short status empty (inr (inr (inl e))) = subst IsCutShort (sym e) refl
+cut_short status empty (inr (inr (inr first))) =
+    implied (λ s. (row s).may_come_first) (λ s. (row s).is_cut_short) refl status first
 
 -- ---- what lines say
 
@@ -47,7 +73,7 @@ module _ (u : Tree) (p : Parameters) (disk : Disk) (source : SourceMemory) (sink
     (load : IsLoad meaning source_state sink_state (outside_of disk source sink) after)
     (represents : Represents (bytes_of disk) u p) where
   from : LoadsFrom meaning source_state sink_state u p source.left (outside_of disk source sink) after
-  from = (load.observed refl).loads refl u p represents
+  from = (load.observed refl).does u p represents refl
 
   leaves_tree : KeepsTree u p after.status (meaning disk) (meaning after.disk) → LeavesTree u p disk after
   leaves_tree keeps = record {
@@ -61,9 +87,9 @@ module _ (u : Tree) (p : Parameters) (disk : Disk) (source : SourceMemory) (sink
   not_refused empty e = from.not_empty.only e empty
 
   before_tree : u ≡ empty_tree → EndsBeforeTree after.status
-      → (after.status ≡ statuses.SinkFault) ⊎ IsUnjudged after.status
+      → (after.status ≡ statuses.SinkFault) ⊎ IsCutShort after.status
   before_tree empty (inl e) = inl e
-  before_tree empty (inr ends) = inr (unjudged after.status (not_refused empty) ends)
+  before_tree empty (inr ends) = inr (cut_short after.status (not_refused empty) ends)
 
   pub loads_listing : LoadsListing u p disk source sink after
   loads_listing =
@@ -73,18 +99,17 @@ module _ (u : Tree) (p : Parameters) (disk : Disk) (source : SourceMemory) (sink
         said = λ e. let some = (from.done e).1 in (some.0, says some.0 p source.left some.1);
         loaded = λ e t is. image_of after.disk t p ((from.loads (from.done e).0 t (lists t p source.left is)).loaded e);
         room = λ e t is. (from.loads (from.done e).0 t (lists t p source.left is)).room e;
-        read = λ e. (load.limit refl).whole e;
+        read = λ e. (load.keeps.limit refl).whole e;
         costs = λ e t is. (from.loads (from.done e).0 t (lists t p source.left is)).made e;
         not_empty = from.not_empty.only;
-        empty_only = λ full. ⊎_elim (λ e. inl e) (λ first. inr (comes_first after.status first))
-            (from.not_empty.always full);
-        not_taken = λ e. (load.not_taken e).source;
+        empty_only = from.not_empty.always;
+        not_taken = λ e. (load.keeps.not_taken e).source;
         bad_listing = λ e. says_none p source.left (from.bad_listing.only e);
-        listing_only = λ empty none. ⊎_elim (λ e. inl e) (λ ends. inr (unjudged after.status (not_refused empty) ends))
+        listing_only = λ empty none. ⊎_elim (λ e. inl e) (λ ends. inr (cut_short after.status (not_refused empty) ends))
             (from.bad_listing.always (lists_none p source.left none));
-        taken = λ e. load.whole refl (inr (inr (inl e)));
+        taken = λ e. load.keeps.whole refl (inr (inr (inl e)));
         too_long = λ e.
-            let many = (load.limit refl).too_long e in
+            let many = (load.keeps.limit refl).too_long e in
             omega (
               arith,
               many.count_is,
@@ -92,7 +117,7 @@ module _ (u : Tree) (p : Parameters) (disk : Disk) (source : SourceMemory) (sink
               length-append many.taken after.source.left,
             );
         in_limit = λ other.
-            let few = (load.limit refl).within other in
+            let few = (load.keeps.limit refl).within other in
             omega (
               arith,
               few.1,
@@ -108,9 +133,9 @@ module _ (u : Tree) (p : Parameters) (disk : Disk) (source : SourceMemory) (sink
         unprinted = λ e. says_too_many p source.left (from.unprinted e);
         in_part = λ e t is. subst (λ (text : List ℕ). AppendsPrefix sink.written after.sink.written text) (full_is t p)
             (printed.in_part e t (lists t p source.left is));
-        silent = load.silent;
-        kept = λ none. let spared = is_spared after.status none
-            in image_of after.disk u p ((from.keeps (loads_nothing after.status none)).stands spared.0 spared.1);
+        silent = load.keeps.silent;
+        kept = λ none. image_of after.disk u p ((from.keeps (loads_nothing after.status none)).stands
+            (spared after.status statuses.DiskFault none refl) (spared after.status statuses.NoMemory none refl));
         no_memory = λ e. ⊎_elim (λ stands. inl (image_of after.disk u p stands))
             (λ leaves. inr leaves.crash.each) (from.no_memory e);
         left = λ ends. ⊎_elim (λ none. leaves_tree (from.keeps (loads_nothing after.status none)))
@@ -127,5 +152,5 @@ pub all_or_nothing : (t : Tree) (p : Parameters) (disk : Disk) (source : SourceM
     → IsLoad meaning source_state sink_state (outside_of disk source sink) after
     → Represents (bytes_of disk) empty_tree p → Says p source.left t → LoadsAllOrNothing t p disk after
 all_or_nothing t p disk source sink after load represents is =
-    let loads = ((load.observed refl).loads refl empty_tree p represents).loads refl t (lists t p source.left is) in
+    let loads = ((load.observed refl).does empty_tree p represents refl).loads refl t (lists t p source.left is) in
     record { crash = loads.crash.each; reads = loads.reads; limit = loads.limit }

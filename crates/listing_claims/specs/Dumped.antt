@@ -12,6 +12,7 @@ use Rattle.script_lines.specs.Memory.{SinkMemory}
 use Rattle.script_lines.specs.SinkState.{AppendsPrefix}
 use Rattle.image_subcommands.specs.declared.status.Status.{Status}
 use Rattle.image_subcommands.specs.declared.status.Status.TheVariants as statuses
+use Rattle.image_subcommands.specs.Statuses.{MayComeFirst}
 use Rattle.tree_listing.specs.Dumps.{dump_text}
 use Rattle.script_claims.specs.Machines.{Disk, Ended, HasImage, MayLeave, MightHaveLeft, bytes_of, meaning}
 
@@ -26,7 +27,7 @@ IsAsBefore disk after = (image : List ℕ) → MightHaveLeft (meaning disk).cloc
 -- The dump of an image of the tree.
 pub record SaysTree (t : Tree) (p : Parameters) (disk : Disk) (sink : SinkMemory) (after : Ended) : Type 0 where
   -- it ends in no other way
-  pub ends : IsPutOut after.status ⊎ ((after.status ≡ statuses.DiskFault) ⊎ (after.status ≡ statuses.NoMemory))
+  pub ends : IsPutOut after.status ⊎ MayComeFirst after.status
   -- what was written
   pub whole : after.status ≡ statuses.Done → after.sink.written ≡ sink.written ++ dump_text t
   pub in_part : AppendsPrefix sink.written after.sink.written (dump_text t)

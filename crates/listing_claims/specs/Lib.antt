@@ -2,5 +2,4 @@ pub mod Again
 pub mod Crashes
 pub mod Dumped
 pub mod Loaded
-pub mod Nothing
 pub mod Same

@@ -1,5 +1,5 @@
 -- What a load leaves.
-use Rattle.std.specs.Prelude.{◌≡◌, ◌≢◌, ◌⊎◌, ◌+◌, ◌<◌, ◌≤◌, ℕ, List, [], ◌++◌, length, codes}
+use Rattle.std.specs.Prelude.{◌≡◌, ◌≢◌, ◌⊎◌, ◌+◌, ◌<◌, ◌≤◌, ℕ, List, [], ◌∷◌, ◌++◌, length, codes}
 use Rattle.std.specs.Fmt.{decimal}
 use Rattle.store_model.specs.Parameters.{Parameters}
 use Rattle.store_model.specs.Trees.{Tree, empty_tree}
@@ -15,6 +15,7 @@ use Rattle.script_lines.specs.Memory.{SourceMemory, SinkMemory}
 use Rattle.script_lines.specs.SinkState.{AppendsPrefix}
 use Rattle.image_subcommands.specs.declared.status.Status.{Status}
 use Rattle.image_subcommands.specs.declared.status.Status.TheVariants as statuses
+use Rattle.image_subcommands.specs.Statuses.{IsOneOf, IsCutShort, MayComeFirst}
 use Rattle.tree_listing.specs.Dumps.{IsListing}
 use Rattle.script_claims.specs.Machines.{Disk, Ended, HasImage, MightHaveLeft, NothingFailed, bytes_of, meaning}
 use Rattle.listing_claims.specs.Dumped.{IsAsBefore}
@@ -28,15 +29,10 @@ pub record Says (p : Parameters) (script : List ℕ) (t : Tree) : Type 0 where
 abbrev pub full_line : Tree → Parameters → List ℕ
 full_line t p = line (codes "no full " ++ decimal (page_count t p) ++ codes " " ++ decimal p.slots)
 
--- the call ended before the listing was judged: a take, the disk or memory failed, or the script is too long
-abbrev pub IsUnjudged : Status → Type 0
-IsUnjudged status = (status ≡ statuses.SourceFault) ⊎ (status ≡ statuses.TooLong) ⊎ (status ≡ statuses.DiskFault)
-    ⊎ (status ≡ statuses.NoMemory)
-
--- nothing was loaded, and the disk did not fail
-abbrev pub IsNotLoaded : Status → Type 0
-IsNotLoaded status = (status ≡ statuses.SourceFault) ⊎ (status ≡ statuses.SinkFault) ⊎ (status ≡ statuses.TooLong)
-    ⊎ (status ≡ statuses.NotEmpty) ⊎ (status ≡ statuses.BadListing) ⊎ (status ≡ statuses.TooFull)
+-- with these nothing was loaded, and the disk did not fail
+abbrev pub not_loaded : List Status
+not_loaded = statuses.SourceFault ∷ statuses.SinkFault ∷ statuses.TooLong ∷ statuses.NotEmpty ∷ statuses.BadListing
+    ∷ statuses.TooFull ∷ []
 
 -- some tree, whose pages are more than the slots
 abbrev pub SaysTooMany : Parameters → List ℕ → Type 0
@@ -72,13 +68,13 @@ pub record LoadsListing (u : Tree) (p : Parameters) (disk : Disk) (source : Sour
       (opening_syncs p.slots (bytes_of disk) + commit_syncs (page_count t p)) (meaning disk) (meaning after.disk)
   -- the image that is not empty, and nothing was taken
   pub not_empty : after.status ≡ statuses.NotEmpty → u ≢ empty_tree
-  pub empty_only : u ≢ empty_tree → (after.status ≡ statuses.NotEmpty) ⊎ (after.status ≡ statuses.DiskFault)
-      ⊎ (after.status ≡ statuses.NoMemory)
+  pub empty_only : u ≢ empty_tree → (after.status ≡ statuses.NotEmpty) ⊎ MayComeFirst after.status
   pub not_taken : after.status ≡ statuses.NotEmpty → after.source ≡ source
-  -- the lines that say no tree, and the whole source was taken
+  -- the lines that say no tree, and the whole source was taken; or the call ended before it judged them: a take, the
+  -- disk or memory failed, or the script is too long
   pub bad_listing : after.status ≡ statuses.BadListing → SaysNone p source.left
   pub listing_only : u ≡ empty_tree → SaysNone p source.left
-      → (after.status ≡ statuses.BadListing) ⊎ IsUnjudged after.status
+      → (after.status ≡ statuses.BadListing) ⊎ IsCutShort after.status
   pub taken : after.status ≡ statuses.BadListing → after.source.left ≡ []
   -- the script that is too long; in every other case no more bytes were taken than one may have
   pub too_long : after.status ≡ statuses.TooLong → script_limit < length source.left
@@ -86,7 +82,7 @@ pub record LoadsListing (u : Tree) (p : Parameters) (disk : Disk) (source : Sour
   -- the tree that is too large, and both numbers were printed
   pub too_full : after.status ≡ statuses.TooFull → SaysTooMany p source.left
   pub full_only : u ≡ empty_tree → (t : Tree) → Says p source.left t → p.slots < page_count t p
-      → (after.status ≡ statuses.TooFull) ⊎ (after.status ≡ statuses.SinkFault) ⊎ IsUnjudged after.status
+      → (after.status ≡ statuses.TooFull) ⊎ (after.status ≡ statuses.SinkFault) ⊎ IsCutShort after.status
   pub printed : after.status ≡ statuses.TooFull → (t : Tree) → Says p source.left t
       → after.sink.written ≡ sink.written ++ full_line t p
   -- or the sink failed, and took a front of that line
@@ -96,9 +92,9 @@ pub record LoadsListing (u : Tree) (p : Parameters) (disk : Disk) (source : Sour
   -- what else is printed: nothing
   pub silent : after.status ≢ statuses.TooFull → after.status ≢ statuses.SinkFault → after.sink ≡ sink
   -- where nothing is loaded the image is that of the tree that it had
-  pub kept : IsNotLoaded after.status → HasImage after.disk u p
+  pub kept : IsOneOf after.status not_loaded → HasImage after.disk u p
   pub no_memory : after.status ≡ statuses.NoMemory → HasImage after.disk u p ⊎ IsAsBefore disk after.disk
-  pub left : IsNotLoaded after.status ⊎ (after.status ≡ statuses.NoMemory) → LeavesTree u p disk after
+  pub left : IsOneOf after.status not_loaded ⊎ (after.status ≡ statuses.NoMemory) → LeavesTree u p disk after
   -- however the call ends, nothing is loaded into an image that is not empty, of lines that say no tree, or of those
   -- of a tree that is too large
   pub left_full : u ≢ empty_tree → LeavesTree u p disk after

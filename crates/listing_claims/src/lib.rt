@@ -9,12 +9,10 @@ mod again;
 mod crash;
 mod dumped;
 mod loaded;
-mod nothing;
 mod same;
 
 pub use again::{Copied, a_dump_is_loaded_again};
 pub use crash::a_crash_leaves_all_of_a_load_or_nothing;
 pub use dumped::a_dump_says_its_tree;
 pub use loaded::a_listing_is_loaded;
-pub use nothing::{a_dump_on_no_tree_does_nothing, a_load_on_no_tree_does_nothing};
 pub use same::{LoadAndRun, a_load_is_a_run};

@@ -7,6 +7,7 @@ ghost use Rattle.store_model.specs.Images.{Represents};
 ghost use Rattle.store_model.specs.Words.{request_of};
 ghost use Rattle.store_model.specs.Words.Request.{Load};
 ghost use Rattle.script_claims.specs.Machines.{bytes_of};
+ghost use Rattle.script_claims.specs.Nothing.{HasNoTree, DoesNothing};
 ghost use Rattle.listing_claims.specs.Loaded.{LoadsAllOrNothing, LoadsListing, Says};
 
 use script_claims::{Disk, Ended, serve};
@@ -21,6 +22,8 @@ use store_top::Words;
 /// than the image has slots, and then both numbers are printed. After each of these the image is that of the tree that
 /// it had. However the load ends, and whenever a crash comes, all of the tree is loaded or nothing of it.
 ///
+/// On bytes that are the image of no tree it does nothing, as a run, and takes nothing either.
+///
 /// `NoMemory`: nothing was called.
 pub fn a_listing_is_loaded(
     alloc: Global,
@@ -33,13 +36,14 @@ pub fn a_listing_is_loaded(
     ensures whole { (t : Tree) (p : Parameters)
         → Represents (bytes_of disk) empty_tree p → Says p source.left t
         → IfOk result (LoadsAllOrNothing t p disk) }
+    ensures nothing { HasNoTree (bytes_of disk) → IfOk result (DoesNothing disk source sink) }
 {
     let words = load_word(alloc)?;
     Ok(serve(alloc, &words, disk, source, sink))
 }
 
 /// The command line of the one word `load`.
-pub(crate) fn load_word(alloc: Global) -> Result<Words, NoMemory>
+fn load_word(alloc: Global) -> Result<Words, NoMemory>
     ensures { IfOk result (λ words. request_of words ≡ Some Load) }
 {
     let mut words = Words::new(alloc);

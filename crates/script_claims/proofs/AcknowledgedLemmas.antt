@@ -1,4 +1,4 @@
--- What was acknowledged stays: from what a call that answers a script promises.
+-- What was acknowledged stays: from what a call promises that has a text for each line of a script.
 use Rattle.std.proofs.Common.{◌≡◌, inl, inr, ℕ, List, ◌++◌, length, take, refl, sym, ap, ◌∙◌, subst, ⊎_elim, arith}
 use Rattle.std.proofs.Common.{length-append}
 use Rattle.store_model.specs.Parameters.{Parameters}
@@ -10,16 +10,12 @@ use Rattle.script_lines.specs.Lines.{ended_lines}
 use Rattle.script_lines.specs.Memory.{SourceMemory, SinkMemory, source_state, sink_state}
 use Rattle.image_subcommands.specs.Outside.{outside_of}
 use Rattle.image_subcommands.specs.Statuses.{Subcommand}
-use Rattle.store_top.specs.RunCall.{IsRun}
-use Rattle.store_top.specs.Runs.{run_texts, run_trees}
-use Rattle.store_top.specs.ScriptCall.{AnswersScript}
-use Rattle.store_top.proofs.RunLemmas.{length-run_texts}
+use Rattle.script_runs.specs.ScriptCall.{AnswersScript}
 use Rattle.script_claims.specs.Acknowledged.{KeepsAcknowledged}
 use Rattle.script_claims.specs.Machines.{Disk, Ended, meaning}
-use Rattle.script_claims.proofs.RunWays.{EndsAsRun, between, cut_short, way, image_of, read_is}
+use Rattle.script_claims.proofs.RunWays.{EndsAsRun, way, image_of, read_is}
 use Rattle.script_claims.proofs.CrashLemmas.{wrote_in_part}
 
--- of any call that has a text for each line
 pub script_keeps_acknowledged : {word : Subcommand} {texts : Tree → List ℕ → Parameters → List (List ℕ)} {trees : Tree
     → List ℕ → Parameters → ℕ → Tree} → EndsAsRun word
     → (t : Tree) (p : Parameters) (disk : Disk) (source : SourceMemory) (sink : SinkMemory) (after : Ended)
@@ -30,25 +26,25 @@ pub script_keeps_acknowledged : {word : Subcommand} {texts : Tree → List ℕ �
 script_keeps_acknowledged {word} {texts} {trees} as_run t p disk source sink after one_each answers only =
     let on_disk = answers.observed refl in
     let represents = read_is disk (λ image. Represents image t p) only in
-    let from = on_disk.runs refl t p represents in
+    let from = on_disk.does t p represents refl in
+    let carried = from.carried in
     let told = from.replies in
     let wrote = told.written refl in
-    let limit = answers.limit refl in
+    let limit = answers.keeps refl in
     record {
       ends = way as_run t p disk source sink after answers represents;
       image = λ whole.
-          let stands = from.image.between (between after.status whole) in
+          let stands = carried.image.between whole in
           record {
             bytes = stands.layout_is;
-            durable = λ image leaves. (on_disk.crashes refl t p only).between (between after.status whole) image
-                leaves ∙ stands.layout_is;
+            durable = λ image leaves. (carried.crashes only).between whole image leaves ∙ stands.layout_is;
           };
-      disk_fault = from.image.fault;
+      disk_fault = carried.image.fault;
       no_memory = λ e.
           ⊎_elim
           (λ stands. inl (image_of after.disk (trees t source.left p after.done) p stands))
           (λ none. inr (none.0, subst (λ (image : List ℕ). Represents image t p) (sym (none.1).bytes) represents))
-          (from.image.no_memory e);
+          (carried.image.no_memory e);
       all_lines = λ e. (told.counted.all e).1 ∙ one_each;
       all_replied = λ e. wrote.written_is ∙ ap (λ (text : List ℕ). sink.written ++ text) (wrote.promised.all e);
       source_fault = λ e. record { taken = told.taken; taken_is = told.taken_is; done_is = told.counted.ended e };
@@ -71,17 +67,7 @@ script_keeps_acknowledged {word} {texts} {trees} as_run t p disk source sink aft
       some_line = told.counted.some_line;
       counted = omega (arith, told.counted.counted, one_each);
       replied = λ early. wrote.written_is ∙ ap (λ (text : List ℕ). sink.written ++ text)
-          (wrote.promised.answered (cut_short after.status early));
+          (wrote.promised.answered early);
       in_part = wrote_in_part after.status after.done (texts t source.left p)
           sink.written after.sink.written wrote.written wrote.written_is wrote.promised;
     }
-
--- of a run
-pub keeps_acknowledged : (t : Tree) (p : Parameters) (disk : Disk) (source : SourceMemory)
-    (sink : SinkMemory) (after : Ended)
-    → IsRun meaning source_state sink_state (outside_of disk source sink) after
-    → MayLeaveOnly (meaning disk) (λ image. Represents image t p)
-    → KeepsAcknowledged (run_texts t source.left p) (run_trees t source.left p) t p source sink after
-keeps_acknowledged t p disk source sink after run only =
-    script_keeps_acknowledged (λ status ends. ends) t p disk source sink after
-    (length-run_texts t source.left p) run only

@@ -20,9 +20,9 @@ use Rattle.script_lines.specs.Memory.{SourceMemory, SinkMemory, sink_state}
 use Rattle.image_subcommands.specs.declared.status.Status.TheVariants as statuses
 use Rattle.image_subcommands.specs.Outside.{outside_of}
 use Rattle.image_subcommands.specs.Statuses.{IsBetweenLines, IsSummed}
-use Rattle.store_top.specs.BigCall.{IsBig}
-use Rattle.store_core.specs.Groups.{step_under}
-use Rattle.store_top.specs.Generations.{first_commands, generated_trees, summary_text}
+use Rattle.script_runs.specs.BigCall.{IsBig}
+use Rattle.staged_tree.specs.Groups.{step_under}
+use Rattle.script_runs.specs.Generations.{first_commands, generated_trees, summary_text}
 use Rattle.script_claims.specs.declared.big.TwoRuns.{TwoRuns}
 use Rattle.script_claims.specs.Answered.{AnswersScript}
 use Rattle.script_claims.specs.BigRuns.{AskFor, summary_of, IsRunOfCommands}
@@ -30,7 +30,7 @@ use Rattle.script_claims.specs.Machines.{Disk, bytes_of, meaning}
 
 -- ---- a script that asks for commands
 
-answer_of_parsed : (t : Tree) (text : List ℕ) (c : Command) (p : Parameters) → length text ≤ line_limit
+pub answer_of_parsed : (t : Tree) (text : List ℕ) (c : Command) (p : Parameters) → length text ≤ line_limit
     → parse text ≡ Ok c → answer t text p ≡ step t c p
 unfolding answer
 answer_of_parsed t text c p fits e =
@@ -100,18 +100,19 @@ pub run_of_commands : (number count : ℕ) (t : Tree) (p : Parameters) (disk oth
     → IsRunOfCommands t p script sink both
 run_of_commands number count t p disk other_disk source script sink other_sink both is_big is ask answers =
     let commands = first_commands number count in
-    let from = (is_big.observed refl).runs t p is in
+    let from = (is_big.observed refl).does t p is in
     let size = length-first_commands number count in
     let whole : take count commands ≡ commands = ap (λ (n : ℕ). take n commands) (sym size) ∙ take-length commands in
     let tree : generated_trees t number count p count ≡ tree_after t (lines script.left) p =
     ap (tree_by (step_under p) t) whole ∙ sym (same_tree t p (lines script.left) commands ask) in
     let image = λ (e : both.big.status ≡ statuses.Done).
-    (from.image.between (subst IsBetweenLines (sym e) refl)).layout_is
-    ∙ ap (λ (n : ℕ). layout (generated_trees t number count p n) p) (is_big.all_done (subst IsSummed (sym e) refl))
+    (from.carried.image.between (subst IsBetweenLines (sym e) refl)).layout_is
+    ∙ ap (λ (n : ℕ). layout (generated_trees t number count p n) p)
+    (is_big.keeps.all_done (subst IsSummed (sym e) refl))
     ∙ ap (λ (u : Tree). layout u p) tree in
     record {
       image = λ e d. image e ∙ sym (answers.image d).bytes;
-      count = λ e d. is_big.all_done (subst IsSummed (sym e) refl) ∙ sym size
+      count = λ e d. is_big.keeps.all_done (subst IsSummed (sym e) refl) ∙ sym size
           ∙ sym (same_length (lines script.left) commands ask) ∙ sym (answers.count d);
       summary = λ e d.
           (from.summary (subst IsSummed (sym e) refl) refl).whole e

@@ -15,18 +15,14 @@ use Rattle.image_check.specs.Standing.{Stands}
 use Rattle.image_subcommands.specs.declared.status.Status.{Status}
 use Rattle.image_subcommands.specs.declared.status.Status.TheVariants as statuses
 use Rattle.image_subcommands.specs.Outside.{outside_of}
-use Rattle.image_subcommands.specs.Statuses.{Subcommand}
-use Rattle.store_top.specs.Promises.{PromisesReplies}
-use Rattle.store_top.specs.RunCall.{IsRun}
-use Rattle.store_top.specs.Runs.{run_texts, run_trees}
-use Rattle.store_top.specs.ScriptCall.{AnswersScript}
+use Rattle.image_subcommands.specs.Statuses.{Subcommand, Subcommand as words, IsEndOf, IsBetweenLines, IsCutShort}
+use Rattle.script_runs.specs.Promises.{PromisesReplies}
+use Rattle.script_runs.specs.ScriptCall.{AnswersScript}
 use Rattle.script_claims.specs.declared.crash.Crash.{Crash}
-use Rattle.script_claims.specs.Acknowledged.{EndsWhole, EndsEarly}
 use Rattle.script_claims.specs.Answered.{AnswersScript as IsAnswered}
 use Rattle.script_claims.specs.Crashes.{WroteReplies, RunsBehind, LosesNothing}
-use Rattle.script_claims.specs.Machines.{Disk, Ended, HasImage, MayLeave, MightHaveLeft, RepresentsSomeTree, bytes_of}
-use Rattle.script_claims.specs.Machines.{meaning}
-use Rattle.script_claims.proofs.RunWays.{EndsAsRun, between, cut_short, way, layout_after, read_is}
+use Rattle.script_claims.specs.Machines.{Disk, Ended, HasImage, MayLeave, bytes_of, meaning}
+use Rattle.script_claims.proofs.RunWays.{EndsAsRun, way, on_the_way, read_is}
 
 -- ---- what was written
 
@@ -76,6 +72,16 @@ runs_behind t p disk source sink next none disk_faults source_faults sink_faults
       });
 }
 
+-- ---- the statuses of a run
+
+ended_by : (status : Status) → IsEndOf words.Run status
+    → (status ≡ statuses.Done) ⊎ ((status ≡ statuses.SinkFault) ⊎ IsCutShort status)
+ended_by status ends = grind arith
+
+cut_by : (status : Status) → IsCutShort status
+    → (status ≡ statuses.DiskFault) ⊎ ((status ≡ statuses.NoMemory) ⊎ IsBetweenLines status)
+cut_by status early = grind arith
+
 -- ---- what is left behind a call
 
 module _ {word : Subcommand} {texts_of : Tree → List ℕ → Parameters → List (List ℕ)} {trees_of : Tree → List ℕ
@@ -105,20 +111,19 @@ module _ {word : Subcommand} {texts_of : Tree → List ℕ → Parameters → Li
     pub image : Represents left (trees count) p ⊎ Represents left (trees (count + 1)) p
     pub in_part : (replied.part ≡ []) ⊎ Represents left (trees (count + 1)) p
 
-  written_so : EndsEarly first.status → first.sink.written ≡ sink.written ++ concat (take first.done texts)
+  written_so : IsCutShort first.status → first.sink.written ≡ sink.written ++ concat (take first.done texts)
   written_so early =
-      let wrote = ((answers.observed refl).runs refl t p represents).replies.written refl in
-      wrote.written_is ∙ ap (λ (text : List ℕ). sink.written ++ text)
-      (wrote.promised.answered (cut_short first.status early))
+      let wrote = ((answers.observed refl).does t p represents refl).replies.written refl in
+      wrote.written_is ∙ ap (λ (text : List ℕ). sink.written ++ text) (wrote.promised.answered early)
 
   -- where nothing is pending behind the run, what is left is the image of the tree after the lines
-  whole_left : EndsWhole first.status → (left : List ℕ) → MayLeave first.disk left
+  whole_left : IsBetweenLines first.status → (left : List ℕ) → MayLeave first.disk left
       → Represents left (trees first.done) p
   whole_left whole left leaves =
-      let on_disk = answers.observed refl in
-      let stands = (on_disk.runs refl t p represents).image.between (between first.status whole) in
+      let carried = ((answers.observed refl).does t p represents refl).carried in
+      let stands = carried.image.between whole in
       left_represents first.done left
-      ((on_disk.crashes refl t p only).between (between first.status whole) left leaves ∙ stands.layout_is)
+      ((carried.crashes only).between whole left leaves ∙ stands.layout_is)
 
   stands_left : (k : ℕ) (left : List ℕ) → Stands (meaning first.disk) (trees k) p → MayLeave first.disk left
       → Represents left (trees k) p
@@ -127,23 +132,23 @@ module _ {word : Subcommand} {texts_of : Tree → List ℕ → Parameters → Li
   memory_left : first.status ≡ statuses.NoMemory → (left : List ℕ) → MayLeave first.disk left
       → Represents left (trees first.done) p
   memory_left e left leaves =
-      let on_disk = answers.observed refl in
+      let carried = ((answers.observed refl).does t p represents refl).carried in
       ⊎_elim
       (λ stands. stands_left first.done left stands leaves)
       (λ as_before. ⊎_elim
       (λ stands. stands_left first.done left stands leaves)
       (λ none. subst (λ (k : ℕ). Represents left (trees k) p) (sym none.0) (as_before left leaves))
-      ((on_disk.runs refl t p represents).image.no_memory e))
-      ((on_disk.crashes refl t p only).no_memory e)
+      (carried.image.no_memory e))
+      ((carried.crashes only).no_memory e)
 
-  early_left : EndsEarly first.status → (left : List ℕ) → MayLeave first.disk left
+  early_left : IsCutShort first.status → (left : List ℕ) → MayLeave first.disk left
       → Represents left (trees first.done) p ⊎ Represents left (trees (first.done + 1)) p
-  early_left (inl e) left leaves = inl (whole_left (inr (inl e)) left leaves)
-  early_left (inr (inl e)) left leaves = ((answers.observed refl).crashes refl t p only).fault e left leaves
-  early_left (inr (inr (inl e))) left leaves = inl (whole_left (inr (inr (inr e))) left leaves)
-  early_left (inr (inr (inr e))) left leaves = inl (memory_left e left leaves)
+  early_left early left leaves =
+      ⊎_elim (λ e. (((answers.observed refl).does t p represents refl).carried.crashes only).fault e left leaves)
+      (λ other. inl (⊎_elim (λ e. memory_left e left leaves) (λ whole. whole_left whole left leaves) other))
+      (cut_by first.status early)
 
-  left_early : EndsEarly first.status → (left : List ℕ) → MayLeave first.disk left → LeftBehind left
+  left_early : IsCutShort first.status → (left : List ℕ) → MayLeave first.disk left → LeftBehind left
   left_early early left leaves = record {
     count = first.done;
     replied = wrote_whole first.done texts sink.written first.sink.written (written_so early);
@@ -151,9 +156,9 @@ module _ {word : Subcommand} {texts_of : Tree → List ℕ → Parameters → Li
     in_part = inl refl;
   }
 
-  left_whole : EndsWhole first.status → (left : List ℕ) → MayLeave first.disk left → LeftBehind left
-  left_whole (inl e) left leaves =
-      let told = ((answers.observed refl).runs refl t p represents).replies in
+  left_done : first.status ≡ statuses.Done → (left : List ℕ) → MayLeave first.disk left → LeftBehind left
+  left_done e left leaves =
+      let told = ((answers.observed refl).does t p represents refl).replies in
       let wrote = told.written refl in
       record {
         count = first.done;
@@ -161,16 +166,18 @@ module _ {word : Subcommand} {texts_of : Tree → List ℕ → Parameters → Li
             (wrote.written_is ∙ ap (λ (text : List ℕ). sink.written ++ text)
             (wrote.promised.all e ∙ ap concat
             (sym (take_all first.done texts (omega (arith, (told.counted.all e).1))))));
-        image = inl (whole_left (inl e) left leaves);
+        image = inl (whole_left (subst IsBetweenLines (sym e) refl) left leaves);
         in_part = inl refl;
       }
-  left_whole (inr (inl e)) left leaves = left_early (inl e) left leaves
-  left_whole (inr (inr (inl e))) left leaves =
-      let told = ((answers.observed refl).runs refl t p represents).replies in
+
+  left_unwritten : first.status ≡ statuses.SinkFault → (left : List ℕ) → MayLeave first.disk left → LeftBehind left
+  left_unwritten e left leaves =
+      let told = ((answers.observed refl).does t p represents refl).replies in
       let wrote = told.written refl in
       let some : 1 ≤ first.done = told.counted.some_line e in
       let next : first.done - 1 + 1 ≡ first.done = omega arith in
-      let is = subst (λ (k : ℕ). Represents left (trees k) p) (sym next) (whole_left (inr (inr (inl e))) left leaves) in
+      let is = subst (λ (k : ℕ). Represents left (trees k) p) (sym next)
+      (whole_left (subst IsBetweenLines (sym e) refl) left leaves) in
       record {
         count = first.done - 1;
         replied = wrote_in_part first.status first.done texts
@@ -178,49 +185,12 @@ module _ {word : Subcommand} {texts_of : Tree → List ℕ → Parameters → Li
         image = inr is;
         in_part = inr is;
       }
-  left_whole (inr (inr (inr e))) left leaves = left_early (inr (inr (inl e))) left leaves
 
   pub left_behind : (left : List ℕ) → MayLeave first.disk left → LeftBehind left
-  left_behind left leaves = ⊎_elim (λ whole. left_whole whole left leaves) (λ early. left_early early left leaves)
-      (way as_run t p failing source sink first answers represents)
-
-  -- ---- a crash at some moment
-
-  -- the image that was left is of the tree after some lines
-  abbrev LeftOnTheWay : List ℕ → Type 0
-  LeftOnTheWay left = RepresentsSomeTree (first.done + 1) trees p left
-
-  on_the_way_whole : (first.status ≡ statuses.DiskFault → ⊥) → (left : List ℕ)
-      → MightHaveLeft (meaning failing).clock first.disk left → LeftOnTheWay left
-  on_the_way_whole other left leaves =
-      let one = (((answers.observed refl).crashes refl t p only).during other).each left leaves in
-      record { count = one.0; in_limit = omega (arith, one.1); represents = one.2 }
-
-  on_the_way_fault : first.status ≡ statuses.DiskFault → (left : List ℕ)
-      → MightHaveLeft (meaning failing).clock first.disk left → LeftOnTheWay left
-  on_the_way_fault e left leaves =
-      let one = (((answers.observed refl).crashes refl t p only).during_fault e).each left leaves in
-      record { count = one.0; in_limit = one.1; represents = one.2 }
-
-  pub on_the_way : (left : List ℕ) → MightHaveLeft (meaning failing).clock first.disk left → LeftOnTheWay left
-  on_the_way left leaves = by_way (way as_run t p failing source sink first answers represents)
-    where
-      by_way : EndsWhole first.status ⊎ EndsEarly first.status → LeftOnTheWay left
-      by_way (inl (inl e)) = on_the_way_whole (λ d. let both : statuses.Done ≡ statuses.DiskFault =
-          sym e ∙ d in cc) left leaves
-      by_way (inl (inr (inl e))) = on_the_way_whole (λ d. let both : statuses.SourceFault ≡ statuses.DiskFault =
-          sym e ∙ d in cc) left leaves
-      by_way (inl (inr (inr (inl e)))) =
-          on_the_way_whole (λ d. let both : statuses.SinkFault ≡ statuses.DiskFault = sym e ∙ d in cc) left leaves
-      by_way (inl (inr (inr (inr e)))) =
-          on_the_way_whole (λ d. let both : statuses.TooLong ≡ statuses.DiskFault = sym e ∙ d in cc) left leaves
-      by_way (inr (inl e)) = on_the_way_whole (λ d. let both : statuses.SourceFault ≡ statuses.DiskFault =
-          sym e ∙ d in cc) left leaves
-      by_way (inr (inr (inl e))) = on_the_way_fault e left leaves
-      by_way (inr (inr (inr (inl e)))) =
-          on_the_way_whole (λ d. let both : statuses.TooLong ≡ statuses.DiskFault = sym e ∙ d in cc) left leaves
-      by_way (inr (inr (inr (inr e)))) =
-          on_the_way_whole (λ d. let both : statuses.NoMemory ≡ statuses.DiskFault = sym e ∙ d in cc) left leaves
+  left_behind left leaves =
+      ⊎_elim (λ e. left_done e left leaves)
+      (λ other. ⊎_elim (λ e. left_unwritten e left leaves) (λ early. left_early early left leaves) other)
+      (ended_by first.status (way as_run t p failing source sink first answers represents))
 
 -- ---- both calls
 
@@ -230,14 +200,18 @@ pub script_loses_nothing : {word : Subcommand} {texts_of : Tree → List ℕ →
     (left : List ℕ) (crash : Crash)
     → AnswersScript word texts_of trees_of meaning source_state sink_state (outside_of failing source sink) crash.first
     → MayLeaveOnly (meaning failing) (λ image. Represents image t p)
-    → ((k : ℕ) → Represents (layout (trees_of t source.left p k) p) (trees_of t source.left p k) p)
+    → (Represents (bytes_of failing) t p → (k : ℕ)
+    → Represents (layout (trees_of t source.left p k) p) (trees_of t source.left p k) p)
     → ((u : Tree) → Represents left u p → RunsBehind u p crash.next)
     → LosesNothing (texts_of t source.left p) (trees_of t source.left p) p failing.disk sink left crash
-script_loses_nothing as_run t p failing source sink left crash first only laid_out behind =
-    let way_left = on_the_way as_run t p failing source sink crash.first first only laid_out in
+script_loses_nothing {trees_of} as_run t p failing source sink left crash first only laid_out behind =
+    let way_left = on_the_way crash.first.status crash.first.done (trees_of t source.left p) p failing crash.first.disk
+    (((first.observed refl).does t p (read_is failing (λ image. Represents image t p) only) refl).carried.crashes only)
+    in
     record {
       acknowledged = λ leaves e.
-          let found = left_behind as_run t p failing source sink crash.first first only laid_out left leaves in
+          let found = left_behind as_run t p failing source sink crash.first first only
+          (laid_out (read_is failing (λ image. Represents image t p) only)) left leaves in
           record {
             count = found.count;
             replied = found.replied;
@@ -249,14 +223,3 @@ script_loses_nothing as_run t p failing source sink left crash first only laid_o
           let found = way_left left leaves in
           record { before = found; image = (behind _ found.represents).image };
     }
-
-pub loses_nothing : (t : Tree) (p : Parameters) (failing : Disk) (source : SourceMemory) (sink : SinkMemory)
-    (left : List ℕ) (crash : Crash)
-    → IsRun meaning source_state sink_state (outside_of failing source sink) crash.first
-    → MayLeaveOnly (meaning failing) (λ image. Represents image t p)
-    → ((u : Tree) → Represents left u p → RunsBehind u p crash.next)
-    → LosesNothing (run_texts t source.left p) (run_trees t source.left p) p failing.disk sink left crash
-loses_nothing t p failing source sink left crash run only behind =
-    script_loses_nothing (λ status ends. ends) t p failing source sink left crash run only
-    (λ k. layout_after t p (bytes_of failing) (take k (lines source.left))
-    (read_is failing (λ image. Represents image t p) only)) behind

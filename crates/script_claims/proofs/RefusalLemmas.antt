@@ -1,9 +1,9 @@
 -- A refused line changes nothing, and `full` is exact.
-use Rattle.std.proofs.Common.{◌≡◌, ◌⊎◌, inl, inr, ℕ, zero, suc, ◌≤◌, Bool, true, false, ◌&&◌, nat_lt, if◌then◌else◌}
-use Rattle.std.proofs.Common.{List, [], ◌∷◌, ◌++◌, length, take, Option, Some, None, Ok, refl, sym, ap, ◌∙◌, subst}
+use Rattle.std.proofs.Common.{◌≡◌, ◌⊎◌, inl, inr, ℕ, zero, suc, Bool, true, false, ◌&&◌, nat_lt, if◌then◌else◌}
+use Rattle.std.proofs.Common.{List, [], ◌∷◌, ◌++◌, take, Option, Some, None, refl, sym, ap, ◌∙◌, subst}
 use Rattle.std.proofs.Common.{⊎_elim, arith}
 use Rattle.std.specs.List.{AllByRecursion}
-use Rattle.std.proofs.lemmas.Bool.{and_parts, and_from, ltb-true, lt-ltb, le-ltb, cond-false, true_from_ne_false}
+use Rattle.std.proofs.lemmas.Bool.{and_parts, and_from, ltb-true, lt-ltb, true_from_ne_false}
 use Rattle.std.proofs.lemmas.List.{append-nil}
 use Rattle.store_model.specs.declared.refusal.Refusal.{Refusal}
 use Rattle.store_model.specs.declared.refusal.Refusal.TheVariants as refusals
@@ -13,14 +13,10 @@ use Rattle.store_model.specs.Pages.{page_count, Fits}
 use Rattle.store_model.specs.Trees.{IsTree}
 use Rattle.store_model.specs.Images.{layout, Represents}
 use Rattle.store_model.specs.Commands.{Command, Reply, reply_text}
-use Rattle.store_model.specs.Commands.Command.{Make, Write, Cut, Rename, Remove, Prune, ListChildren, Read, Space}
-use Rattle.store_model.specs.Commands.Command.{Digest, SetAttribute, UnsetAttribute, GetAttribute, ListAttributes}
-use Rattle.store_model.specs.Commands.Reply.{Acknowledged, Content, Listing, AttributeListing, PagesUsed, ImageDigest}
 use Rattle.store_model.specs.Commands.Reply.{Refused}
 use Rattle.store_model.specs.Steps.{Step, Condition, step, step_by, conditions, first_refusal, refusal_of, reply_of}
 use Rattle.store_model.specs.Steps.{next_tree, may_fill, lacks_version}
-use Rattle.store_model.specs.Grammar.{parse}
-use Rattle.store_model.specs.Scripts.{lines, line_limit, answer, answer_by, answers_by, state_by, replies_by, tree_by}
+use Rattle.store_model.specs.Scripts.{lines, answer, answers_by, state_by, replies_by, tree_by}
 use Rattle.store_model.specs.Scripts.{replies, tree_after, replies_text}
 use Rattle.store_model.proofs.ScriptsLemmas.{refused_answer_keeps}
 use Rattle.store_model.proofs.TreesLemmasFits.{needs_no_more}
@@ -30,12 +26,13 @@ use Rattle.gate_journal.proofs.Layouts.{layout-has-empty-journal}
 use Rattle.script_lines.specs.Memory.{SourceMemory, SinkMemory, source_state, sink_state}
 use Rattle.image_subcommands.specs.declared.status.Status.TheVariants as statuses
 use Rattle.image_subcommands.specs.Outside.{outside_of}
-use Rattle.store_top.specs.Generations.{is_refused}
-use Rattle.store_top.specs.RunCall.{IsRun}
+use Rattle.script_runs.specs.Generations.{is_refused}
+use Rattle.script_runs.specs.RunCall.{IsRun}
 use Rattle.script_claims.specs.Answered.{AnswersScript}
 use Rattle.script_claims.specs.Machines.{Disk, Ended, bytes_of, meaning}
 use Rattle.script_claims.specs.Refusals.{IsRefusal, IsAtRest, IsUntouched, IsOneLine, NeedsMoreSlots, AnswersFull}
 use Rattle.script_claims.specs.Refusals.{without_refused}
+use Rattle.script_claims.proofs.BigLemmas.{answer_of_parsed}
 
 -- ---- lines that are refused
 
@@ -59,20 +56,14 @@ untouched t p disk source sink after run rest all other =
     let empty = subst (HasEmptyJournal p.slots) (sym rest.layout_is)
     (layout-has-empty-journal t p is.names.in_range is.tree is.fits) in
     let kept = refused_keep t (lines source.left) p all in
-    let unwritten = ((run.observed refl).runs refl t p is).quiet empty other (λ k few. kept k ∙ sym (kept 0)) in
+    let unwritten = ((run.observed refl).does t p is refl).carried.quiet empty other (λ k few. kept k ∙ sym (kept 0)) in
     record { bytes = unwritten.bytes; writes = unwritten.writes }
 
 -- ---- lines that are left out
 
 -- a reply that is a refusal
 refusal_of_reply : (reply : Reply) → is_refused reply ≡ true → IsRefusal reply
-refusal_of_reply Acknowledged e = absurd (cc)
-refusal_of_reply (Content bytes) e = absurd (cc)
-refusal_of_reply (Listing children) e = absurd (cc)
-refusal_of_reply (AttributeListing attributes) e = absurd (cc)
-refusal_of_reply (PagesUsed used slots) e = absurd (cc)
-refusal_of_reply (ImageDigest digest) e = absurd (cc)
-refusal_of_reply (Refused refusal) e = (refusal, refl)
+refusal_of_reply reply e = grind arith
 
 -- the lines that are not refused lead to the same tree
 same_without : (t : Tree) (texts : List (List ℕ)) (p : Parameters)
@@ -120,38 +111,12 @@ other_first (condition ∷ all) refusal others e =
 
 others : (t : Tree) (c : Command) → AllByRecursion (λ condition. IsOther condition.1) (conditions t c)
 unfolding conditions
-others t (Make p) = (tt, (tt, (tt, tt)))
-others t (Write p at bytes) = (tt, (tt, (tt, (tt, tt))))
-others t (Cut p len) = (tt, (tt, (tt, tt)))
-others t (Rename p q) = (tt, (tt, (tt, (tt, (tt, (tt, tt))))))
-others t (Remove p) = (tt, (tt, (tt, tt)))
-others t (Prune p) = (tt, (tt, tt))
-others t (ListChildren p) = (tt, (tt, tt))
-others t (Read p at len) = (tt, (tt, (tt, (tt, tt))))
-others t Space = tt
-others t Digest = tt
-others t (SetAttribute p a bytes) = (tt, (tt, (tt, (tt, tt))))
-others t (UnsetAttribute p a) = (tt, (tt, (tt, tt)))
-others t (GetAttribute p a) = (tt, (tt, (tt, tt)))
-others t (ListAttributes p) = (tt, (tt, tt))
+others t c = grind arith
 
 -- what is not refused is not answered by a refusal
 not_refused : (t : Tree) (c : Command) (p : Parameters) (r : Refusal) → reply_of t c p ≡ Refused r → ⊥
 unfolding reply_of
-not_refused t (Make path) p r e = cc
-not_refused t (Write path at bytes) p r e = cc
-not_refused t (Cut path len) p r e = cc
-not_refused t (Rename from to) p r e = cc
-not_refused t (Remove path) p r e = cc
-not_refused t (Prune path) p r e = cc
-not_refused t (ListChildren path) p r e = cc
-not_refused t (Read path at len) p r e = cc
-not_refused t Space p r e = cc
-not_refused t Digest p r e = cc
-not_refused t (SetAttribute path a bytes) p r e = cc
-not_refused t (UnsetAttribute path a) p r e = cc
-not_refused t (GetAttribute path a) p r e = cc
-not_refused t (ListAttributes path) p r e = cc
+not_refused t c p r e = grind arith
 
 abbrev full_reply : Tree → Command → Parameters → Reply
 full_reply t c p = Refused (refusals.Full (page_count (next_tree t c) p) p.slots)
@@ -219,13 +184,6 @@ step_full t c p tree fits needs =
     ∙ picked_first (may_fill c && nat_lt p.slots (page_count (next_tree t c) p)) _ _ full
 
 -- the reply to a script of one line
-answer_of_parsed : (t : Tree) (text : List ℕ) (c : Command) (p : Parameters) → length text ≤ line_limit
-    → parse text ≡ Ok c → answer t text p ≡ step t c p
-unfolding answer
-answer_of_parsed t text c p fits e =
-    cond-false (nat_lt line_limit (length text)) _ _ (le-ltb line_limit (length text) fits)
-    ∙ ap (λ asked. answer_by t asked p) e
-
 one_reply : (t : Tree) (text : List ℕ) (p : Parameters)
     → replies_text (replies t (text ∷ []) p) ≡ reply_text (answer t text p).reply
 unfolding replies replies_by answers_by replies_text

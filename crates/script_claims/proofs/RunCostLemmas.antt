@@ -7,18 +7,17 @@ use Rattle.script_lines.specs.Memory.{SourceMemory, SinkMemory, source_state, si
 use Rattle.image_subcommands.specs.declared.status.Status.{Status}
 use Rattle.image_subcommands.specs.Outside.{outside_of}
 use Rattle.image_subcommands.specs.Statuses.{Subcommand}
-use Rattle.store_top.specs.BigCall.{IsBig}
-use Rattle.store_top.specs.Costs.{CountsRun}
-use Rattle.store_top.specs.Generations.{generated_trees}
-use Rattle.store_top.specs.ScriptCall.{AnswersScript}
+use Rattle.script_runs.specs.BigCall.{IsBig}
+use Rattle.script_runs.specs.Costs.{CountsRun}
+use Rattle.script_runs.specs.Generations.{generated_trees}
+use Rattle.script_runs.specs.ScriptCall.{AnswersScript}
 use Rattle.script_claims.specs.Machines.{Disk, Ended, bytes_of, meaning}
 use Rattle.script_claims.specs.RunCosts.{CostsJust}
-use Rattle.script_claims.proofs.RunWays.{between}
 
 costs : (status : Status) (done : ℕ) (trees : ℕ → Tree) (p : Parameters) (before after : Disk)
     → CountsRun status done trees p (meaning before) (meaning after) → CostsJust status done trees p before after
 costs status done trees p before after counts = record {
-  exact = λ whole. counts.between (between status whole);
+  exact = counts.between;
   no_memory = counts.no_memory;
   limit = counts.limit;
 }
@@ -29,7 +28,7 @@ pub script_costs : {word : Subcommand} {texts : Tree → List ℕ → Parameters
     → AnswersScript word texts trees meaning source_state sink_state (outside_of disk source sink) after
     → Represents (bytes_of disk) t p → CostsJust after.status after.done (trees t source.left p) p disk after.disk
 script_costs t p disk source sink after answers is =
-    costs after.status after.done _ p disk after.disk ((answers.observed refl).runs refl t p is).counts
+    costs after.status after.done _ p disk after.disk ((answers.observed refl).does t p is refl).carried.counts
 
 pub big_costs : (number count : ℕ) (t : Tree) (p : Parameters) (disk : Disk) (source : SourceMemory)
     (sink : SinkMemory) (after : Ended)
@@ -37,4 +36,4 @@ pub big_costs : (number count : ℕ) (t : Tree) (p : Parameters) (disk : Disk) (
     → CostsJust after.status after.done (generated_trees t number count p) p disk after.disk
 big_costs number count t p disk source sink after big is =
     costs after.status after.done (generated_trees t number count p) p disk
-    after.disk ((big.observed refl).runs t p is).counts
+    after.disk ((big.observed refl).does t p is).carried.counts

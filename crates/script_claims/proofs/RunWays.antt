@@ -1,6 +1,7 @@
--- How a call that answers a script over the image of a tree may end, and what its statuses have in common.
-use Rattle.std.proofs.Common.{◌≡◌, ◌⊎◌, inl, inr, List, ℕ, refl, sym, ◌∙◌, subst}
-use Rattle.std.proofs.lemmas.Bool.{false≢true}
+-- How a call over the image of a tree may end, and what its disk has then.
+use Rattle.std.proofs.Common.{◌≡◌, List, ℕ, ◌+◌, true, refl, ◌∙◌, ⊎_elim, arith}
+use Rattle.std.specs.Prelude.{not}
+use Rattle.std.proofs.lemmas.Bool.{and_from}
 use Rattle.store_model.specs.Parameters.{Parameters}
 use Rattle.store_model.specs.Trees.{Tree}
 use Rattle.store_model.specs.Images.{layout, Represents}
@@ -11,80 +12,60 @@ use Rattle.store_model.proofs.TreesLemmasFits.{Fits-tree_after}
 use Rattle.disk_model.specs.DiskState.{MayLeaveOnly}
 use Rattle.disk_model.specs.MemoryLaws.{memory_is_sound}
 use Rattle.image_check.specs.Standing.{Stands}
+use Rattle.image_check.specs.Verdicts.{IsNoImage, IsDamaged}
 use Rattle.script_lines.specs.Memory.{SourceMemory, SinkMemory, source_state, sink_state}
 use Rattle.image_subcommands.specs.declared.status.Status.{Status}
 use Rattle.image_subcommands.specs.declared.status.Status.TheVariants as statuses
 use Rattle.image_subcommands.specs.Outside.{outside_of}
-use Rattle.image_subcommands.specs.Statuses.{Subcommand, Subcommand as words, IsStatusOf, IsBetweenLines, IsCutShort}
-use Rattle.store_top.specs.ScriptCall.{AnswersScript}
-use Rattle.script_claims.specs.Acknowledged.{EndsWhole, EndsEarly}
-use Rattle.script_claims.specs.Machines.{Disk, Ended, HasImage, bytes_of, meaning}
+use Rattle.image_subcommands.specs.Statuses.{Subcommand, Subcommand as words, row, is_among, IsStatusOf, IsEndOf}
+use Rattle.image_subcommands.specs.Statuses.{IsStopOf, MayComeFirst, ComesExactly}
+use Rattle.image_subcommands.proofs.EachStatus.{implied}
+use Rattle.image_subcommands.proofs.StatusLemmas.{disk_fault_or_not}
+use Rattle.script_runs.specs.Promises.{PromisesCrashes}
+use Rattle.script_runs.specs.ScriptCall.{AnswersScript}
+use Rattle.script_claims.specs.Machines.{Disk, Ended, HasImage, MightHaveLeft, RepresentsSomeTree, bytes_of, meaning}
 
 -- ---- statuses
-
-way_of : (status : Status) → IsStatusOf words.Run status → (status ≡ statuses.NotImage → ⊥)
-    → (status ≡ statuses.Damaged → ⊥) → EndsWhole status ⊎ EndsEarly status
-way_of statuses.Done runs image whole = inl (inl refl)
-way_of statuses.Usage runs image whole = absurd (false≢true runs)
-way_of statuses.SourceFault runs image whole = inl (inr (inl refl))
-way_of statuses.SinkFault runs image whole = inl (inr (inr (inl refl)))
-way_of statuses.DiskFault runs image whole = inr (inr (inl refl))
-way_of statuses.TooLong runs image whole = inl (inr (inr (inr refl)))
-way_of statuses.NotImage runs image whole = absurd (image refl)
-way_of statuses.Damaged runs image whole = absurd (whole refl)
-way_of statuses.NoMemory runs image whole = inr (inr (inr (inr refl)))
-way_of statuses.AlreadyImage runs image whole = absurd (false≢true runs)
-way_of statuses.WrongLength runs image whole = absurd (false≢true runs)
-way_of statuses.Unequal runs image whole = absurd (false≢true runs)
-way_of statuses.NotEmpty runs image whole = absurd (false≢true runs)
-way_of statuses.BadListing runs image whole = absurd (false≢true runs)
-way_of statuses.TooFull runs image whole = absurd (false≢true runs)
 
 -- a call with this subcommand may end only as a run may
 abbrev pub EndsAsRun : Subcommand → Type 0
 EndsAsRun word = (status : Status) → IsStatusOf word status → IsStatusOf words.Run status
 
 -- as sessions do
-pub ends_as_run : (status : Status) → IsStatusOf words.Session status → IsStatusOf words.Run status
-ends_as_run statuses.Done ends = refl
-ends_as_run statuses.Usage ends = ends
-ends_as_run statuses.SourceFault ends = refl
-ends_as_run statuses.SinkFault ends = refl
-ends_as_run statuses.DiskFault ends = refl
-ends_as_run statuses.TooLong ends = refl
-ends_as_run statuses.NotImage ends = refl
-ends_as_run statuses.Damaged ends = refl
-ends_as_run statuses.NoMemory ends = refl
-ends_as_run statuses.AlreadyImage ends = ends
-ends_as_run statuses.WrongLength ends = ends
-ends_as_run statuses.Unequal ends = ends
-ends_as_run statuses.NotEmpty ends = ends
-ends_as_run statuses.BadListing ends = ends
-ends_as_run statuses.TooFull ends = ends
+pub ends_as_run : EndsAsRun words.Session
+ends_as_run = implied (λ s. is_among words.Session (row s).words) (λ s. is_among words.Run (row s).words) refl
 
-pub between : (status : Status) → EndsWhole status → IsBetweenLines status
-between status (inl e) = subst IsBetweenLines (sym e) refl
-between status (inr (inl e)) = subst IsBetweenLines (sym e) refl
-between status (inr (inr (inl e))) = subst IsBetweenLines (sym e) refl
-between status (inr (inr (inr e))) = subst IsBetweenLines (sym e) refl
+-- a call whose image is neither none nor damaged ends as one that found it
+accepted : (status : Status) → (status ≡ statuses.NotImage → ⊥) → (status ≡ statuses.Damaged → ⊥)
+    → not (row status).refuses_image ≡ true
+accepted status image whole = grind arith
 
-pub cut_short : (status : Status) → EndsEarly status → IsCutShort status
-cut_short status (inl e) = subst IsCutShort (sym e) refl
-cut_short status (inr (inl e)) = subst IsCutShort (sym e) refl
-cut_short status (inr (inr (inl e))) = subst IsCutShort (sym e) refl
-cut_short status (inr (inr (inr e))) = subst IsCutShort (sym e) refl
+-- and one that isn't done stops
+undone : (status : Status) → (status ≡ statuses.Done → ⊥) → not (row status).is_done ≡ true
+undone status other = grind arith
 
--- such a call over the image of a tree ends in one of these ways
+pub stop_of : (word : Subcommand) (status : Status) → IsEndOf word status → (status ≡ statuses.Done → ⊥)
+    → IsStopOf word status
+stop_of word status ends other = and_from _ _ ends (undone status other)
+
+-- over the image of a tree a call ends as one that found its image
+pub found : (word : Subcommand) (t : Tree) (p : Parameters) (disk : Disk) (status : Status) → IsStatusOf word status
+    → ComesExactly statuses.NotImage (IsNoImage (meaning disk)) MayComeFirst status
+    → ComesExactly statuses.Damaged (IsDamaged (meaning disk)) MayComeFirst status
+    → Represents (bytes_of disk) t p → IsEndOf word status
+found word t p disk status ends none broken is = and_from _ _ ends (accepted status
+    (λ e. none.only e refl p (record { names = is.names; length_is = is.length_is }))
+    (λ e. (broken.only e).no_tree refl t p is))
+
+-- so one that answers a script ends as a run
 pub way : {word : Subcommand} {texts : Tree → List ℕ → Parameters → List (List ℕ)} {trees : Tree → List ℕ → Parameters
     → ℕ → Tree} → EndsAsRun word
     → (t : Tree) (p : Parameters) (disk : Disk) (source : SourceMemory) (sink : SinkMemory) (after : Ended)
     → AnswersScript word texts trees meaning source_state sink_state (outside_of disk source sink) after
-    → Represents (bytes_of disk) t p → EndsWhole after.status ⊎ EndsEarly after.status
-way as_run t p disk source sink after answers represents =
+    → Represents (bytes_of disk) t p → IsEndOf words.Run after.status
+way as_run t p disk source sink after answers is =
     let on_disk = answers.observed refl in
-    way_of after.status (as_run after.status answers.ends)
-    (λ e. on_disk.not_image.only e refl p (record { names = represents.names; length_is = represents.length_is }))
-    (λ e. (on_disk.damaged.only e).no_tree refl t p represents)
+    found words.Run t p disk after.status (as_run after.status answers.ends) on_disk.not_image on_disk.damaged is
 
 -- ---- trees of lines
 
@@ -107,3 +88,21 @@ image_of disk t p stands = record {
 -- what a crash may leave of a disk in memory, all that it may leave, and so what it reads
 pub read_is : (disk : Disk) (P : List ℕ → Type 0) → MayLeaveOnly (meaning disk) P → P (bytes_of disk)
 read_is disk P only = only (bytes_of disk) (memory_is_sound disk.disk).read_image
+
+-- an image that a crash at some moment of a call leaves is of the tree after some pieces of work
+pub on_the_way : (status : Status) (done : ℕ) (trees : ℕ → Tree) (p : Parameters) (disk now : Disk)
+    → PromisesCrashes status done trees (meaning disk) (meaning now) p → (image : List ℕ)
+    → MightHaveLeft (meaning disk).clock now image → RepresentsSomeTree (done + 1) trees p image
+on_the_way status done trees p disk now crashes image leaves =
+    ⊎_elim
+    (λ fault. let one = (crashes.during_fault fault).each image leaves in record {
+      count = one.0;
+      in_limit = one.1;
+      represents = one.2;
+    })
+    (λ other. let one = (crashes.during other).each image leaves in let few = one.1 in record {
+      count = one.0;
+      in_limit = omega arith;
+      represents = one.2;
+    })
+    (disk_fault_or_not status)

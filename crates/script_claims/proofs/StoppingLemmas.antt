@@ -1,7 +1,6 @@
 -- How a making ends that stops before its end: from what a format and a run promise.
-use Rattle.std.proofs.Common.{◌≡◌, ◌⊎◌, inl, inr, length, Result, Ok, Err, IfErr, IsErrAnd, refl, sym, ap, ◌∙◌, subst}
-use Rattle.std.proofs.Common.{arith, length-append}
-use Rattle.std.proofs.lemmas.Bool.{false≢true}
+use Rattle.std.proofs.Common.{◌≡◌, length, Result, Ok, Err, IfErr, IsErrAnd, refl, sym, ap, ◌∙◌, subst, arith}
+use Rattle.std.proofs.Common.{length-append}
 use Rattle.store_model.specs.Parameters.{Parameters}
 use Rattle.store_model.specs.Trees.{Tree}
 use Rattle.store_model.specs.Images.{Represents}
@@ -11,13 +10,12 @@ use Rattle.image_subcommands.specs.declared.status.Status.{Status}
 use Rattle.image_subcommands.specs.declared.status.Status.TheVariants as statuses
 use Rattle.image_subcommands.specs.Outside.{outside_of, KeepsOutside}
 use Rattle.image_subcommands.specs.FormatCall.{IsFormat}
-use Rattle.image_subcommands.specs.Statuses.{Subcommand as words, IsStatusOf, disk_faults_by, source_faults_by}
-use Rattle.image_subcommands.specs.Statuses.{sink_faults_by}
-use Rattle.store_top.specs.RunCall.{IsRun}
-use Rattle.script_claims.specs.Acknowledged.{EndsWhole, EndsEarly}
+use Rattle.image_subcommands.specs.Statuses.{Subcommand as words, IsStatusOf, IsStopOf, disk_faults_by}
+use Rattle.image_subcommands.specs.Statuses.{source_faults_by, sink_faults_by}
+use Rattle.script_runs.specs.RunCall.{IsRun}
 use Rattle.script_claims.specs.Machines.{Disk, Ended, bytes_of, meaning}
-use Rattle.script_claims.specs.Makings.{SparesCounts, IsRunCut, StopsRuns, StopsFormat}
-use Rattle.script_claims.proofs.RunWays.{way}
+use Rattle.script_claims.specs.Makings.{SparesCounts, StopsRuns, StopsFormat}
+use Rattle.script_claims.proofs.RunWays.{stop_of, way}
 
 -- an error that is handed on as it is
 pub handed_on : {T E : Type 0} (P : E → Type 0) (fault : E) (result : Result T E) → IsErrAnd result (λ e. e ≡ fault)
@@ -27,41 +25,16 @@ handed_on P fault (Err e) is holds = subst P (sym is) holds
 
 -- ---- statuses
 
-run_cut : (status : Status) → EndsWhole status ⊎ EndsEarly status → (status ≡ statuses.Done → ⊥) → IsRunCut status
-run_cut status (inl (inl e)) other = absurd (other e)
-run_cut status (inl (inr (inl e))) other = inl e
-run_cut status (inl (inr (inr (inl e)))) other = inr (inl e)
-run_cut status (inl (inr (inr (inr e)))) other = inr (inr (inr (inl e)))
-run_cut status (inr (inl e)) other = inl e
-run_cut status (inr (inr (inl e))) other = inr (inr (inl e))
-run_cut status (inr (inr (inr (inl e)))) other = inr (inr (inr (inl e)))
-run_cut status (inr (inr (inr (inr e)))) other = inr (inr (inr (inr e)))
-
-format_cut : (status : Status) → IsStatusOf words.Format status → (status ≡ statuses.Done → ⊥)
-    → (status ≡ statuses.DiskFault)
-    ⊎ ((status ≡ statuses.NoMemory) ⊎ ((status ≡ statuses.AlreadyImage) ⊎ (status ≡ statuses.WrongLength)))
-format_cut statuses.Done is other = absurd (other refl)
-format_cut statuses.Usage is other = absurd (false≢true is)
-format_cut statuses.SourceFault is other = absurd (false≢true is)
-format_cut statuses.SinkFault is other = absurd (false≢true is)
-format_cut statuses.DiskFault is other = inl refl
-format_cut statuses.TooLong is other = absurd (false≢true is)
-format_cut statuses.NotImage is other = absurd (false≢true is)
-format_cut statuses.Damaged is other = absurd (false≢true is)
-format_cut statuses.NoMemory is other = inr (inl refl)
-format_cut statuses.AlreadyImage is other = inr (inr (inl refl))
-format_cut statuses.WrongLength is other = inr (inr (inr refl))
-format_cut statuses.Unequal is other = absurd (false≢true is)
-format_cut statuses.NotEmpty is other = absurd (false≢true is)
-format_cut statuses.BadListing is other = absurd (false≢true is)
-format_cut statuses.TooFull is other = absurd (false≢true is)
+format_stop : (status : Status) → IsStatusOf words.Format status → (status ≡ statuses.Done → ⊥)
+    → IsStopOf words.Format status
+format_stop status ends other = grind arith
 
 -- ---- the counts of failed calls
 
 module _ (disk : Disk) (source : SourceMemory) (sink : SinkMemory) (after : Ended)
     (outside : KeepsOutside after.status (meaning disk) (meaning after.disk) (source_state source)
     (source_state after.source) (sink_state sink) (sink_state after.sink)) where
-  disk_by : (status : Status) → after.status ≡ status
+  pub disk_by : (status : Status) → after.status ≡ status
       → (meaning after.disk).faults ≡ disk_faults_by status (meaning disk).faults
   disk_by status e = subst (λ (s : Status). (meaning after.disk).faults ≡ disk_faults_by s (meaning disk).faults) e
       outside.disk_faults
@@ -83,12 +56,12 @@ module _ (disk : Disk) (source : SourceMemory) (sink : SinkMemory) (after : Ende
       → IsRun meaning source_state sink_state (outside_of disk source sink) after → Represents (bytes_of disk) t p
       → (after.status ≡ statuses.Done → ⊥) → StopsRuns disk (λ script. script ≡ source) sink after
   run_stops t p run represents other = record {
-    ends = run_cut after.status (way (λ status ends. ends) t p disk source sink after run represents) other;
+    ends = stop_of words.Run after.status (way (λ status ends. ends) t p disk source sink after run represents) other;
     disk_fault = disk_by statuses.DiskFault;
     sink_fault = sink_by statuses.SinkFault;
     source_fault = λ e. (source, refl, source_by statuses.SourceFault e);
     too_long = λ e.
-        let many = (run.limit refl).too_long e in (
+        let many = (run.keeps refl).too_long e in (
           source,
           refl,
           omega (
@@ -103,7 +76,7 @@ module _ (disk : Disk) (source : SourceMemory) (sink : SinkMemory) (after : Ende
   pub format_stops : (p : Parameters) → IsFormat meaning p (outside_of disk source sink) after
       → (after.status ≡ statuses.Done → ⊥) → StopsFormat p disk after
   format_stops p format other = record {
-    ends = format_cut after.status format.ends other;
+    ends = format_stop after.status format.ends other;
     disk_fault = disk_by statuses.DiskFault;
     already_image = λ e. ((format.observed refl).already_image.only e).first_is;
     wrong_length = format.wrong_length.only;
@@ -113,7 +86,7 @@ module _ (disk : Disk) (source : SourceMemory) (sink : SinkMemory) (after : Ende
 pub unrun_stops : (disk : Disk) (IsScript : SourceMemory → Type 0) (sink : SinkMemory) (ended : Ended)
     → ended.status ≡ statuses.NoMemory → StopsRuns disk IsScript sink ended
 unrun_stops disk IsScript sink ended is = record {
-  ends = inr (inr (inr (inr is)));
+  ends = subst (IsStopOf words.Run) (sym is) refl;
   disk_fault = λ e. absurd (cc);
   sink_fault = λ e. absurd (cc);
   source_fault = λ e. absurd (cc);

@@ -1,13 +1,10 @@
 -- An image that was upgraded is the one that is made with version 2: from what an upgrade and makings promise.
-use Rattle.std.proofs.Common.{◌≡◌, ◌⊎◌, inl, inr, ℕ, Bool, true, false, ◌&&◌, nat_lt, cond, List, [], ◌∷◌, ◌++◌, length}
-use Rattle.std.proofs.Common.{map, Option, Some, None, Result, Ok, Err, codes, refl, sym, ap, ◌∙◌, subst}
+use Rattle.std.proofs.Common.{◌≡◌, ℕ, Bool, true, false, ◌&&◌, nat_lt, cond, List, [], ◌∷◌, ◌++◌, length}
+use Rattle.std.proofs.Common.{map, Option, Some, None, Result, Ok, Err, codes, refl, sym, ap, ◌∙◌, subst, arith}
 use Rattle.std.specs.List.{flat_map, AllByRecursion}
-use Rattle.std.specs.Option.{option_map}
-use Rattle.std.proofs.lemmas.Bool.{false≢true}
 use Rattle.store_model.specs.declared.draw_kind.DrawKind.{DrawKind}
 use Rattle.store_model.specs.declared.refusal.Refusal.{Refusal}
 use Rattle.store_model.specs.declared.refusal.Refusal.TheVariants as refusals
-use Rattle.store_model.specs.declared.version.Version.{Version}
 use Rattle.store_model.specs.declared.version.Version.TheVariants.{One, Two}
 use Rattle.store_model.specs.Parameters.{Parameters, with_version, slots_limit, height_limit}
 use Rattle.store_model.specs.Trees.{Tree, empty_tree}
@@ -18,69 +15,49 @@ use Rattle.store_model.specs.Commands.Reply.{Refused}
 use Rattle.store_model.specs.Steps.{Step, step, step_by, step_to, refusal_of, next_tree, may_fill, is_on_attributes}
 use Rattle.store_model.specs.Steps.{lacks_version, reply_of}
 use Rattle.store_model.proofs.TreesLemmasSteps.{step_of_version, step_by_refusal}
-use Rattle.store_model.specs.Grammar.{parse, ◌>>=◌}
+use Rattle.store_model.specs.Grammar.{parse}
 use Rattle.store_model.specs.Scripts.{lines, line_limit, answer, answer_by, answers_by, state_by, replies_by, tree_by}
 use Rattle.store_model.specs.Scripts.{replies, tree_after}
-use Rattle.store_model.specs.Words.{Request, request_of, number_in, kind_of_word, seed_of_word, version_of_word}
-use Rattle.store_model.specs.Words.Request.{Format, Run, Session, Check, Scrub, Wipe, Upgrade, Dump, Load, Big}
+use Rattle.store_model.specs.Words.{request_of, number_in, kind_of_word, seed_of_word, version_of_word}
+use Rattle.store_model.specs.Words.Request.{Format}
 use Rattle.image_check.specs.Standing.{IsFitting}
 use Rattle.script_lines.specs.Memory.{SourceMemory, SinkMemory, source_state, sink_state}
-use Rattle.image_subcommands.specs.declared.status.Status.{Status}
 use Rattle.image_subcommands.specs.declared.status.Status.TheVariants as statuses
 use Rattle.image_subcommands.specs.Outside.{outside_of, KeepsOutside}
-use Rattle.image_subcommands.specs.Statuses.{Subcommand as words, IsStatusOf, disk_faults_by}
+use Rattle.image_subcommands.specs.Statuses.{Subcommand as words, IsStopOf}
 use Rattle.store_top.specs.UpgradeCall.{IsUpgrade}
 use Rattle.script_claims.specs.Machines.{Disk, Ended, HasImage, meaning}
 use Rattle.script_claims.specs.Makings.{made_tree}
 use Rattle.script_claims.specs.Upgrades.{HaveSameArguments, AreSameScripts, IsNotFull, IsServed, IsUpgradedAsMade}
 use Rattle.script_claims.specs.Upgrades.{StopsUpgrade}
 use Rattle.script_claims.proofs.MakingLemmas.{represented}
-use Rattle.script_claims.proofs.RunWays.{image_of}
+use Rattle.script_claims.proofs.RequestedParameters.{format_by}
+use Rattle.script_claims.proofs.RunWays.{found, image_of, stop_of}
+use Rattle.script_claims.proofs.StoppingLemmas.{disk_by}
 
 -- ---- words
 
--- what words ask for that made version 1, under version 2
-abbrev upgraded_request : Request → Request
-upgraded_request (Format p) = Format (with_version p Two)
-upgraded_request Run = Run
-upgraded_request Session = Session
-upgraded_request Check = Check
-upgraded_request Scrub = Scrub
-upgraded_request Wipe = Wipe
-upgraded_request Upgrade = Upgrade
-upgraded_request Dump = Dump
-upgraded_request Load = Load
-upgraded_request (Big number count) = Big number count
-
-abbrev format_by : Version → Option ℕ → Option ℕ → Option DrawKind → Option (List ℕ) → Option Request
-format_by version slots height kind seed = slots >>= λ n. height >>= λ h. kind >>= λ k. seed >>=
-    λ s. Some (Format (record { slots = n; height = h; kind = k; seed = s; version = version }))
-
-asks_two : (slots height : Option ℕ) (kind : Option DrawKind) (seed : Option (List ℕ))
-    → format_by Two slots height kind seed ≡ option_map upgraded_request (format_by One slots height kind seed)
-asks_two None height kind seed = refl
-asks_two (Some n) None kind seed = refl
-asks_two (Some n) (Some h) None seed = refl
-asks_two (Some n) (Some h) (Some k) None = refl
-asks_two (Some n) (Some h) (Some k) (Some s) = refl
+asks_two : (slots height : Option ℕ) (kind : Option DrawKind) (seed : Option (List ℕ)) (p : Parameters)
+    → format_by (Some One) slots height kind seed ≡ Some (Format p)
+    → format_by (Some Two) slots height kind seed ≡ Some (Format (with_version p Two))
+asks_two slots height kind seed p e = grind arith
 
 -- with the same arguments `format2` asks for what `format` does, with version 2
-format2_asks : (arguments : List (List ℕ)) → request_of (codes "format2" ∷ arguments)
-    ≡ option_map upgraded_request (request_of (codes "format" ∷ arguments))
+format2_asks : (arguments : List (List ℕ)) (p : Parameters) → request_of (codes "format" ∷ arguments) ≡ Some (Format p)
+    → request_of (codes "format2" ∷ arguments) ≡ Some (Format (with_version p Two))
 unfolding request_of version_of_word
-format2_asks [] = refl
-format2_asks (a ∷ []) = refl
-format2_asks (a ∷ b ∷ []) = refl
-format2_asks (a ∷ b ∷ c ∷ []) = refl
-format2_asks (a ∷ b ∷ c ∷ d ∷ []) = asks_two (number_in 1 slots_limit a) (number_in 1 height_limit b)
-    (kind_of_word c) (seed_of_word d)
-format2_asks (a ∷ b ∷ c ∷ d ∷ e ∷ rest) = refl
+format2_asks [] p e = absurd (cc)
+format2_asks (a ∷ []) p e = absurd (cc)
+format2_asks (a ∷ b ∷ []) p e = absurd (cc)
+format2_asks (a ∷ b ∷ c ∷ []) p e = absurd (cc)
+format2_asks (a ∷ b ∷ c ∷ d ∷ []) p e = asks_two (number_in 1 slots_limit a) (number_in 1 height_limit b)
+    (kind_of_word c) (seed_of_word d) p e
+format2_asks (a ∷ b ∷ c ∷ d ∷ x ∷ rest) p e = absurd (cc)
 
 pub asks_for_two : (format format2 : List (List ℕ)) (p : Parameters) → HaveSameArguments format format2
     → request_of format ≡ Some (Format p) → request_of format2 ≡ Some (Format (with_version p Two))
 asks_for_two format format2 p same asked =
-    ap request_of same.format2_is ∙ format2_asks same.arguments
-    ∙ ap (option_map upgraded_request) (ap request_of (sym same.format_is) ∙ asked)
+    ap request_of same.format2_is ∙ format2_asks same.arguments p (ap request_of (sym same.format_is) ∙ asked)
 
 -- ---- trees
 
@@ -161,28 +138,9 @@ pub upgraded : (t : Tree) (p : Parameters) (disk : Disk) (source : SourceMemory)
     → IsFitting t p → HasImage disk t p → after.status ≡ statuses.Done → HasImage after.disk t (with_version p Two)
 upgraded t p disk source sink after upgrade is image e =
     image_of after.disk t (with_version p Two)
-    (((upgrade.observed refl).upgrades t p (represented disk t p is image)).upgraded e)
+    (((upgrade.observed refl).does t p (represented disk t p is image)).upgraded e)
 
 -- one that did not was stopped by its disk, or by want of memory
-upgrade_cut : (status : Status) → IsStatusOf words.Upgrade status → (status ≡ statuses.NotImage → ⊥)
-    → (status ≡ statuses.Damaged → ⊥) → (status ≡ statuses.Done → ⊥)
-    → (status ≡ statuses.DiskFault) ⊎ (status ≡ statuses.NoMemory)
-upgrade_cut statuses.Done ends image whole other = absurd (other refl)
-upgrade_cut statuses.Usage ends image whole other = absurd (false≢true ends)
-upgrade_cut statuses.SourceFault ends image whole other = absurd (false≢true ends)
-upgrade_cut statuses.SinkFault ends image whole other = absurd (false≢true ends)
-upgrade_cut statuses.DiskFault ends image whole other = inl refl
-upgrade_cut statuses.TooLong ends image whole other = absurd (false≢true ends)
-upgrade_cut statuses.NotImage ends image whole other = absurd (image refl)
-upgrade_cut statuses.Damaged ends image whole other = absurd (whole refl)
-upgrade_cut statuses.NoMemory ends image whole other = inr refl
-upgrade_cut statuses.AlreadyImage ends image whole other = absurd (false≢true ends)
-upgrade_cut statuses.WrongLength ends image whole other = absurd (false≢true ends)
-upgrade_cut statuses.Unequal ends image whole other = absurd (false≢true ends)
-upgrade_cut statuses.NotEmpty ends image whole other = absurd (false≢true ends)
-upgrade_cut statuses.BadListing ends image whole other = absurd (false≢true ends)
-upgrade_cut statuses.TooFull ends image whole other = absurd (false≢true ends)
-
 pub upgrade_stops : (t : Tree) (p : Parameters) (disk : Disk) (source : SourceMemory) (sink : SinkMemory)
     (after : Ended) → IsUpgrade meaning (outside_of disk source sink) after
     → KeepsOutside after.status (meaning disk) (meaning after.disk) (source_state source) (source_state after.source)
@@ -190,18 +148,18 @@ pub upgrade_stops : (t : Tree) (p : Parameters) (disk : Disk) (source : SourceMe
     → IsFitting t p → HasImage disk t p → (after.status ≡ statuses.Done → ⊥) → StopsUpgrade disk after
 upgrade_stops t p disk source sink after upgrade outside is image other =
     let on_disk = upgrade.observed refl in
-    let represents = represented disk t p is image in
     record {
-      ends = upgrade_cut after.status upgrade.ends
-          (λ e. on_disk.not_image.only e refl p (record { names = represents.names; length_is = represents.length_is }))
-          (λ e. (on_disk.damaged.only e).no_tree refl t p represents) other;
-      disk_fault = λ e. subst (λ (s : Status). (meaning after.disk).faults ≡ disk_faults_by s (meaning disk).faults) e
-          outside.disk_faults;
+      ends = stop_of words.Upgrade after.status (found words.Upgrade t p disk after.status upgrade.ends
+          on_disk.not_image on_disk.damaged (represented disk t p is image)) other;
+      disk_fault = disk_by disk source sink after outside statuses.DiskFault;
     }
 
 -- there was no memory for the word `upgrade`
 pub unupgraded_stops : (disk : Disk) (ended : Ended) → ended.status ≡ statuses.NoMemory → StopsUpgrade disk ended
-unupgraded_stops disk ended is = record { ends = inr is; disk_fault = λ e. absurd (cc) }
+unupgraded_stops disk ended is = record {
+  ends = subst (IsStopOf words.Upgrade) (sym is) refl;
+  disk_fault = λ e. absurd (cc);
+}
 
 -- the lines of scripts are those of their bytes
 lines_of : (scripts : List SourceMemory) → flat_map (λ (script : SourceMemory). lines script.left) scripts

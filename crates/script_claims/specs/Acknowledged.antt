@@ -8,20 +8,10 @@ use Rattle.store_model.specs.Images.{Represents}
 use Rattle.store_model.specs.Scripts.{lines, script_limit}
 use Rattle.script_lines.specs.Lines.{ended_lines}
 use Rattle.script_lines.specs.Memory.{SourceMemory, SinkMemory}
-use Rattle.image_subcommands.specs.declared.status.Status.{Status}
 use Rattle.image_subcommands.specs.declared.status.Status.TheVariants as statuses
+use Rattle.image_subcommands.specs.Statuses.{Subcommand as words, IsEndOf, IsBetweenLines, IsCutShort}
 use Rattle.script_claims.specs.Crashes.{WroteReplies}
 use Rattle.script_claims.specs.Machines.{Ended, HasImage, bytes_of}
-
--- the call ended with status 0, 3, 4 or 6: it is done, the source or the sink failed, or the script is too long
-abbrev pub EndsWhole : Status → Type 0
-EndsWhole status = (status ≡ statuses.Done)
-    ⊎ ((status ≡ statuses.SourceFault) ⊎ ((status ≡ statuses.SinkFault) ⊎ (status ≡ statuses.TooLong)))
-
--- the call ended with status 3, 5, 6 or 9: the source or the disk failed, the script is too long, or memory ran out
-abbrev pub EndsEarly : Status → Type 0
-EndsEarly status = (status ≡ statuses.SourceFault)
-    ⊎ ((status ≡ statuses.DiskFault) ⊎ ((status ≡ statuses.TooLong) ⊎ (status ≡ statuses.NoMemory)))
 
 -- these bytes were taken from the front of the script, and those lines carried out that an LF ended among them
 pub record TookLines (before after : List ℕ) (done : ℕ) : Type 0 where
@@ -32,10 +22,10 @@ pub record TookLines (before after : List ℕ) (done : ℕ) : Type 0 where
 -- A call over an image of the tree t, which carried out `done` lines.
 pub record KeepsAcknowledged (texts : List (List ℕ)) (trees : ℕ → Tree) (t : Tree) (p : Parameters)
     (source : SourceMemory) (sink : SinkMemory) (after : Ended) : Type 0 where
-  -- it ends in no other way
-  pub ends : EndsWhole after.status ⊎ EndsEarly after.status
+  -- it ends with 0, 3, 4, 5, 6 or 9
+  pub ends : IsEndOf words.Run after.status
   -- with 0, 3, 4 and 6 the image is that of the tree after just those lines, and a crash leaves just that
-  pub image : EndsWhole after.status → HasImage after.disk (trees after.done) p
+  pub image : IsBetweenLines after.status → HasImage after.disk (trees after.done) p
   -- with 5 the bytes are an image of that tree, or of the one after the next line
   pub disk_fault : after.status ≡ statuses.DiskFault → Represents (bytes_of after.disk) (trees after.done) p
       ⊎ Represents (bytes_of after.disk) (trees (after.done + 1)) p
@@ -56,5 +46,5 @@ pub record KeepsAcknowledged (texts : List (List ℕ)) (trees : ℕ → Tree) (t
   pub counted : after.done ≤ length (lines source.left)
   -- with 3, 5, 6 and 9 just their replies were written, and with 4 those of all but the last, of which there may be a
   -- part
-  pub replied : EndsEarly after.status → after.sink.written ≡ sink.written ++ concat (take after.done texts)
+  pub replied : IsCutShort after.status → after.sink.written ≡ sink.written ++ concat (take after.done texts)
   pub in_part : after.status ≡ statuses.SinkFault → WroteReplies (after.done - 1) texts sink.written after.sink.written

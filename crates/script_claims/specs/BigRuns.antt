@@ -11,7 +11,7 @@ use Rattle.store_model.specs.Grammar.{parse}
 use Rattle.store_model.specs.Scripts.{lines, line_limit, replies, tree_after}
 use Rattle.script_lines.specs.Memory.{SourceMemory, SinkMemory}
 use Rattle.image_subcommands.specs.declared.status.Status.TheVariants as statuses
-use Rattle.store_top.specs.Generations.{count_answered, count_refused}
+use Rattle.script_runs.specs.Generations.{count_answered, count_refused}
 use Rattle.script_claims.specs.declared.big.TwoRuns.{TwoRuns}
 use Rattle.script_claims.specs.Machines.{bytes_of}
 

@@ -7,8 +7,8 @@ use Rattle.store_model.specs.Images.{first_byte}
 use Rattle.store_model.specs.Scripts.{lines, tree_after, script_limit}
 use Rattle.store_base.specs.Counts.{raised}
 use Rattle.script_lines.specs.Memory.{SourceMemory, SinkMemory}
-use Rattle.image_subcommands.specs.declared.status.Status.{Status}
 use Rattle.image_subcommands.specs.declared.status.Status.TheVariants as statuses
+use Rattle.image_subcommands.specs.Statuses.{Subcommand as words, IsStopOf}
 use Rattle.script_claims.specs.Machines.{Disk, Ended, HasImage, bytes_of, meaning}
 
 -- the tree that the lines of scripts leave of the empty one, one script after another
@@ -27,16 +27,11 @@ pub record SparesCounts (disk : Disk) (sink : SinkMemory) (after : Ended) : Type
   pub disk_faults : (meaning after.disk).faults ≡ (meaning disk).faults
   pub sink_faults : after.sink.faults ≡ sink.faults
 
--- the run ended with status 3, 4, 5, 6 or 9: a call failed, the script was too long, or memory ran out
-abbrev pub IsRunCut : Status → Type 0
-IsRunCut status = (status ≡ statuses.SourceFault)
-    ⊎ ((status ≡ statuses.SinkFault)
-    ⊎ ((status ≡ statuses.DiskFault) ⊎ ((status ≡ statuses.TooLong) ⊎ (status ≡ statuses.NoMemory))))
-
 -- Scripts were run on the image of a tree, and this run, of one of these, was the first that did not end with 0: a
 -- call failed, the script was too long, or memory ran out.
 pub record StopsRuns (disk : Disk) (IsScript : SourceMemory → Type 0) (sink : SinkMemory) (ended : Ended) : Type 0 where
-  pub ends : IsRunCut ended.status
+  -- it ended with 3, 4, 5, 6 or 9
+  pub ends : IsStopOf words.Run ended.status
   -- with 5 one call of the disk failed since the first run, with 4 one of the sink, and with 3 one of the script
   pub disk_fault : ended.status ≡ statuses.DiskFault → (meaning ended.disk).faults ≡ raised (meaning disk).faults
   pub sink_fault : ended.status ≡ statuses.SinkFault → ended.sink.faults ≡ raised sink.faults
@@ -49,9 +44,8 @@ pub record StopsRuns (disk : Disk) (IsScript : SourceMemory → Type 0) (sink : 
 -- A disk was not formatted: it has another length than the image, or begins as one, a call of it failed, or memory
 -- ran out.
 pub record StopsFormat (p : Parameters) (disk : Disk) (ended : Ended) : Type 0 where
-  pub ends : (ended.status ≡ statuses.DiskFault)
-      ⊎ ((ended.status ≡ statuses.NoMemory)
-      ⊎ ((ended.status ≡ statuses.AlreadyImage) ⊎ (ended.status ≡ statuses.WrongLength)))
+  -- it ended with 5, 9, 10 or 11
+  pub ends : IsStopOf words.Format ended.status
   pub disk_fault : ended.status ≡ statuses.DiskFault → (meaning ended.disk).faults ≡ raised (meaning disk).faults
   pub already_image : ended.status ≡ statuses.AlreadyImage → slice_index (bytes_of disk) 0 ≡ first_byte
   pub wrong_length : ended.status ≡ statuses.WrongLength → (meaning disk).size ≢ image_len p.slots

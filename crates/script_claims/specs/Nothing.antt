@@ -6,17 +6,13 @@ use Rattle.store_model.specs.Images.{Represents}
 use Rattle.gate_journal.specs.Disks.{IsOnlySynced}
 use Rattle.gate_journal.specs.Headers.{IsImageWith}
 use Rattle.script_lines.specs.Memory.{SourceMemory, SinkMemory}
-use Rattle.image_subcommands.specs.declared.status.Status.{Status}
 use Rattle.image_subcommands.specs.declared.status.Status.TheVariants as statuses
+use Rattle.image_subcommands.specs.Statuses.{IsRefusedImage, MayComeFirst}
 use Rattle.script_claims.specs.Machines.{Disk, Ended, MayLeave, MightHaveLeft, bytes_of, meaning}
 
 -- the bytes are the image of no tree
 abbrev pub HasNoTree : List ℕ → Type 0
 HasNoTree bytes = (t : Tree) (p : Parameters) → Represents bytes t p → ⊥
-
--- the call ended with status 5 or 9: the disk failed, or memory ran out
-abbrev pub ComesFirst : Status → Type 0
-ComesFirst status = (status ≡ statuses.DiskFault) ⊎ (status ≡ statuses.NoMemory)
 
 -- The call did nothing: it carried out nothing, took nothing and wrote nothing, neither to the sink nor to the disk.
 pub record DoesNothing (disk : Disk) (source : SourceMemory) (sink : SinkMemory) (after : Ended) : Type 0 where
@@ -30,10 +26,10 @@ pub record DoesNothing (disk : Disk) (source : SourceMemory) (sink : SinkMemory)
   -- it ends with 7 where no header names parameters of that length, and with 8 where one does, or before that with 5
   -- or 9
   pub no_image : ((p : Parameters) → IsImageWith (bytes_of disk) p → ⊥)
-      → (after.status ≡ statuses.NotImage) ⊎ ComesFirst after.status
+      → (after.status ≡ statuses.NotImage) ⊎ MayComeFirst after.status
   pub damaged : (p : Parameters) → IsImageWith (bytes_of disk) p
-      → (after.status ≡ statuses.Damaged) ⊎ ComesFirst after.status
+      → (after.status ≡ statuses.Damaged) ⊎ MayComeFirst after.status
   -- and in no other way, each only where this holds
-  pub ends : (after.status ≡ statuses.NotImage) ⊎ ((after.status ≡ statuses.Damaged) ⊎ ComesFirst after.status)
+  pub ends : IsRefusedImage after.status ⊎ MayComeFirst after.status
   pub seven : after.status ≡ statuses.NotImage → (p : Parameters) → IsImageWith (bytes_of disk) p → ⊥
   pub eight : after.status ≡ statuses.Damaged → (p : Parameters) × IsImageWith (bytes_of disk) p

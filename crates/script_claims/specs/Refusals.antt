@@ -12,7 +12,7 @@ use Rattle.store_model.specs.Steps.{lacks_version, refusal_of, next_tree}
 use Rattle.store_model.specs.Grammar.{parse}
 use Rattle.store_model.specs.Scripts.{lines, line_limit, answer}
 use Rattle.script_lines.specs.Memory.{SinkMemory}
-use Rattle.store_top.specs.Generations.{is_refused}
+use Rattle.script_runs.specs.Generations.{is_refused}
 use Rattle.script_claims.specs.Machines.{Disk, Ended, bytes_of, meaning}
 
 -- a reply that refuses

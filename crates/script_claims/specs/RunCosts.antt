@@ -7,8 +7,8 @@ use Rattle.gate_journal.specs.Costs.{opening_writes, opening_syncs, MadeAtMost}
 use Rattle.gate_journal.specs.Disks.{IsOnlySynced}
 use Rattle.image_subcommands.specs.declared.status.Status.{Status}
 use Rattle.image_subcommands.specs.declared.status.Status.TheVariants as statuses
-use Rattle.store_top.specs.Costs.{run_writes, run_syncs}
-use Rattle.script_claims.specs.Acknowledged.{EndsWhole}
+use Rattle.image_subcommands.specs.Statuses.{IsBetweenLines}
+use Rattle.script_runs.specs.Costs.{run_writes, run_syncs}
 use Rattle.script_claims.specs.Machines.{Disk, bytes_of, meaning}
 
 -- So many pieces of work with these trees were carried out, and the call ended so. Opening the image takes the writes
@@ -16,7 +16,7 @@ use Rattle.script_claims.specs.Machines.{Disk, bytes_of, meaning}
 pub record CostsJust (status : Status) (done : ℕ) (trees : ℕ → Tree) (p : Parameters)
     (before after : Disk) : Type 0 where
   -- with 0, 3, 4 and 6 it made just those, and with 9 too, or nothing but one sync at most
-  pub exact : EndsWhole status → Made (opening_writes p.slots (bytes_of before) + run_writes p trees done)
+  pub exact : IsBetweenLines status → Made (opening_writes p.slots (bytes_of before) + run_writes p trees done)
       (opening_syncs p.slots (bytes_of before) + run_syncs p trees done) (meaning before) (meaning after)
   pub no_memory : status ≡ statuses.NoMemory
       → Made (opening_writes p.slots (bytes_of before) + run_writes p trees done)

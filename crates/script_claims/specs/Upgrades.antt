@@ -1,5 +1,5 @@
 -- Images that are upgraded.
-use Rattle.std.specs.Prelude.{◌≡◌, ◌⊎◌, ℕ, List, ◌∷◌, codes, map}
+use Rattle.std.specs.Prelude.{◌≡◌, ℕ, List, ◌∷◌, codes, map}
 use Rattle.std.specs.List.{flat_map, AllByRecursion}
 use Rattle.store_model.specs.declared.refusal.Refusal.TheVariants as refusals
 use Rattle.store_model.specs.declared.version.Version.TheVariants.{Two}
@@ -11,6 +11,7 @@ use Rattle.store_model.specs.Scripts.{lines, replies}
 use Rattle.store_base.specs.Counts.{raised}
 use Rattle.script_lines.specs.Memory.{SourceMemory}
 use Rattle.image_subcommands.specs.declared.status.Status.TheVariants as statuses
+use Rattle.image_subcommands.specs.Statuses.{Subcommand as words, IsStopOf}
 use Rattle.script_claims.specs.Machines.{Disk, Ended, HasImage, bytes_of, meaning}
 use Rattle.script_claims.specs.Makings.{made_tree}
 
@@ -52,7 +53,8 @@ pub record IsUpgradedAsMade (scripts : List SourceMemory) (p : Parameters) (upgr
 
 -- The image of a tree was not upgraded: a call of its disk failed, or memory ran out.
 pub record StopsUpgrade (disk : Disk) (ended : Ended) : Type 0 where
-  pub ends : (ended.status ≡ statuses.DiskFault) ⊎ (ended.status ≡ statuses.NoMemory)
+  -- it ended with 5 or 9
+  pub ends : IsStopOf words.Upgrade ended.status
   pub disk_fault : ended.status ≡ statuses.DiskFault → (meaning ended.disk).faults ≡ raised (meaning disk).faults
 
 -- The image of the tree of the scripts was made, and was not upgraded.

@@ -5,7 +5,7 @@ ghost use Rattle.store_model.specs.Parameters.{Parameters};
 ghost use Rattle.store_model.specs.Trees.{Tree};
 ghost use Rattle.store_model.specs.Images.{Represents};
 ghost use Rattle.disk_model.specs.DiskState.{MayLeaveOnly};
-ghost use Rattle.store_top.specs.Runs.{run_texts, run_trees};
+ghost use Rattle.script_runs.specs.Runs.{run_texts, run_trees};
 ghost use Rattle.script_claims.specs.Acknowledged.{KeepsAcknowledged};
 ghost use Rattle.script_claims.specs.Machines.{bytes_of, meaning};
 

@@ -8,7 +8,7 @@ ghost use Rattle.store_model.specs.Scripts.{lines};
 ghost use Rattle.store_model.specs.Words.{request_of};
 ghost use Rattle.store_model.specs.Words.Request.{Big};
 ghost use Rattle.disk_model.specs.DiskState.{MayLeaveOnly};
-ghost use Rattle.store_top.specs.Generations.{first_commands};
+ghost use Rattle.script_runs.specs.Generations.{first_commands};
 ghost use Rattle.script_claims.specs.Answered.{AnswersScript};
 ghost use Rattle.script_claims.specs.BigRuns.{AskFor, IsRunOfCommands};
 ghost use Rattle.script_claims.specs.Commands.{KeepsCommands};

@@ -7,7 +7,7 @@ ghost use Rattle.store_model.specs.Images.{Represents};
 ghost use Rattle.store_model.specs.Scripts.{lines, tree_after};
 ghost use Rattle.store_model.specs.Words.{request_of};
 ghost use Rattle.store_model.specs.Words.Request.{Big};
-ghost use Rattle.store_top.specs.Generations.{generated_trees};
+ghost use Rattle.script_runs.specs.Generations.{generated_trees};
 ghost use Rattle.script_claims.specs.RunCosts.{CostsJust};
 ghost use Rattle.script_claims.specs.Machines.{bytes_of};
 

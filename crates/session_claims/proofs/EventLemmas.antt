@@ -10,7 +10,7 @@ use Rattle.script_lines.specs.Sessions.{SessionCall}
 use Rattle.session_core.specs.Machine.{Machine, World, Event, happens}
 use Rattle.session_core.specs.Machine.Event.{Acts}
 use Rattle.session_core.specs.Traces.{Entry, world_after, trace}
-use Rattle.store_top.specs.SessionRuns.{no_sessions, session_reading, answer_call, answer_session_line}
+use Rattle.script_runs.specs.SessionRuns.{no_sessions, session_reading, answer_call, answer_session_line}
 use Rattle.session_claims.specs.Groups.{event_of, session_events}
 
 -- ---- worlds

@@ -13,67 +13,47 @@ use Rattle.store_model.specs.Steps.{step}
 use Rattle.store_model.specs.Scripts.{lines, state_by}
 use Rattle.script_lines.specs.Sessions.{SessionCall, SessionAnswer, session_text}
 use Rattle.script_lines.specs.Sessions.SessionCall.{Begin, Ask, Stage, Commit, Leave}
-use Rattle.script_lines.specs.Sessions.SessionAnswer.{Began, Replied, Done, Conflicting, RefusedAt, NoSession, Crowded}
-use Rattle.script_lines.specs.Sessions.SessionAnswer.{Many, NotRead}
-use Rattle.store_core.specs.Groups.{refused_in}
+use Rattle.script_lines.specs.Sessions.SessionAnswer.{Replied, Done, NoSession, Many}
+use Rattle.staged_tree.specs.Groups.{refused_in}
 use Rattle.session_core.specs.Machine.{Session, Machine, World, Event, session_at, many_of, note_limit}
 use Rattle.session_core.specs.Machine.{first_difference, commit_answer, answered, happens}
 use Rattle.session_core.specs.Machine.Event.{Acts}
 use Rattle.session_core.specs.Traces.{Entry, IsSerial, world_after, trace, committed_by, groups, staged_since}
-use Rattle.store_top.specs.SessionRuns.{no_sessions, session_reading, session_machines, answer_call}
-use Rattle.store_top.specs.SessionRuns.{answer_session_line}
-use Rattle.store_top.proofs.SessionLemmas.{answer_text_next}
+use Rattle.script_runs.specs.SessionRuns.{no_sessions, session_reading, session_machines, answer_call}
+use Rattle.script_runs.specs.SessionRuns.{answer_session_line}
+use Rattle.script_runs.proofs.SessionLemmas.{answer_text_next}
 use Rattle.session_claims.specs.Groups.{event_of, session_events, session_trace, session_groups, committed_tree}
 use Rattle.session_claims.specs.Groups.{IsAnswered, CommitsWhole}
 use Rattle.session_claims.proofs.EventLemmas.{world_of_lines, entry_of, events_split}
 
 -- ---- the answer to a commit
 
--- what a commit may be answered
-abbrev AnswersCommit : SessionAnswer → Type 0
-AnswersCommit (Began number) = ⊥
-AnswersCommit (Replied reply) = ⊥
-AnswersCommit Done = Unit {0}
-AnswersCommit (Conflicting k was now) = Unit {0}
-AnswersCommit (RefusedAt k refusal) = Unit {0}
-AnswersCommit NoSession = Unit {0}
-AnswersCommit Crowded = ⊥
-AnswersCommit Many = ⊥
-AnswersCommit (NotRead refusal) = ⊥
-
-commit_answers : (p : Parameters) (t : Tree) (session : Session) → AnswersCommit (commit_answer p t session)
-commit_answers p t session = by (first_difference p t session.asked) (refused_in p t session.staged) refl refl
-  where
-    by : (found : Option (ℕ × Reply × Reply)) (stopped : Option (ℕ × Refusal))
-        → first_difference p t session.asked ≡ found → refused_in p t session.staged ≡ stopped
-        → AnswersCommit (commit_answer p t session)
-    by None None e f = rw (e, f) tt
-    by None (Some stopped) e f = rw (e, f) tt
-    by (Some found) stopped e f = rw e tt
-
-answers_commit : (p : Parameters) (m : Machine) (id : ℕ) → AnswersCommit (answered p m (Commit id))
-answers_commit p m id = by (session_at m.places id) refl
-  where
-    by : (place : Option Session) → session_at m.places id ≡ place → AnswersCommit (answered p m (Commit id))
-    by None e = rw e tt
-    by (Some session) e = rw e (commit_answers p m.tree session)
-
--- of its answers the text of one is `ok`
 first_byte_of : List ℕ → ℕ
 first_byte_of [] = 0
 first_byte_of (byte ∷ bytes) = byte
 
-told_ok : (answer : SessionAnswer) → AnswersCommit answer → session_text answer ≡ line (codes "ok") → answer ≡ Done
+-- of its answers the text of one is `ok`
+told_of : (p : Parameters) (t : Tree) (session : Session) → session_text (commit_answer p t session) ≡ line (codes "ok")
+    → commit_answer p t session ≡ Done
 unfolding session_text
-told_ok (Began number) may is = absurd may
-told_ok (Replied reply) may is = absurd may
-told_ok Done may is = refl
-told_ok (Conflicting k was now) may is = let other = ap first_byte_of is in absurd (cc)
-told_ok (RefusedAt k refusal) may is = let other = ap first_byte_of is in absurd (cc)
-told_ok NoSession may is = let other = ap first_byte_of is in absurd (cc)
-told_ok Crowded may is = absurd may
-told_ok Many may is = absurd may
-told_ok (NotRead refusal) may is = absurd may
+told_of p t session = by (first_difference p t session.asked) (refused_in p t session.staged) refl refl
+  where
+    by : (found : Option (ℕ × Reply × Reply)) (stopped : Option (ℕ × Refusal))
+        → first_difference p t session.asked ≡ found → refused_in p t session.staged ≡ stopped
+        → session_text (commit_answer p t session) ≡ line (codes "ok") → commit_answer p t session ≡ Done
+    by None None e f = rw (e, f) λ is. refl
+    by None (Some stopped) e f = rw (e, f) λ is. let other = ap first_byte_of is in absurd (cc)
+    by (Some found) stopped e f = rw e λ is. let other = ap first_byte_of is in absurd (cc)
+
+told_ok : (p : Parameters) (m : Machine) (id : ℕ) → session_text (answered p m (Commit id)) ≡ line (codes "ok")
+    → answered p m (Commit id) ≡ Done
+unfolding session_text
+told_ok p m id = by (session_at m.places id) refl
+  where
+    by : (place : Option Session) → session_at m.places id ≡ place
+        → session_text (answered p m (Commit id)) ≡ line (codes "ok") → answered p m (Commit id) ≡ Done
+    by None e = rw e λ is. let other = ap first_byte_of is in absurd (cc)
+    by (Some session) e = rw e (told_of p m.tree session)
 
 -- ---- the answer to a question
 
@@ -92,6 +72,11 @@ answers_question : (p : Parameters) (m : Machine) (id : ℕ) (question : Command
     → (answered p m (Ask id question) ≡ Replied (step m.tree question p).reply)
     ⊎ ((answered p m (Ask id question) ≡ NoSession) ⊎ (answered p m (Ask id question) ≡ Many))
 answers_question p m id question = one_of_three (session_at m.places id) (step m.tree question p).reply
+
+-- an answer to a commit is that it was done, or commits nothing
+done_or_not : (id : ℕ) (answer : SessionAnswer)
+    → (answer ≡ Done) ⊎ (committed_by (Acts (Commit id), Some answer) ≡ None)
+done_or_not id answer = grind arith
 
 -- ---- a line in the trace
 
@@ -126,7 +111,7 @@ module _ (t : Tree) (p : Parameters) (script : List ℕ) (before : List (List �
   -- the text `ok` of a commit tells that it was committed
   pub committed : (id : ℕ) → session_reading text ≡ Ok (Commit id)
       → IsAnswered t p script (length before) (line (codes "ok")) → answered p machine (Commit id) ≡ Done
-  committed id spells is_ok = told_ok (answered p machine (Commit id)) (answers_commit p machine id)
+  committed id spells is_ok = told_ok p machine id
       (ap head_of (sym (answer_text (Commit id) spells) ∙ is_ok))
 
   -- so its entry is in the trace of any front of the script that has the line
@@ -172,33 +157,28 @@ module _ (t : Tree) (p : Parameters) (script : List ℕ) (before : List (List �
   commits_or_not (Ok (Ask id question)) spells = inl (append-nil _)
   commits_or_not (Ok (Stage id change)) spells = inl (append-nil _)
   commits_or_not (Ok (Leave id)) spells = inl (append-nil _)
-  commits_or_not (Ok (Commit id)) spells = by (answered p machine (Commit id)) refl
+  commits_or_not (Ok (Commit id)) spells =
+      by (answered p machine (Commit id)) refl (done_or_not id (answered p machine (Commit id)))
     where
-      -- the groups behind this answer
-      groups_by : Option SessionAnswer → List (List Command)
-      groups_by told = session_groups t before p
-          ++ option_map_or (λ number. staged_since number (session_trace t before p) ∷ [])
-          (committed_by (Acts (Commit id), told)) []
+      -- the groups behind it, by what it commits
+      groups_of : Option ℕ → List (List Command)
+      groups_of number = session_groups t before p
+          ++ option_map_or (λ n. staged_since n (session_trace t before p) ∷ []) number []
 
       by : (answer : SessionAnswer) → answered p machine (Commit id) ≡ answer
+          → (answer ≡ Done) ⊎ (committed_by (Acts (Commit id), Some answer) ≡ None)
           → (groups_behind (Ok (Commit id)) ≡ session_groups t before p)
           ⊎ ((number : ℕ) × (session_reading text ≡ Ok (Commit number))
           × IsAnswered t p script (length before) (line (codes "ok")))
-      by Done e =
-          inr (
-            id,
-            spells,
-            subst (λ (answer : SessionAnswer).
-                IsAnswered t p script (length before) (session_text answer)) e (answer_text (Commit id) spells),
-          )
-      by (Began number) e = inl (ap groups_by (happens_here (Commit id) ∙ ap Some e) ∙ append-nil _)
-      by (Replied reply) e = inl (ap groups_by (happens_here (Commit id) ∙ ap Some e) ∙ append-nil _)
-      by (Conflicting k was now) e = inl (ap groups_by (happens_here (Commit id) ∙ ap Some e) ∙ append-nil _)
-      by (RefusedAt k refusal) e = inl (ap groups_by (happens_here (Commit id) ∙ ap Some e) ∙ append-nil _)
-      by NoSession e = inl (ap groups_by (happens_here (Commit id) ∙ ap Some e) ∙ append-nil _)
-      by Crowded e = inl (ap groups_by (happens_here (Commit id) ∙ ap Some e) ∙ append-nil _)
-      by Many e = inl (ap groups_by (happens_here (Commit id) ∙ ap Some e) ∙ append-nil _)
-      by (NotRead refusal) e = inl (ap groups_by (happens_here (Commit id) ∙ ap Some e) ∙ append-nil _)
+      by answer e (inl done) = inr (
+        id,
+        spells,
+        subst (λ (told : SessionAnswer).
+            IsAnswered t p script (length before) (session_text told)) (e ∙ done) (answer_text (Commit id) spells),
+      )
+      by answer e (inr none) =
+          inl (ap (λ (told : Option SessionAnswer). groups_of (committed_by (Acts (Commit id), told)))
+          (happens_here (Commit id) ∙ ap Some e) ∙ ap groups_of none ∙ append-nil _)
 
   pub commits_only : (session_groups t (before ++ text ∷ []) p ≡ session_groups t before p)
       ⊎ ((id : ℕ) × (session_reading text ≡ Ok (Commit id)) × IsAnswered t p script (length before) (line (codes "ok")))

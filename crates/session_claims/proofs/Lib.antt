@@ -1,4 +1,3 @@
-pub mod AnsweredLemmas
 pub mod EventLemmas
 pub mod GroupLemmas
 pub mod StagedLemmas

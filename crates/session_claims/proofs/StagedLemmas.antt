@@ -1,6 +1,6 @@
 -- What lines stage are commands that a script can ask for, and so are the changes of the groups that they commit.
 use Rattle.std.proofs.Common.{◌≡◌, ℕ, List, [], ◌∷◌, ◌++◌, length, Bool, true, false, cond, Option, Some, None, IfSome}
-use Rattle.std.proofs.Common.{Result, Ok, Err, refl, ap, ◌∙◌, subst, codes, nat_eq, nat_lt, ◌==◌}
+use Rattle.std.proofs.Common.{Result, Ok, Err, refl, ap, ◌∙◌, subst, codes, nat_lt, ◌==◌, arith}
 use Rattle.std.specs.List.{AllByRecursion, slice_split, onto_first}
 use Rattle.std.specs.Option.{option_map_or}
 use Rattle.store_model.specs.declared.refusal.Refusal.{Refusal}
@@ -17,13 +17,11 @@ use Rattle.script_lines.specs.Parsing.{parts_of}
 use Rattle.script_lines.specs.Sessions.{SessionCall, SessionAnswer, is_change, is_question, command_that}
 use Rattle.script_lines.specs.Sessions.{call_of_fields, call_has_short_paths, checked_call, parse_session}
 use Rattle.script_lines.specs.Sessions.SessionCall.{Begin, Ask, Stage, Commit, Leave}
-use Rattle.script_lines.specs.Sessions.SessionAnswer.{Began, Replied, Done, Conflicting, RefusedAt, NoSession, Crowded}
-use Rattle.script_lines.specs.Sessions.SessionAnswer.{Many, NotRead}
 use Rattle.session_core.specs.Machine.{Event, happens}
-use Rattle.session_core.specs.Machine.Event.{Acts, Fails, Breaks, Crashes, Attaches}
+use Rattle.session_core.specs.Machine.Event.{Acts}
 use Rattle.session_core.specs.Traces.{Entry, world_after, trace, begins, staged_by, staged_since, committed_by, groups}
 use Rattle.session_core.specs.Traces.{changes_of}
-use Rattle.store_top.specs.SessionRuns.{session_reading}
+use Rattle.script_runs.specs.SessionRuns.{session_reading}
 use Rattle.session_claims.specs.Groups.{event_of, session_events, session_groups}
 
 -- ---- the grammar
@@ -152,15 +150,7 @@ staged_by_line text id c = by (nat_lt line_limit (length text))
 
 -- an event stages nothing but commands that a script can ask for
 abbrev IsMeant : Event → Type 0
-IsMeant (Acts Begin) = Unit {0}
-IsMeant (Acts (Ask id question)) = Unit {0}
-IsMeant (Acts (Stage id change)) = IsCommand change
-IsMeant (Acts (Commit id)) = Unit {0}
-IsMeant (Acts (Leave id)) = Unit {0}
-IsMeant (Fails call) = Unit {0}
-IsMeant (Breaks call landed) = Unit {0}
-IsMeant Crashes = Unit {0}
-IsMeant Attaches = Unit {0}
+IsMeant event = (id : ℕ) (change : Command) → event ≡ Acts (Stage id change) → IsCommand change
 
 all_of_both : {X : Type 0} (P : X → Type 0) (xs ys : List X) → AllByRecursion P xs → AllByRecursion P ys
     → AllByRecursion P (xs ++ ys)
@@ -170,11 +160,11 @@ all_of_both P (x ∷ xs) ys f g = (f.0, all_of_both P xs ys f.1 g)
 event_meant : (text : List ℕ) (reading : Result SessionCall Refusal) → session_reading text ≡ reading
     → AllByRecursion IsMeant (event_of reading)
 event_meant text (Err refusal) e = tt
-event_meant text (Ok Begin) e = (tt, tt)
-event_meant text (Ok (Ask id question)) e = (tt, tt)
-event_meant text (Ok (Stage id change)) e = (staged_by_line text id change e, tt)
-event_meant text (Ok (Commit id)) e = (tt, tt)
-event_meant text (Ok (Leave id)) e = (tt, tt)
+event_meant text (Ok call) e = (
+  (λ id change is. let same : call ≡ Stage id change = cc
+      in staged_by_line text id change (e ∙ ap Ok same)),
+  tt,
+)
 
 events_meant : (texts : List (List ℕ)) → AllByRecursion IsMeant (session_events texts)
 unfolding session_events
@@ -187,30 +177,9 @@ events_meant (text ∷ texts) = all_of_both IsMeant (session_events texts) (even
 abbrev pub AreCommands : List Command → Type 0
 AreCommands changes = AllByRecursion IsCommand changes
 
-one_staged : (b : Bool) (change : Command) → IsCommand change → AreCommands (cond b (change ∷ []) [])
-one_staged true change is = (is, tt)
-one_staged false change is = tt
-
 entry_stages : (id : ℕ) (event : Event) (answer : Option SessionAnswer) → IsMeant event
     → AreCommands (staged_by id (event, answer))
-entry_stages id (Acts Begin) answer is = tt
-entry_stages id (Acts (Ask number question)) answer is = tt
-entry_stages id (Acts (Stage number change)) None is = tt
-entry_stages id (Acts (Stage number change)) (Some (Began began)) is = tt
-entry_stages id (Acts (Stage number change)) (Some (Replied reply)) is = tt
-entry_stages id (Acts (Stage number change)) (Some Done) is = one_staged (nat_eq number id) change is
-entry_stages id (Acts (Stage number change)) (Some (Conflicting k was now)) is = tt
-entry_stages id (Acts (Stage number change)) (Some (RefusedAt k refusal)) is = tt
-entry_stages id (Acts (Stage number change)) (Some NoSession) is = tt
-entry_stages id (Acts (Stage number change)) (Some Crowded) is = tt
-entry_stages id (Acts (Stage number change)) (Some Many) is = tt
-entry_stages id (Acts (Stage number change)) (Some (NotRead refusal)) is = tt
-entry_stages id (Acts (Commit number)) answer is = tt
-entry_stages id (Acts (Leave number)) answer is = tt
-entry_stages id (Fails call) answer is = tt
-entry_stages id (Breaks call landed) answer is = tt
-entry_stages id Crashes answer is = tt
-entry_stages id Attaches answer is = tt
+entry_stages id event answer is = grind arith
 
 staged_or_none : (b : Bool) (changes : List Command) → AreCommands changes → AreCommands (cond b [] changes)
 staged_or_none true changes is = tt

@@ -10,10 +10,10 @@ use Rattle.store_model.specs.Scripts.{lines, state_by, tree_by}
 use Rattle.store_model.proofs.ImagesLemmas.{Represents-layout}
 use Rattle.store_model.proofs.TreesLemmasSteps.{IsTree-step}
 use Rattle.store_model.proofs.TreesLemmasFits.{Fits-step}
-use Rattle.store_core.specs.Groups.{step_under}
+use Rattle.staged_tree.specs.Groups.{step_under}
 use Rattle.session_core.specs.Machine.{World, Event}
 use Rattle.session_core.specs.Traces.{IsSerial, changes_of}
-use Rattle.store_top.specs.SessionRuns.{session_trees}
+use Rattle.script_runs.specs.SessionRuns.{session_trees}
 use Rattle.session_claims.specs.Groups.{session_events, session_groups, committed_trees}
 use Rattle.session_claims.proofs.EventLemmas.{world_of_lines}
 use Rattle.session_claims.proofs.StagedLemmas.{AreCommands, session_changes}

@@ -10,11 +10,11 @@ use Rattle.store_model.specs.Steps.{step}
 use Rattle.store_model.specs.Scripts.{lines, replies_by}
 use Rattle.script_lines.specs.Sessions.{SessionCall}
 use Rattle.script_lines.specs.Sessions.SessionCall.{Ask, Commit}
-use Rattle.store_core.specs.Groups.{step_under, refusal_in}
+use Rattle.staged_tree.specs.Groups.{step_under, refusal_in}
 use Rattle.session_core.specs.Machine.{Note, Event}
 use Rattle.session_core.specs.Machine.Event.{Acts}
 use Rattle.session_core.specs.Traces.{Entry, trace, groups, changes_of, serial_tree, staged_since, asked_since}
-use Rattle.store_top.specs.SessionRuns.{session_reading, session_texts}
+use Rattle.script_runs.specs.SessionRuns.{session_reading, session_texts}
 
 -- what a line does to sessions: the call that it spells, and else nothing
 abbrev pub event_of : Result SessionCall Refusal → List Event

@@ -5,7 +5,7 @@ ghost use Rattle.store_model.specs.Parameters.{Parameters};
 ghost use Rattle.store_model.specs.Trees.{Tree};
 ghost use Rattle.store_model.specs.Images.{Represents};
 ghost use Rattle.disk_model.specs.DiskState.{MayLeaveOnly};
-ghost use Rattle.store_top.specs.SessionRuns.{session_texts};
+ghost use Rattle.script_runs.specs.SessionRuns.{session_texts};
 ghost use Rattle.script_claims.specs.Acknowledged.{KeepsAcknowledged};
 ghost use Rattle.script_claims.specs.Machines.{meaning};
 ghost use Rattle.session_claims.specs.Groups.{committed_trees};

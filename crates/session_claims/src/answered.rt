@@ -1,11 +1,15 @@
 //! Sessions answer their script.
 
 ghost use Rattle.std.specs.Prelude.{IfOk};
+ghost use Rattle.std.specs.List.{concat};
 ghost use Rattle.store_model.specs.Parameters.{Parameters};
 ghost use Rattle.store_model.specs.Trees.{Tree};
 ghost use Rattle.store_model.specs.Images.{Represents};
+ghost use Rattle.store_model.specs.Scripts.{lines};
+ghost use Rattle.script_runs.specs.SessionRuns.{session_texts};
+ghost use Rattle.script_claims.specs.Answered.{AnswersWhole};
 ghost use Rattle.script_claims.specs.Machines.{bytes_of};
-ghost use Rattle.session_claims.specs.Answered.{AnswersCalls};
+ghost use Rattle.session_claims.specs.Groups.{committed_tree};
 
 use crate::hold::hold;
 use script_claims::{Disk, Ended};
@@ -25,7 +29,8 @@ pub fn a_session_is_answered(
     sink: MemSink,
 ) -> Result<Ended, NoMemory>
     ensures { (t : Tree) (p : Parameters) → Represents (bytes_of disk) t p
-        → IfOk result (AnswersCalls t p disk source sink) }
+        → IfOk result (AnswersWhole (concat (session_texts t source.left p))
+        (committed_tree t (lines source.left) p) p disk source sink) }
 {
     hold(alloc, disk, source, sink)
 }

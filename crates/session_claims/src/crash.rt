@@ -6,7 +6,7 @@ ghost use Rattle.store_model.specs.Trees.{Tree};
 ghost use Rattle.store_model.specs.Images.{Represents};
 ghost use Rattle.disk_model.specs.DiskState.{MayLeaveOnly};
 ghost use Rattle.disk_model.specs.Memory.{memory_state};
-ghost use Rattle.store_top.specs.SessionRuns.{session_texts};
+ghost use Rattle.script_runs.specs.SessionRuns.{session_texts};
 ghost use Rattle.script_claims.specs.Acknowledged.{KeepsAcknowledged};
 ghost use Rattle.script_claims.specs.Crashes.{LosesNothing};
 ghost use Rattle.session_claims.specs.Groups.{CommitsWhole, committed_trees};

@@ -6,8 +6,8 @@ ghost use Rattle.store_model.specs.Words.Request.{Session};
 ghost use Rattle.script_lines.specs.Memory.{source_state, sink_state};
 ghost use Rattle.image_subcommands.specs.Outside.{outside_of};
 ghost use Rattle.image_subcommands.specs.Statuses.{Subcommand as words};
-ghost use Rattle.store_top.specs.ScriptCall.{AnswersScript};
-ghost use Rattle.store_top.specs.SessionRuns.{session_texts};
+ghost use Rattle.script_runs.specs.ScriptCall.{AnswersScript};
+ghost use Rattle.script_runs.specs.SessionRuns.{session_texts};
 ghost use Rattle.script_claims.specs.Machines.{meaning};
 ghost use Rattle.session_claims.specs.Groups.{committed_trees};
 

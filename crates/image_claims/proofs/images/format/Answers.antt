@@ -1,15 +1,16 @@
-use Rattle.std.proofs.Common.{refl}
-use Rattle.image_subcommands.specs.Outside.{outside_of}
-use Rattle.script_claims.specs.Machines.{meaning}
-use Rattle.image_claims.proofs.Imaging.{format_exact, format_spares}
+use Rattle.image_claims.proofs.Imaging.{format_exact, format_cut_short, format_costs}
 use Rattle.image_claims.proofs.images.format.Goals as goal
 
 pub returns-clause-makes : goal.returns-clause-makes
-returns-clause-makes c p is = format_exact meaning p
-    (outside_of c.args.machine.disk c.args.machine.source c.args.machine.sink)
-    c.call.result (c.call.ensures.format p is) refl
+returns-clause-makes c p is = format_exact p c.args.machine c.call.result (c.call.ensures.performs _ is)
 
 pub returns-clause-spares : goal.returns-clause-spares
-returns-clause-spares c p is = format_spares meaning p
-    (outside_of c.args.machine.disk c.args.machine.source c.args.machine.sink)
-    c.call.result (c.call.ensures.format p is)
+returns-clause-spares c p is =
+    let made = c.call.ensures.performs _ is in
+    record { source_is = made.source; sink_is = made.sink; disk_is = made.no_memory }
+
+pub returns-clause-cut_short : goal.returns-clause-cut_short
+returns-clause-cut_short c p is = format_cut_short p c.args.machine c.call.result (c.call.ensures.performs _ is)
+
+pub returns-clause-costs : goal.returns-clause-costs
+returns-clause-costs c p is = format_costs p c.args.machine c.call.result (c.call.ensures.performs _ is)

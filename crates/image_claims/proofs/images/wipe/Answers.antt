@@ -1,19 +1,19 @@
-use Rattle.std.proofs.Common.{refl}
-use Rattle.image_subcommands.specs.Outside.{outside_of}
-use Rattle.script_claims.specs.Machines.{meaning}
-use Rattle.image_claims.proofs.Imaging.{wipe_exact, wipe_spares, wipe_of_nothing}
+use Rattle.image_claims.proofs.Imaging.{wipe_exact, wipe_cut_short, wipe_costs}
 use Rattle.image_claims.proofs.images.wipe.Goals as goal
 
 pub returns-clause-wipes : goal.returns-clause-wipes
-returns-clause-wipes c is = wipe_exact meaning
-    (outside_of c.args.machine.disk c.args.machine.source c.args.machine.sink)
-    c.call.result (c.call.ensures.wipe is) refl
+returns-clause-wipes c is = wipe_exact c.args.machine c.call.result (c.call.ensures.performs _ is)
 
 pub returns-clause-spares : goal.returns-clause-spares
-returns-clause-spares c is = wipe_spares meaning
-    (outside_of c.args.machine.disk c.args.machine.source c.args.machine.sink) c.call.result (c.call.ensures.wipe is)
+returns-clause-spares c is =
+    let wiped = c.call.ensures.performs _ is in
+    record { source_is = wiped.source; sink_is = wiped.sink; disk_is = wiped.no_memory }
 
 pub returns-clause-empty : goal.returns-clause-empty
-returns-clause-empty c is none = wipe_of_nothing meaning
-    (outside_of c.args.machine.disk c.args.machine.source c.args.machine.sink)
-    c.call.result (c.call.ensures.wipe is) none
+returns-clause-empty c is = (c.call.ensures.performs _ is).empty
+
+pub returns-clause-cut_short : goal.returns-clause-cut_short
+returns-clause-cut_short c is = wipe_cut_short c.args.machine c.call.result (c.call.ensures.performs _ is)
+
+pub returns-clause-costs : goal.returns-clause-costs
+returns-clause-costs c is = wipe_costs c.args.machine c.call.result (c.call.ensures.performs _ is)

@@ -1,6 +1,4 @@
-use Rattle.std.proofs.Common.{◌∙◌}
-use Rattle.image_claims.proofs.EndingLemmas.{numbers}
 use Rattle.image_claims.proofs.table.number_of.Goals as goal
 
 pub returns : goal.returns
-returns c = c.code.ensures ∙ numbers c.args.status
+returns c = c.code.ensures

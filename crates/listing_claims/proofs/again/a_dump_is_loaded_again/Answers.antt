@@ -8,4 +8,4 @@ returns c t p is empty none =
       load = c.in_ok-load.load;
     })
     c.every_dump_is_a_script.ensures.short c.every_dump_is_a_script.ensures.listing is none c.in_ok-source.ensures
-    (c.in_ok-dump.ensures t p is) (c.in_ok-load.ensures.loads _ p empty)
+    (c.in_ok-dump.ensures.says t p is) (c.in_ok-load.ensures.loads _ p empty)

@@ -14,7 +14,8 @@ returns-in-Ok-clause-image c t p is image =
     IfOk-weaker c.done.result _ _
     (λ after ok.
     subst (λ (ended : Ended). HasImage ended.disk (tree_after t (lines c.args.source.left) p) p) (sym ok.0)
-    ((answers_script t p c.args.disk c.args.source c.args.sink c.serve.result (c.serve.ensures.run c.in-Ok.ensures)
+    ((answers_script t p c.args.disk c.args.source c.args.sink c.serve.result
+    (c.serve.ensures.performs _ c.in-Ok.ensures)
     (represented c.args.disk t p is image)).image ok.1))
     c.done.ensures.ok
 
@@ -31,7 +32,7 @@ returns-in-Ok-clause-stops c t p is image =
     (λ after other.
     subst (StopsRuns c.args.disk (λ (script : SourceMemory). script ≡ c.args.source) c.args.sink) (sym other.0)
     (run_stops c.args.disk c.args.source c.args.sink c.serve.result c.serve.ensures.outside t p
-    (c.serve.ensures.run c.in-Ok.ensures) (represented c.args.disk t p is image) other.1))
+    (c.serve.ensures.performs _ c.in-Ok.ensures) (represented c.args.disk t p is image) other.1))
     c.done.ensures.ended
 
 pub returns-in-Err-clause-stops : goal.returns-in-Err-clause-stops

@@ -12,7 +12,8 @@ returns-in-Ok-clause-image c t p is image =
     IfOk-weaker c.done.result _ _
     (λ after ok.
     subst (λ (ended : Ended). HasImage ended.disk t (with_version p Two)) (sym ok.0)
-    (upgraded t p c.args.disk c.no_script.result c.args.sink c.serve.result (c.serve.ensures.upgrade c.in-Ok.ensures) is
+    (upgraded t p c.args.disk c.no_script.result c.args.sink c.serve.result
+    (c.serve.ensures.performs _ c.in-Ok.ensures) is
     image ok.1))
     c.done.ensures.ok
 
@@ -22,7 +23,7 @@ returns-in-Ok-clause-stops c t p is image =
     (λ after other.
     subst (StopsUpgrade c.args.disk) (sym other.0)
     (upgrade_stops t p c.args.disk c.no_script.result c.args.sink c.serve.result
-    (c.serve.ensures.upgrade c.in-Ok.ensures) c.serve.ensures.outside is image other.1))
+    (c.serve.ensures.performs _ c.in-Ok.ensures) c.serve.ensures.outside is image other.1))
     c.done.ensures.ended
 
 pub returns-in-Err-clause-stops : goal.returns-in-Err-clause-stops

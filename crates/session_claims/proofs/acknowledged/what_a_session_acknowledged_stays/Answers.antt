@@ -1,5 +1,5 @@
 use Rattle.std.proofs.lemmas.Result.{IfOk-weaker}
-use Rattle.store_top.proofs.SessionLemmas.{length-session_texts}
+use Rattle.script_runs.proofs.SessionLemmas.{length-session_texts}
 use Rattle.script_claims.proofs.RunWays.{ends_as_run}
 use Rattle.script_claims.proofs.AcknowledgedLemmas.{script_keeps_acknowledged}
 use Rattle.session_claims.proofs.acknowledged.what_a_session_acknowledged_stays.Goals as goal

@@ -2,11 +2,12 @@ use Rattle.std.proofs.Common.{sym, subst}
 use Rattle.store_model.specs.Images.{Represents}
 use Rattle.disk_model.specs.DiskState.{MayLeaveOnly}
 use Rattle.disk_model.specs.Memory.{Memory, memory_state}
-use Rattle.store_top.specs.SessionRuns.{session_texts}
-use Rattle.store_top.proofs.SessionLemmas.{length-session_texts}
+use Rattle.script_runs.specs.SessionRuns.{session_texts}
+use Rattle.script_runs.proofs.SessionLemmas.{length-session_texts}
+use Rattle.script_claims.specs.declared.crash.Crash.{Crash}
 use Rattle.script_claims.specs.Crashes.{LosesNothing}
 use Rattle.script_claims.specs.Machines.{bytes_of}
-use Rattle.script_claims.proofs.RunWays.{ends_as_run, read_is}
+use Rattle.script_claims.proofs.RunWays.{ends_as_run}
 use Rattle.script_claims.proofs.AcknowledgedLemmas.{script_keeps_acknowledged}
 use Rattle.script_claims.proofs.CrashLemmas.{script_loses_nothing}
 use Rattle.session_claims.specs.Groups.{committed_trees}
@@ -25,18 +26,13 @@ returns-clause-next c t p only =
     let below = c.new-failing.ensures.inner in
     let leaves = subst (λ (disk : Memory). MayLeaveOnly (memory_state disk) (λ image. Represents image t p))
     (sym below) only in
-    subst (λ (disk : Memory). LosesNothing (session_texts t c.args.source.left p)
-    (committed_trees t c.args.source.left p) p disk c.args.sink c.args.left.now (record {
-      first = c.in_ok-first.first;
-      next = c.in_ok-next.next;
-    })) below
-    (script_loses_nothing ends_as_run t p c.new-failing.result c.args.source c.args.sink c.args.left.now (record {
-      first = c.in_ok-first.first;
-      next = c.in_ok-next.next;
-    })
+    let script = c.args.source.left in
+    let crash : Crash = record { first = c.in_ok-first.first; next = c.in_ok-next.next } in
+    subst (λ (disk : Memory). LosesNothing (session_texts t script p) (committed_trees t script p) p disk c.args.sink
+    c.args.left.now crash) below
+    (script_loses_nothing ends_as_run t p c.new-failing.result c.args.source c.args.sink c.args.left.now crash
     c.in_ok-first.ensures leaves
-    (committed_laid_out t p (bytes_of c.new-failing.result)
-    c.args.source.left (read_is c.new-failing.result (λ image. Represents image t p) leaves))
+    (committed_laid_out t p (bytes_of c.new-failing.result) c.args.source.left)
     (λ u is. c.in_ok-next.ensures u p is))
 
 pub returns-clause-groups : goal.returns-clause-groups

@@ -4,8 +4,8 @@ use Rattle.store_model.specs.Trees.{Tree}
 use Rattle.script_lines.specs.Memory.{source_state, sink_state}
 use Rattle.image_subcommands.specs.Outside.{outside_of}
 use Rattle.image_subcommands.specs.Statuses.{Subcommand as words}
-use Rattle.store_top.specs.ScriptCall.{AnswersScript}
-use Rattle.store_top.specs.SessionRuns.{session_texts}
+use Rattle.script_runs.specs.ScriptCall.{AnswersScript}
+use Rattle.script_runs.specs.SessionRuns.{session_texts}
 use Rattle.script_claims.specs.Machines.{meaning}
 use Rattle.session_claims.proofs.TreeLemmas.{same_trees}
 use Rattle.session_claims.proofs.hold.hold.Goals as goal
@@ -15,4 +15,4 @@ returns c =
     subst (λ (trees : Tree → List ℕ → Parameters → ℕ → Tree).
     AnswersScript words.Session session_texts trees meaning source_state sink_state
     (outside_of c.args.disk c.args.source c.args.sink) c.serve.result)
-    (same_trees c.every_history_is_serial.ensures.law) (c.serve.ensures.session c.in_ok-words.ensures)
+    (same_trees c.every_history_is_serial.ensures.law) (c.serve.ensures.performs _ c.in_ok-words.ensures)
