@@ -153,23 +153,6 @@ pub not_same : (xs ys : List ℕ) → xs ≢ ys → same_bytes xs ys ≡ false
 not_same xs ys other = ⊎_elim (λ yes. absurd (other ((bytes_decides xs ys).0 yes))) (λ no. no)
     (cases_Bool (same_bytes xs ys))
 
--- another single word than these asks for nothing
-pub other_single : (w : List ℕ) → w ≢ codes "run" → w ≢ codes "session" → w ≢ codes "check" → w ≢ codes "scrub"
-    → w ≢ codes "wipe" → w ≢ codes "upgrade"
-    → w ≢ codes "dump" → w ≢ codes "load" → request_of (w ∷ []) ≡ None
-unfolding request_of
-other_single w run session check scrub wipe upgrade dump load =
-    rw (
-      not_same w (codes "run") run,
-      not_same w (codes "session") session,
-      not_same w (codes "check") check,
-      not_same w (codes "scrub") scrub,
-      not_same w (codes "wipe") wipe,
-      not_same w (codes "upgrade") upgrade,
-      not_same w (codes "dump") dump,
-      not_same w (codes "load") load,
-    ) refl
-
 seed_right : (w : List ℕ) → eqb (length w) 64 ≡ true → seed_of_word w ≡ ok_value (decode_of w)
 unfolding seed_of_word
 seed_right w h = ap (λ b. cond b (ok_value (decode_of w)) None) h

@@ -1,35 +1,25 @@
 -- A line that asks for something is taken by `clap`.
-use Rattle.std.proofs.Common.{◌≡◌, ◌∙◌, true, cond, List, [], ◌∷◌, Option, Some, None, IfSome, refl, sym, ap, subst}
-use Rattle.std.proofs.Common.{codes, arith, ⊎_elim, inl, inr, ◌⊎◌}
-use Rattle.std.specs.Cmp.Lexicographic.{bytes_decides}
-use Rattle.std.proofs.lemmas.Bool.{cases_Bool, le-leb}
+use Rattle.std.proofs.Common.{◌≡◌, ◌∙◌, true, List, [], ◌∷◌, Option, Some, None, IfSome, refl, sym, ap, subst}
+use Rattle.std.proofs.Common.{codes, arith, ⊎_elim}
+use Rattle.std.proofs.lemmas.Bool.{le-leb}
 use Rattle.clap.specs.Simple.{App, HasMatchesOf, is_simple, subcommand_of, subcommand_rows_of}
 use Rattle.clap.specs.Takes.{takes}
 use Rattle.clap.specs.Walk.{Text}
 use Rattle.clap.specs.declared.builder.value_parser.ValueParser.{ValueParser}
 use Rattle.clap.specs.declared.parser.matches.ArgMatches.{ArgMatches}
 use Rattle.store_model.specs.declared.version.Version.{Version}
-use Rattle.store_model.specs.declared.version.Version.TheVariants.{One, Two}
-use Rattle.store_model.specs.Lists.{same_bytes}
-use Rattle.store_model.specs.Grammar.{◌>>=◌, number_limit, number_of, on_word}
+use Rattle.store_model.specs.Grammar.{◌>>=◌, number_limit, number_of}
 use Rattle.store_model.specs.Parameters.{slots_limit, height_limit}
 use Rattle.store_model.specs.Words.{Request, commands_limit, kind_of_word, number_in, request_of, seed_of_word}
 use Rattle.store_model.specs.Words.{version_of_word}
-use Rattle.store_model.specs.Words.Request.{Format, Run, Session, Check, Scrub, Wipe, Upgrade, Dump, Load, Big}
+use Rattle.store_model.specs.Words.Request.{Format, Big}
 use Rattle.store_model.proofs.ListsLemmas.{first_true}
 use Rattle.command_line.specs.Line.{HoldsLine, IsLine, TakesDraws, format_word}
 use Rattle.command_line.proofs.LineLemmas.{some_same}
-use Rattle.command_line.proofs.TakenLines.{IsTaken, run_taken, session_taken, check_taken, scrub_taken, wipe_taken}
-use Rattle.command_line.proofs.TakenLines.{upgrade_taken, dump_taken, load_taken, big_taken, format_taken}
+use Rattle.command_line.proofs.SingleWords.{by_word, nothing}
+use Rattle.command_line.proofs.TakenLines.{IsTaken, single_word_taken, big_taken, format_taken}
 use Rattle.command_line.proofs.ValueLemmas.{draw_names, draw_passes, draw_plain, number_limited, number_plain}
 use Rattle.command_line.proofs.ValueLemmas.{number_passes, range_passes, range_plain, seed_plain}
-
--- where one of two words was found, it is the first, or the other was found
-by_word : {A : Type 0} (word name : Text) (here other : Option A) (x : A) → on_word word name here other ≡ Some x
-    → ((word ≡ name) × (here ≡ Some x)) ⊎ (other ≡ Some x)
-by_word word name here other x e =
-    ⊎_elim (λ yes. inl ((bytes_decides word name).0 yes, subst (λ b. cond b here other ≡ Some x) yes e))
-    (λ no. inr (subst (λ b. cond b here other ≡ Some x) no e)) (cases_Bool (same_bytes word name))
 
 -- a value that comes of another, which is there then
 record Comes {A B : Type 0} (from : Option A) (f : A → Option B) (y : B) : Type 0 where
@@ -41,9 +31,6 @@ comes : {A B : Type 0} (from : Option A) (f : A → Option B) (y : B) → (from 
 comes None f y e = absurd (cc)
 comes (Some x) f y e = record { value = x; there = refl; then = e }
 
-nothing : {A B : Type 0} (x : A) → ◌≡◌ {A = Option A} None (Some x) → B
-nothing x e = absurd (cc)
-
 -- a word that makes images of a version is the one for it
 word_of_version : (word : Text) (version : Version) → version_of_word word ≡ Some version → word ≡ format_word version
 unfolding version_of_word
@@ -54,35 +41,6 @@ word_of_version word version e =
     (by_word word (codes "format") _ _ version e)
 
 module _ (draws : Version → ValueParser) (takes : (version : Version) → TakesDraws (draws version)) where
-  single : (word : Text) (request : Request)
-      → on_word word (codes "run") (Some Run)
-      (on_word word (codes "session") (Some Session)
-      (on_word word (codes "check") (Some Check)
-      (on_word word (codes "scrub") (Some Scrub)
-      (on_word word (codes "wipe") (Some Wipe) (on_word word (codes "upgrade") (Some Upgrade)
-      (on_word word (codes "dump") (Some Dump) (on_word word (codes "load") (Some Load) None))))))) ≡ Some request
-      → IsTaken draws (word ∷ [])
-  single word request e =
-      let taken = λ (name : Text) (is : word ≡ name) (so : IsTaken draws (name ∷ [])).
-      subst (λ w. IsTaken draws (w ∷ [])) (sym is) so in
-      ⊎_elim (λ run. taken (codes "run") run.0 (run_taken draws))
-      (λ not_run. ⊎_elim (λ session. taken (codes "session") session.0 (session_taken draws))
-      (λ not_session. ⊎_elim (λ check. taken (codes "check") check.0 (check_taken draws))
-      (λ not_check. ⊎_elim (λ scrub. taken (codes "scrub") scrub.0 (scrub_taken draws))
-      (λ not_scrub. ⊎_elim (λ wipe. taken (codes "wipe") wipe.0 (wipe_taken draws))
-      (λ not_wipe. ⊎_elim (λ upgrade. taken (codes "upgrade") upgrade.0 (upgrade_taken draws))
-      (λ not_upgrade. ⊎_elim (λ dump. taken (codes "dump") dump.0 (dump_taken draws))
-      (λ not_dump. ⊎_elim (λ load. taken (codes "load") load.0 (load_taken draws))
-      (λ none. nothing request none)
-      (by_word word (codes "load") _ _ request not_dump))
-      (by_word word (codes "dump") _ _ request not_upgrade))
-      (by_word word (codes "upgrade") _ _ request not_wipe))
-      (by_word word (codes "wipe") _ _ request not_scrub))
-      (by_word word (codes "scrub") _ _ request not_check))
-      (by_word word (codes "check") _ _ request not_session))
-      (by_word word (codes "session") _ _ request not_run))
-      (by_word word (codes "run") _ _ request e)
-
   big : (number count : Text) (request : Request)
       → (number_of number >>= λ n. number_in 1 commands_limit count >>= λ k. Some (Big n k)) ≡ Some request
       → IsTaken draws (codes "big" ∷ number ∷ count ∷ [])
@@ -116,7 +74,7 @@ module _ (draws : Version → ValueParser) (takes : (version : Version) → Take
   pub request_taken : (line : List Text) (request : Request) → request_of line ≡ Some request → IsTaken draws line
   unfolding request_of
   request_taken [] request e = nothing request e
-  request_taken (w ∷ []) request e = single w request e
+  request_taken (w ∷ []) request e = single_word_taken draws w request e
   request_taken (w ∷ a ∷ []) request e = nothing request e
   request_taken (w ∷ a ∷ b ∷ []) request e =
       ⊎_elim (λ found. subst (λ (word : Text). IsTaken draws (word ∷ a ∷ b ∷ [])) (sym found.0)

@@ -1,5 +1,5 @@
 -- `clap` takes each well-formed line, and its matches hold the line.
-use Rattle.std.proofs.Common.{◌≡◌, ◌∙◌, true, false, ◌&&◌, List, [], ◌∷◌, map, Some, is_some, refl, ap, codes}
+use Rattle.std.proofs.Common.{◌≡◌, ◌∙◌, true, false, ◌&&◌, List, [], ◌∷◌, map, Some, is_some, refl, ap, codes, ⊎_elim}
 use Rattle.std.specs.Prelude.{find}
 use Rattle.std.specs.Str.{bytes_eq}
 use Rattle.clap.specs.Simple.{Shape, built, built_leaf, entered, inherited, label_of, marked_built, names_of, rows_at}
@@ -14,9 +14,10 @@ use Rattle.store_model.specs.declared.version.Version.{Version}
 use Rattle.store_model.specs.declared.version.Version.TheVariants.{One, Two}
 use Rattle.store_model.specs.Grammar.{number_limit}
 use Rattle.store_model.specs.Parameters.{slots_limit, height_limit}
-use Rattle.store_model.specs.Words.{commands_limit}
+use Rattle.store_model.specs.Words.{Request, commands_limit}
 use Rattle.command_line.specs.Line.{HoldsLine, arguments_of, big_subcommand, format_arguments, format_subcommand}
-use Rattle.command_line.specs.Line.{format_word, line_of, without_help}
+use Rattle.command_line.specs.Line.{format_word, line_of, singles, without_help}
+use Rattle.command_line.proofs.SingleWords.{asked_among, by_word, first_same, nothing, rest_same}
 use Rattle.command_line.proofs.WalkLemmas.{all_true, is_plain, walk_at, next_walk, plain_walked, passes_next}
 use Rattle.command_line.proofs.WalkLemmas.{passes_end, ends_well, level_by, stopped_at, stops, stopping_passes}
 
@@ -88,29 +89,26 @@ module _ (draws : Version → ValueParser) (name : Text)
     };
   }
 
-pub run_taken : (draws : Version → ValueParser) → IsTaken draws (codes "run" ∷ [])
-run_taken draws = single_taken draws (codes "run") refl refl refl refl
+-- Two functions that agree at each of these words agree at a word that asks for something by itself.
+agree : {A : Type 0} (f g : Text → A) (words : List (Text × Request)) (word : Text) (request : Request)
+    → map (λ single. f single.0) words ≡ map (λ single. g single.0) words
+    → asked_among words word ≡ Some request → f word ≡ g word
+agree f g [] word request same asks = nothing request asks
+agree f g (single ∷ words) word request same asks =
+    ⊎_elim (λ here. rw here.0 (first_same _ _ _ _ same))
+    (λ behind. agree f g words word request (rest_same _ _ _ _ same) behind)
+    (by_word word single.0 (Some single.1) (asked_among words word) request asks)
 
-pub session_taken : (draws : Version → ValueParser) → IsTaken draws (codes "session" ∷ [])
-session_taken draws = single_taken draws (codes "session") refl refl refl refl
-
-pub check_taken : (draws : Version → ValueParser) → IsTaken draws (codes "check" ∷ [])
-check_taken draws = single_taken draws (codes "check") refl refl refl refl
-
-pub scrub_taken : (draws : Version → ValueParser) → IsTaken draws (codes "scrub" ∷ [])
-scrub_taken draws = single_taken draws (codes "scrub") refl refl refl refl
-
-pub wipe_taken : (draws : Version → ValueParser) → IsTaken draws (codes "wipe" ∷ [])
-wipe_taken draws = single_taken draws (codes "wipe") refl refl refl refl
-
-pub upgrade_taken : (draws : Version → ValueParser) → IsTaken draws (codes "upgrade" ∷ [])
-upgrade_taken draws = single_taken draws (codes "upgrade") refl refl refl refl
-
-pub dump_taken : (draws : Version → ValueParser) → IsTaken draws (codes "dump" ∷ [])
-dump_taken draws = single_taken draws (codes "dump") refl refl refl refl
-
-pub load_taken : (draws : Version → ValueParser) → IsTaken draws (codes "load" ∷ [])
-load_taken draws = single_taken draws (codes "load") refl refl refl refl
+pub single_word_taken : (draws : Version → ValueParser) (word : Text) (request : Request)
+    → asked_among singles word ≡ Some request → IsTaken draws (word ∷ [])
+single_word_taken draws word request asks =
+    let app = built (line_of draws) in
+    single_taken draws word
+    (agree (λ name. subcommand_met (names_of app) idle name) Some singles word request refl asks)
+    (agree (λ name. bytes_eq name (codes "help")) (λ name. false) singles word request refl asks)
+    (agree (λ name. find (λ s. answers_to name (label_of s)) app.subs)
+    (λ name. Some (built_subcommand (without_help name []))) singles word request refl asks)
+    (agree arguments_of (λ name. []) singles word request refl asks)
 
 -- ---- `big`
 

@@ -1,20 +1,17 @@
 -- The command line as `clap` sees it: each subcommand with its arguments all required and of one value.
-use Rattle.std.specs.Prelude.{◌≡◌, List, [], ◌∷◌, true, false, map, codes, Option, Some, if◌then◌else◌}
+use Rattle.std.specs.Prelude.{◌≡◌, List, [], ◌∷◌, ◌++◌, true, false, map, codes, Option, Some, if◌then◌else◌}
 use Rattle.std.specs.Borrow.{Bor}
 use Rattle.std.specs.Str.{bytes_eq}
-use Rattle.clap.specs.Simple.{App, Shape, app_of, new_rule, new_shape}
+use Rattle.clap.specs.Simple.{App, Shape, new_rule, new_shape}
 use Rattle.clap.specs.Walk.{Row, Rule, Text, first_of}
-use Rattle.clap.specs.declared.builder.command.Command.{Command}
-use Rattle.clap.specs.declared.builder.command.Command.TheViews.{out-Command}
 use Rattle.clap.specs.declared.builder.value_parser.ValueParser.{ValueParser}
 use Rattle.clap.specs.declared.builder.value_parser.ValueParser.TheVariants as parsers
 use Rattle.store_model.specs.declared.version.Version.{Version}
 use Rattle.store_model.specs.declared.version.Version.TheVariants.{One, Two}
 use Rattle.store_model.specs.Grammar.{number_limit}
 use Rattle.store_model.specs.Parameters.{slots_limit, height_limit}
-use Rattle.store_model.specs.Words.{commands_limit}
-use Rattle.command_line.specs.declared.line.Subcommand.{Subcommand}
-use Rattle.command_line.specs.declared.line.Subcommand.TheVariants as subcommands
+use Rattle.store_model.specs.Words.{Request, commands_limit}
+use Rattle.store_model.specs.Words.Request.{Run, Session, Check, Scrub, Wipe, Upgrade, Dump, Load}
 
 -- an argument whose one value passes the parser
 abbrev pub argument : Text → ValueParser → Rule
@@ -41,13 +38,15 @@ big_subcommand = without_help (codes "big")
     (argument (codes "NUMBER") (parsers.Unsigned 0 number_limit)
     ∷ argument (codes "COUNT") (parsers.Unsigned 1 commands_limit) ∷ [])
 
+-- the words that ask for something by themselves, and what each asks for
+abbrev pub singles : List (Text × Request)
+singles = (codes "run", Run) ∷ (codes "session", Session) ∷ (codes "check", Check) ∷ (codes "scrub", Scrub)
+    ∷ (codes "wipe", Wipe) ∷ (codes "upgrade", Upgrade) ∷ (codes "dump", Dump) ∷ (codes "load", Load) ∷ []
+
 -- the subcommands, by the parser of each DRAW
 abbrev pub subcommands_of : (Version → ValueParser) → List Shape
-subcommands_of draws =
-    format_subcommand One (draws One) ∷ format_subcommand Two (draws Two) ∷ without_help (codes "run") []
-    ∷ without_help (codes "session") [] ∷ without_help (codes "check") []
-    ∷ without_help (codes "scrub") [] ∷ without_help (codes "wipe") [] ∷ without_help (codes "upgrade") []
-    ∷ without_help (codes "dump") [] ∷ without_help (codes "load") [] ∷ big_subcommand ∷ []
+subcommands_of draws = format_subcommand One (draws One) ∷ format_subcommand Two (draws Two)
+    ∷ map (λ single. without_help single.0 []) singles ++ big_subcommand ∷ []
 
 -- the command line with no subcommands: one is required, and the program's name is not among them
 abbrev pub without_subcommands : App
@@ -69,31 +68,6 @@ pub record TakesDraws (draws : ValueParser) : Type 0 where
   pub names : Bor (List (Bor Text))
   pub parser_is : draws ≡ parsers.Names names
   pub names_are : map (λ name. name.now) names.now ≡ codes "ruler" ∷ codes "sha256" ∷ []
-
--- the command is this subcommand, with no other below it
-pub record IsSubcommand (shape : Shape) (command : Command) : Type 0 where
-  pub subcommand_is : app_of command ≡ record { top = shape; subs = [] }
-  pub local : (out-Command command).has_globals ≡ false
-
--- the command is the subcommand that makes images of this version
-pub record IsFormatSubcommand (version : Version) (command : Command) : Type 0 where
-  pub draws : ValueParser
-  pub takes_draws : TakesDraws draws
-  pub subcommand : IsSubcommand (format_subcommand version draws) command
-
--- the command is that of a subcommand
-abbrev pub IsSubcommandOf : Subcommand → Command → Type 0
-IsSubcommandOf subcommands.Format = IsFormatSubcommand One
-IsSubcommandOf subcommands.Format2 = IsFormatSubcommand Two
-IsSubcommandOf subcommands.Run = IsSubcommand (without_help (codes "run") [])
-IsSubcommandOf subcommands.Session = IsSubcommand (without_help (codes "session") [])
-IsSubcommandOf subcommands.Check = IsSubcommand (without_help (codes "check") [])
-IsSubcommandOf subcommands.Scrub = IsSubcommand (without_help (codes "scrub") [])
-IsSubcommandOf subcommands.Wipe = IsSubcommand (without_help (codes "wipe") [])
-IsSubcommandOf subcommands.Upgrade = IsSubcommand (without_help (codes "upgrade") [])
-IsSubcommandOf subcommands.Dump = IsSubcommand (without_help (codes "dump") [])
-IsSubcommandOf subcommands.Load = IsSubcommand (without_help (codes "load") [])
-IsSubcommandOf subcommands.Big = IsSubcommand big_subcommand
 
 -- the command line is as it is defined here
 pub record IsLine (app : App) : Type 0 where

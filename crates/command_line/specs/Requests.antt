@@ -28,15 +28,8 @@ request_seen (own_requests.Big number count) = Big number count
 -- the parameters of a request, if it has some, are in range
 abbrev pub IsInRange : own.Request → Type 0
 IsInRange (own_requests.Format p) = IsParameters p
-IsInRange own_requests.Run = Unit {0}
-IsInRange own_requests.Session = Unit {0}
-IsInRange own_requests.Check = Unit {0}
-IsInRange own_requests.Scrub = Unit {0}
-IsInRange own_requests.Wipe = Unit {0}
-IsInRange own_requests.Upgrade = Unit {0}
-IsInRange own_requests.Dump = Unit {0}
-IsInRange own_requests.Load = Unit {0}
 IsInRange (own_requests.Big number count) = (1 ≤ count) × (count ≤ commands_limit)
+IsInRange _ = Unit {0}
 
 -- the words of a line that was read
 abbrev pub words_read : LineRead → List Text
@@ -48,15 +41,7 @@ words_read (lines.Single name) = name.now ∷ []
 -- the file that a request needs: one that is there, or for a format one of the image's length
 abbrev pub wanted_by : Request → Wanted
 wanted_by (Format p) = Fresh (image_len p.slots)
-wanted_by Run = Existing
-wanted_by Session = Existing
-wanted_by Check = Existing
-wanted_by Scrub = Existing
-wanted_by Wipe = Existing
-wanted_by Upgrade = Existing
-wanted_by Dump = Existing
-wanted_by Load = Existing
-wanted_by (Big number count) = Existing
+wanted_by _ = Existing
 
 abbrev pub wanted_of : Option Request → Wanted
 wanted_of None = Usage

@@ -45,15 +45,7 @@ impl Request {
     {
         match self {
             Request::Format(params) => Wanted::Fresh(image_len(params.slots())),
-            Request::Run
-            | Request::Session
-            | Request::Check
-            | Request::Scrub
-            | Request::Wipe
-            | Request::Upgrade
-            | Request::Dump
-            | Request::Load
-            | Request::Big(..) => Wanted::Existing,
+            _ => Wanted::Existing,
         }
     }
 
@@ -63,15 +55,7 @@ impl Request {
     {
         match self {
             Request::Check => Access::Reading,
-            Request::Format(_)
-            | Request::Run
-            | Request::Session
-            | Request::Scrub
-            | Request::Wipe
-            | Request::Upgrade
-            | Request::Dump
-            | Request::Load
-            | Request::Big(..) => Access::Writing,
+            _ => Access::Writing,
         }
     }
 }

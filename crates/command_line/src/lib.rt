@@ -10,7 +10,7 @@ mod request;
 mod words;
 
 pub use image_file::{Access, FileRequest, Wanted, wanted_file, wanted_len};
-pub use line::{MAX_COMMANDS, Subcommand, command, command_of};
+pub use line::{MAX_COMMANDS, command};
 pub use pair::pair_words;
 pub use request::Request;
 pub use words::Words;

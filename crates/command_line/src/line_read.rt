@@ -10,7 +10,8 @@ ghost use Rattle.store_model.specs.Words.{request_of};
 ghost use Rattle.command_line.specs.Line.{HoldsLine, arguments_of, format_arguments, format_word};
 ghost use Rattle.command_line.specs.Requests.{request_seen, words_read, IsInRange};
 
-use crate::request::{Request, big_request, format_request, single_request};
+use crate::line::single_request;
+use crate::request::{Request, big_request, format_request};
 use clap::ArgMatches;
 use store_model::Version;
 

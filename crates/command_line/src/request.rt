@@ -39,24 +39,6 @@ pub enum Request {
     Big(u32, u32),
 }
 
-/// What a subcommand with no arguments asks for, by its name.
-pub(crate) fn single_request(name: &str) -> Option<Request>
-    ensures value { option_map request_seen result ≡ request_of (name.now ∷ []) }
-    ensures valid { IfSome result IsInRange }
-{
-    match name {
-        "run" => Some(Request::Run),
-        "session" => Some(Request::Session),
-        "check" => Some(Request::Check),
-        "scrub" => Some(Request::Scrub),
-        "wipe" => Some(Request::Wipe),
-        "upgrade" => Some(Request::Upgrade),
-        "dump" => Some(Request::Dump),
-        "load" => Some(Request::Load),
-        _ => None,
-    }
-}
-
 /// What `format` or `format2` asks for, by the version of the images that it makes and by its arguments.
 pub(crate) fn format_request(
     version: Version,
