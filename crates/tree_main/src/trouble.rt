@@ -46,12 +46,12 @@ pub enum Trouble {
     /// A folder has more entries than an image can hold.
     #[error("the folder has too many entries for any image")]
     TooMany,
-    /// The image that tells how many slots a folder needs was not made or loaded. The status of `hstore` says why.
-    #[error("the slots were not counted, as by status {0} of hstore")]
-    NotCounted(u8),
+    /// What was given of a folder is no dump.
+    #[error("the slots were not counted")]
+    NotCounted,
     /// The tree of a folder needs more slots than any image has.
     #[error("it needs {0} slots, and no image has more than 65536")]
-    FitsNone(u64),
+    FitsNone(u32),
     /// A listing goes on with a line that is none of one. Its name, and which line.
     #[error("{0}: line {1} is none of a listing")]
     BadLine(String, u64),

@@ -2,9 +2,12 @@
 
 use clap::builder::ValueParser;
 use clap::{Arg, ArgAction, ArgMatches, Command, Error};
+use hex::FromHex;
 use host_files::Wanted;
+use script_lines::parse_number;
 use std::alloc::{AllocError, Global};
-use store_base::MAX_HEIGHT;
+use store_base::{MAX_HEIGHT, Params};
+use store_model::{DrawKind, Version};
 
 /// How a folder is packed, made or compared.
 #[derive(Clone, Copy)]
@@ -190,6 +193,20 @@ fn shape_of<'a>(given: &ArgMatches<'a>) -> Option<Shape<'a>> {
         draw: given.get_str("draw")?,
         seed: given.get_str("seed")?,
     })
+}
+
+/// The parameters that the words of a shape spell, for an image of version 2 with one slot; nothing where they spell
+/// none. How many pages a tree has does not depend on the slots.
+pub fn params_of(shape: Shape<'_>) -> Option<Params> {
+    let height = u8::try_from(parse_number(shape.height.as_bytes())?).ok()?;
+    let kind = match shape.draw {
+        "ruler" => DrawKind::Ruler,
+        "sha256" => DrawKind::Sha256,
+        _ => return None,
+    };
+    let seed = <[u8; 32] as FromHex>::from_hex(shape.seed).ok()?;
+    let params = Params::new(1, height, kind, seed).ok()?;
+    Some(params.with_version(Version::Two))
 }
 
 /// What the words of a subcommand ask for.
