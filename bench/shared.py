@@ -65,7 +65,7 @@ def measure(text, parts, rounds=15, **more):
     words = parser.parse_args()
     for name, default in options.items():
         if getattr(words, name) is None:
-            setattr(words, name, program_of(default) if default.endswith(("_main", "_bench")) else default)
+            setattr(words, name, program_of(default) if default.endswith("_main") else default)
     words.parts = words.parts or [part for part in parts if part != "older" or words.older]
     if not set(words.parts) <= set(parts) or ("older" in words.parts and not words.older):
         parser.error(f"the parts are {', '.join(parts)}; older with --older PROGRAM")
@@ -351,10 +351,11 @@ def into_database(bench, rows, at_once):
     return took
 
 
-def full_image(bench, asked, slots):
-    """An image with a page in each slot."""
-    timed([asked.bench, "image", str(slots)], sink=bench.path("full"))
-    return bench.path("full")
+def full_image(bench, slots):
+    """An image with a page in each slot: of ten directories each."""
+    image = bench.format("full", slots, height=1, draw="ruler")
+    bench.run(image, bench.write("listing", [f"make /{number:07}" for number in range(10 * slots)]), words=("load",))
+    return image
 
 
 def files_of(count_of, size):

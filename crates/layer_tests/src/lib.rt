@@ -1,13 +1,12 @@
-//! Tests of the lists, trees and scripts, up to `tree_commands`, over what these crates make public, and of the texts
-//! of all faults below the program.
+//! Tests of the layers below the store, over what their crates make public: the table, lists, trees, scripts, and the
+//! parts of a check.
 //!
-//! They hold what no clause says: lists of pages that come from outside, printed texts, counts of calls, and that a
-//! call succeeds where memory is ample, once at the size of the longest reply. A call that fails comes once for each
-//! layer that hands it on. Faults and crashes at each call in turn are those of `store_tests`, through the program.
-//! What a worked example of `store_model` says is not said here again.
+//! They hold what no clause and no call of the program says: how often something below is called, also on tables that
+//! are made to take work, and streams and files of the system that fail in the middle. What the program leaves and
+//! prints is tried by the rows of `.ci/rows`; faults and crashes at each call of a disk in turn, through the program,
+//! by `store_tests`.
 //!
-//! They stand in a crate of their own because a crate with tests is proved twice, and in few because each such crate is
-//! loaded twice.
+//! They stand in one crate because each crate with tests is proved twice, and loads all below it each time.
 #![tactic(auto)]
 
 #[cfg(test)]

@@ -1,13 +1,15 @@
-//! The tests, a module for each kind of what is tested.
+//! The tests, a module for each kind of what is tested, and what they share: keys, labels, the layout of directories,
+//! and a draw, pages and pairs that count the calls on them.
 
-mod attributes;
-mod command_lines;
-mod commands;
-mod faults;
-mod files;
-mod listings;
-mod moves;
-mod paths;
+mod calls;
+mod counted_draw;
+mod counted_pages;
+mod counted_pairs;
+mod disks;
+mod layouts;
+mod pages;
+mod samples;
 mod scripts;
 mod skip_lists;
-mod upgrades;
+mod tables;
+mod walks;

@@ -1,6 +1,6 @@
 //! Tests of the whole program, as the calls `top` and `top_pair`, that a row of a table of calls cannot make: a disk, a
-//! source or a sink in memory fails at a chosen call, or a crash comes. And the calls of `session_core` over such a
-//! disk.
+//! source or a sink in memory fails at a chosen call, or a crash comes. And the calls of `store_core` and of
+//! `session_core` over such a disk.
 //!
 //! What the program answers where nothing fails is tried through the program that is linked, by tables of calls. So a
 //! test here looks at what is left, and compares it with what the same call leaves where nothing fails.

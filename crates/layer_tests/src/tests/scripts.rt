@@ -1,4 +1,4 @@
-//! Replies of many lines and the longest one, and streams of std that fail in the middle.
+//! A reply of many lines, and streams of std that fail in the middle.
 
 use script_lines::{
     Line, LineReader, MAX_SCRIPT, MemSink, Reply, Sink, Source, StdSink, StdSource, write_reply,
@@ -132,17 +132,4 @@ fn takes_four_puts(rt: &impl Abort, alloc: Global, listing: &Reply) {
 #[test]
 fn a_long_listing_takes_several_puts(rt: HostRuntime) {
     takes_four_puts(&rt, rt.alloc(), &long_listing(&rt, rt.alloc()));
-}
-
-/// Whether a sink with room for just these bytes takes them.
-fn has_room(rt: &impl Abort, alloc: Global, reply: &[u8]) -> bool {
-    let mut sink = MemSink::new(alloc, reply.len(), Vec::new(alloc)).expect(rt, "memory");
-    sink.put(reply).is_ok() && sink.written().len() == reply.len()
-}
-
-// The longest listing: 655,360 children, ten to a page and a page to each of 65,536 slots, in lines of 134 bytes.
-#[test]
-fn a_sink_has_room_for_the_longest_reply(rt: HostRuntime) {
-    let reply = vec![in rt.alloc(); b'x'; 655_360 * 134 + 4].expect(&rt, "memory");
-    assert!(rt; has_room(&rt, rt.alloc(), &reply));
 }

@@ -1,14 +1,14 @@
 //! Lists of pairs, with the calls on their pages counted. The counts were worked out by hand or come from another
 //! program.
 
-use super::paths::path;
+use super::counted_pages::CountedPages;
+use super::samples::path;
 use ordered_pairs::{MapPairs, OrderedPairs};
 use seeded_draw::AnyDraw;
 use skip_levels::SkipList;
 use std::alloc::Global;
 use std::process::Abort;
 use store_base::{DrawKind, Fault, Key, Params, Value};
-use test_samples::CountedPages;
 
 /// The key that a word spells: its path, and the block number 1 where `#1` stands behind it.
 fn key_of(rt: &impl Abort, word: &str) -> Key {
@@ -56,7 +56,7 @@ fn ruler(rt: &impl Abort) -> AnyDraw {
 /// The pages after this change of a list.
 fn changed(rt: &impl Abort, alloc: Global, pages: CountedPages, word: &str) -> CountedPages {
     let mut list = SkipList::new(alloc, pages, ruler(rt));
-    assert_eq!(rt; change(rt, &mut list, word), Ok(true), "the change {word}");
+    assert!(rt; change(rt, &mut list, word) == Ok(true), "{word}");
     list.into_pages()
 }
 

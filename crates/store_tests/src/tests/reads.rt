@@ -10,16 +10,30 @@ fn read_by(rt: &impl Abort, machine: &mut Machine, image: &[u8], script: &str) -
     machine.ended.fetched
 }
 
+/// Looks whether opening an image of so many bytes reads all of it, a digest all of it once more, and four commands at
+/// most so many bytes.
+fn expect_reads(rt: &impl Abort, machine: &mut Machine, format: &str, len: u64, most: u64) {
+    machine.make(rt, format, "");
+    let image = machine.copy(rt);
+    let opened = read_by(rt, machine, &image, "");
+    let digested = read_by(rt, machine, &image, "digest\n");
+    assert!(rt; len <= opened && opened <= digested && digested - opened == len);
+    let script = "make /a\nmake /b\nrename /a /c\nremove /b\n";
+    let ran = read_by(rt, machine, &image, script);
+    assert!(rt; machine.written.as_slice() == b"ok\nok\nok\nok\n".as_slice());
+    assert!(rt; opened <= ran && ran - opened <= most);
+}
+
 #[test]
 fn commands_read_a_part_of_the_table(rt: HostRuntime) {
     let mut machine = Machine::new(rt.alloc());
-    // An image of 536,576 bytes, of which the table has 262,144.
-    machine.make(&rt, "format 64 1 ruler zeros", "");
-    let image = machine.copy(&rt);
-    let opened = read_by(&rt, &mut machine, &image, "");
-    let script = "make /a\nmake /b\nrename /a /c\nremove /b\n";
-    let ran = read_by(&rt, &mut machine, &image, script);
-    assert!(rt; machine.written.as_slice() == b"ok\nok\nok\nok\n".as_slice());
-    // Opening the image reads all of it, and four commands a quarter of the table at most.
-    assert!(rt; opened >= 536_576 && opened <= ran && ran - opened <= 65_536);
+    // A slot that was read is not read again. Of 536,576 bytes the table has 262,144, and a quarter is read at most.
+    expect_reads(&rt, &mut machine, "format 1 1 ruler zeros", 20_480, 4_096);
+    expect_reads(
+        &rt,
+        &mut machine,
+        "format 64 1 ruler zeros",
+        536_576,
+        65_536,
+    );
 }

@@ -1,15 +1,18 @@
-//! The calls of `session_core` over a disk of which one call fails: whether a session lives on, or the store is
-//! stopped.
+//! The calls of a store, and of `session_core`, over a disk of which one call fails: whether the store or a session
+//! lives on, or the store is stopped.
 
 use super::support::{MOST_CALLS, Machine, disk_of};
 use disk_model::{FailingDisk, MemDisk};
-use script_lines::{Change, Question, SessionLine, parse_session};
+use script_lines::{Change, Question, Reply, SessionLine, parse_session};
 use session_core::{Committed, SessionFault, Sessions, every_history_is_serial};
 use std::alloc::Global;
 use std::process::Abort;
-use store_core::Store;
+use store_core::{ApplyFault, Store};
 
-/// Sessions over a disk that may fail.
+/// A store over a disk that may fail.
+type FailingStore = Store<FailingDisk<MemDisk>>;
+
+/// Sessions on it.
 type FailingSessions = Sessions<FailingDisk<MemDisk>>;
 
 /// Which call ended by a fault of the disk.
@@ -21,14 +24,16 @@ enum Failed {
     Attach,
     /// A question: it can be asked once more.
     Ask,
-    /// A commit that wrote nothing: its session is live, and can be committed once more.
+    /// A commit, or a command, that wrote nothing: it can be made once more.
     Commit,
-    /// A commit that stopped the store, which serves no session any more.
+    /// One that stopped the store, which serves nothing any more.
     Stop,
 }
 
-/// What fails of a session, one behind the other, as later calls of the disk do.
+/// What fails of a session, one behind the other, as later calls of the disk do; and of a store without one.
 static FAULTS: [Failed; 4] = [Failed::Attach, Failed::Ask, Failed::Commit, Failed::Stop];
+
+static ALONE: [Failed; 3] = [Failed::Attach, Failed::Commit, Failed::Stop];
 
 /// The directory that the session makes.
 fn change(rt: &impl Abort) -> Change {
@@ -40,11 +45,7 @@ fn change(rt: &impl Abort) -> Change {
 }
 
 /// Sessions on a store, none of them live.
-fn sessions_on(
-    rt: &impl Abort,
-    alloc: Global,
-    store: Store<FailingDisk<MemDisk>>,
-) -> FailingSessions {
+fn sessions_on(rt: &impl Abort, alloc: Global, store: FailingStore) -> FailingSessions {
     let sessions = match Sessions::new(alloc, store) {
         Ok(sessions) => Some(sessions),
         Err((_, store)) => {
@@ -93,16 +94,52 @@ fn serve(rt: &impl Abort, sessions: &mut FailingSessions, change: &Change) -> Fa
     if is_asked { failed } else { Failed::Ask }
 }
 
-/// What fails of a session where this call of the disk does, on the first of these images. But where the store is
-/// stopped or the image was not opened, the disk has the second one then.
-fn failed_at(rt: &impl Abort, alloc: Global, images: [&[u8]; 2], call: u64) -> Failed {
+/// Carries the change out by the store itself, and answers what failed.
+fn apply(rt: &impl Abort, store: &mut FailingStore, change: &Change) -> Failed {
+    let command = change.command();
+    match store.apply(&command) {
+        Ok(Reply::Ok) => return Failed::Nothing,
+        answer => assert!(rt; answer.err() == Some(ApplyFault::Disk)),
+    }
+    if store.is_stopped() {
+        assert!(rt; store.apply(&command).err() == Some(ApplyFault::Stopped));
+        return Failed::Stop;
+    }
+    assert!(rt; matches!(store.apply(&command), Ok(Reply::Ok)));
+    Failed::Commit
+}
+
+/// What fails of the store by itself, and its disk.
+fn apply_alone(rt: &impl Abort, mut store: FailingStore) -> (Failed, MemDisk) {
+    let failed = apply(rt, &mut store, &change(rt));
+    (failed, store.into_disk().into_disk())
+}
+
+/// What fails of a session on the store, and its disk.
+fn serve_one(rt: &impl Abort, alloc: Global, store: FailingStore) -> (Failed, MemDisk) {
+    let mut sessions = sessions_on(rt, alloc, store);
+    let failed = serve(rt, &mut sessions, &change(rt));
+    (failed, sessions.into_store().into_disk().into_disk())
+}
+
+/// What fails of a session, or of a store without one, where this call of the disk does, on the first of these images.
+/// But where the store is stopped or the image was not opened, the disk has the second one then.
+fn failed_at(
+    rt: &impl Abort,
+    alloc: Global,
+    images: [&[u8]; 2],
+    is_alone: bool,
+    call: u64,
+) -> Failed {
     let [found, made] = images;
     let Ok(store) = Store::attach(alloc, disk_of(rt, alloc, found, call, None)) else {
         return Failed::Attach;
     };
-    let mut sessions = sessions_on(rt, alloc, store);
-    let failed = serve(rt, &mut sessions, &change(rt));
-    let disk = sessions.into_store().into_disk().into_disk();
+    let (failed, disk) = if is_alone {
+        apply_alone(rt, store)
+    } else {
+        serve_one(rt, alloc, store)
+    };
     assert!(rt; failed == Failed::Stop || disk.bytes() == made);
     failed
 }
@@ -112,15 +149,33 @@ fn first_behind(
     rt: &impl Abort,
     alloc: Global,
     images: [&[u8]; 2],
+    is_alone: bool,
     first: u64,
     failed: Failed,
 ) -> u64 {
     for call in first..MOST_CALLS {
-        if failed_at(rt, alloc, images, call) != failed {
+        if failed_at(rt, alloc, images, is_alone, call) != failed {
             return call;
         }
     }
     MOST_CALLS
+}
+
+/// Looks whether these fail, one behind the other, as later calls of the disk do, and nothing behind them.
+fn expect_faults(
+    rt: &impl Abort,
+    alloc: Global,
+    images: [&[u8]; 2],
+    is_alone: bool,
+    faults: &[Failed],
+) {
+    let mut call = 0;
+    for failed in faults {
+        let next = first_behind(rt, alloc, images, is_alone, call, *failed);
+        assert!(rt; next > call);
+        call = next;
+    }
+    assert!(rt; failed_at(rt, alloc, images, is_alone, call) == Failed::Nothing);
 }
 
 #[test]
@@ -131,11 +186,6 @@ fn a_fault_leaves_a_session_live_or_stops_the_store(rt: HostRuntime) {
     let made = machine.copy(&rt);
     machine.make(&rt, "format 4 1 ruler zeros", "");
     let images = [machine.image.as_slice(), made.as_slice()];
-    let mut call = 0;
-    for failed in &FAULTS {
-        let next = first_behind(&rt, rt.alloc(), images, call, *failed);
-        assert!(rt; next > call);
-        call = next;
-    }
-    assert!(rt; failed_at(&rt, rt.alloc(), images, call) == Failed::Nothing);
+    expect_faults(&rt, rt.alloc(), images, false, &FAULTS);
+    expect_faults(&rt, rt.alloc(), images, true, &ALONE);
 }

@@ -42,6 +42,8 @@ static CALLS: &str = "\
     a byte in a free slot is scrubbed|format 4 2 ruler zeros|make /Ua\n|36873:127|scrub|#\
     a commit that puts a byte into a free slot is scrubbed|format 1 1 ruler zeros|make /a\n|\
         4096:1 8192:1 12290:7|scrub|#\
+    a journal without its flag is scrubbed|format 1 1 ruler zeros||\
+        4100:5 8192:1 12288:1 12419:1 12420:97 12545:1 12546:1 16390:1|scrub|#\
     a byte behind a page in its slot stays|format 1 1 ruler zeros|make /a\n|20479:1|scrub|#\
     three slots of eight are mirrored|format 8 2 ruler zeros|make /UD\nmake /UE\nmake /Ud\n||mirror|\
         make /Ud\nmake /UE\nmake /x\nwrite /f 0 4142\n#\
@@ -51,21 +53,46 @@ static CALLS: &str = "\
         mirror|make /a\n#\
     images of two versions are not mirrored|format 8 2 ruler zeros||14:2|mirror|make /a\n";
 
+/// How a call ends where nothing fails: its status, and what it prints.
+#[derive(Clone, Copy)]
+struct End<'a> {
+    status: u8,
+    printed: &'a [u8],
+}
+
 /// What a call leaves.
 #[derive(Clone, Copy)]
 struct Images<'a> {
     /// The image that is found, and what a run of no line makes of it.
     found: &'a [u8],
     old: &'a [u8],
-    /// What the call leaves where nothing fails, and what it prints then.
+    /// What the call leaves where nothing fails.
     new: &'a [u8],
-    printed: &'a [u8],
+    /// How it ends then, on the image that is found, and on the new one.
+    first: End<'a>,
+    next: End<'a>,
 }
 
-/// Makes the call of the row, where nothing fails, and looks whether it leaves the new image.
-fn expect_ended(rt: &impl Abort, machine: &mut Machine, row: [&str; 8], new: &[u8]) {
+/// Whether the last call ended so.
+fn is_end(machine: &Machine, end: &End<'_>) -> bool {
+    (machine.ended.status == end.status) & (machine.written.as_slice() == end.printed)
+}
+
+/// Makes the call of the row, where nothing fails, and looks whether it leaves the new image, and ends as on the image
+/// that is found, where it may, or as on the new one.
+fn expect_ended(
+    rt: &impl Abort,
+    machine: &mut Machine,
+    row: [&str; 8],
+    images: &Images<'_>,
+    may_end: [bool; 2],
+) {
     machine.call(rt, row[4], row[5]);
-    machine.expect_image(rt, new, "the next call", row[0]);
+    machine.expect_image(rt, images.new, "the next call", row[0]);
+    let [may_be_first, may_be_next] = may_end;
+    let is_first = may_be_first & is_end(machine, &images.first);
+    let is_next = may_be_next & is_end(machine, &images.next);
+    assert!(rt; is_first | is_next, "the end of the next call, {}", row[0]);
 }
 
 /// Looks whether the call of the row on what is left, cut short in turn at each call of the disk, leaves what the one
@@ -76,7 +103,7 @@ fn expect_ended_at_each(
     crash: Option<StopChoice>,
     row: [&str; 8],
     left: &[u8],
-    new: &[u8],
+    images: &Images<'_>,
 ) {
     let mut behind = [NEVER; 2];
     for call in 0..MOST_CALLS {
@@ -87,7 +114,7 @@ fn expect_ended_at_each(
             return;
         }
         if ended.calls != behind {
-            expect_ended(rt, machine, row, new);
+            expect_ended(rt, machine, row, images, [true; 2]);
         }
         behind = ended.calls;
     }
@@ -103,24 +130,28 @@ fn expect_front(rt: &impl Abort, machine: &Machine, row: [&str; 8], printed: &[u
     assert!(rt; is_front & is_counted, "what is printed, {}", row[0]);
 }
 
-/// Looks whether a run of no line finds the old image in what is left or, where something was written, the new one.
-/// Else it finds none, where the old image or the new one may have no tree, and leaves what is left as it is.
+/// Looks whether a run of no line finds the old image in what is left or, where something was written, the new one, and
+/// answers whether it is the new one alone. Else it finds none, where the old image or the new one may have no tree,
+/// and leaves what is left as it is: no image, where one is made or wiped, and else a damaged one.
 fn expect_found(
     rt: &impl Abort,
     machine: &mut Machine,
     row: [&str; 8],
     images: &Images<'_>,
     left: &[u8],
-) {
+) -> bool {
     let is_written = machine.ended.calls[0] != 0;
     machine.call(rt, "run", "");
     let image = machine.image.as_slice();
-    let holds = if machine.ended.status == 0 {
-        (image == images.old) | (is_written & (image == images.new))
-    } else {
-        (image == left) & ["scrub", "wipe", "mirror", row[1]].contains(&row[4])
+    let (is_old, is_new) = (image == images.old, image == images.new);
+    let holds = match machine.ended.status {
+        0 => is_old | (is_written & is_new),
+        7 => (image == left) & ["wipe", row[1]].contains(&row[4]),
+        8 => (image == left) & ["scrub", "mirror"].contains(&row[4]),
+        _ => false,
     };
     assert!(rt; holds, "a run of what is left, {}", row[0]);
+    (machine.ended.status == 0) & is_new & !is_old
 }
 
 /// Looks whether what is left is what it may be, and what the next call ends, also where that is cut short in turn, if
@@ -134,17 +165,17 @@ fn expect_left(
     again: bool,
 ) {
     let left = machine.copy(rt);
-    expect_found(rt, machine, row, images, &left);
+    let is_new = expect_found(rt, machine, row, images, &left);
     machine.load(rt, &left);
     if again {
-        expect_ended_at_each(rt, machine, crash, row, &left, images.new);
+        expect_ended_at_each(rt, machine, crash, row, &left, images);
     } else {
-        expect_ended(rt, machine, row, images.new);
+        expect_ended(rt, machine, row, images, [!is_new, is_new]);
     }
 }
 
-/// Looks at that for the call of the row, cut short in this way at each call of the disk. Between the same writes and
-/// syncs it leaves the same.
+/// Looks at that for the call of the row, cut short in this way at each call of the disk, and answers how many these
+/// are. Between the same writes and syncs it leaves the same.
 fn expect_stops(
     rt: &impl Abort,
     machine: &mut Machine,
@@ -152,16 +183,16 @@ fn expect_stops(
     row: [&str; 8],
     images: &Images<'_>,
     again: bool,
-) {
+) -> u64 {
     let mut behind = [NEVER; 2];
     for call in 0..MOST_CALLS {
         machine.load(rt, images.found);
         machine.call_in(rt, row[4], row[5], &stopped_at(call, crash));
         let ended = machine.ended;
         if ended.status != 5 {
-            return;
+            return call;
         }
-        expect_front(rt, machine, row, images.printed);
+        expect_front(rt, machine, row, images.first.printed);
         if ended.calls != behind {
             expect_left(rt, machine, crash, row, images, again);
         }
@@ -170,7 +201,7 @@ fn expect_stops(
     panic!(rt; "no end before the most calls, {}", row[0]);
 }
 
-/// Looks at each way to stop.
+/// Looks at each way to stop. The first fault ends the call, so that it makes as many calls in each.
 fn expect_each_way(
     rt: &impl Abort,
     machine: &mut Machine,
@@ -178,8 +209,11 @@ fn expect_each_way(
     images: &Images<'_>,
     again: bool,
 ) {
+    let mut calls = NEVER;
     for crash in &STOPS {
-        expect_stops(rt, machine, *crash, row, images, again);
+        let same = expect_stops(rt, machine, *crash, row, images, again);
+        assert!(rt; calls == NEVER || calls == same, "the calls, {}", row[0]);
+        calls = same;
     }
 }
 
@@ -194,12 +228,27 @@ fn expect_row(rt: &impl Abort, machine: &mut Machine, row: [&str; 8], again: boo
     let old = machine.copy(rt);
     machine.load(rt, &found);
     machine.call(rt, row[4], row[5]);
-    let (new, printed) = (machine.copy(rt), machine.copy_written(rt));
+    let (new, printed, status) = (
+        machine.copy(rt),
+        machine.copy_written(rt),
+        machine.ended.status,
+    );
+    machine.call(rt, row[4], row[5]);
+    let next_printed = machine.copy_written(rt);
+    let first = End {
+        status,
+        printed: &printed,
+    };
+    let next = End {
+        status: machine.ended.status,
+        printed: &next_printed,
+    };
     let images = Images {
         found: &found,
         old: &old,
         new: &new,
-        printed: &printed,
+        first,
+        next,
     };
     expect_each_way(rt, machine, row, &images, again);
 }
