@@ -20,12 +20,6 @@ use Rattle.gate_journal.proofs.Calls.{Made-then, Made-as, Reaches-sync, Reaches-
 use Rattle.gate_journal.proofs.Entries.{slice_index-overwrite}
 use Rattle.gate_journal.proofs.Stages.{on_ok_map}
 
--- the places outside all changed slots are outside one of them
-pub outside_one : (pass : Pass) (slots : ℕ) (changes : Changes) (k slot : ℕ) → k < changes.count → slot ≡ changes.slot k
-    → (place : ℕ) → OutsideSlots pass slots changes place → OutsideWrite pass slots slot place
-outside_one pass slots changes k slot below is place outside =
-    subst (λ (s : ℕ). OutsideWrite pass slots s place) (sym is) (outside k below)
-
 -- the writes for one more slot
 pub writes_more : (pass : Pass) (k : ℕ) → slot_writes pass * k + slot_writes pass ≡ slot_writes pass * (k + 1)
 writes_more Journal k = omega arith
@@ -77,25 +71,19 @@ module _ (slots : ℕ) (changes : Changes) (valid : AreChanges slots changes) wh
 
   -- one more slot
   pub pass_step : {E : Type 0} (pass : Pass) (old mid new : DiskState) (k : ℕ) → k < changes.count → IsSound mid
-      → (slot : ℕ) (bytes : List ℕ) → slot ≡ changes.slot k → bytes ≡ changes.bytes k
       → Comes (OutsideSlots pass slots changes) (HasPassedFirst pass slots changes k old.bytes)
       (slot_writes pass * k) old mid
-      → Reaches {T = Unit {0}} {E = E} (OutsideWrite pass slots slot)
-      (HasWritten pass slots slot bytes mid.bytes) mid new (Ok tt)
+      → Reaches {T = Unit {0}} {E = E} (OutsideWrite pass slots (changes.slot k))
+      (HasWritten pass slots (changes.slot k) (changes.bytes k) mid.bytes) mid new (Ok tt)
       → Makes {T = Unit {0}} {E = E} (slot_writes pass) 0 mid new (Ok tt)
       → Comes (OutsideSlots pass slots changes) (HasPassedFirst pass slots changes (k + 1) old.bytes)
       (slot_writes pass * (k + 1)) old new
-  pass_step pass old mid new k below sound slot bytes is bytes_is comes reaches makes =
-      let reads : SameAt (OutsideWrite pass slots (changes.slot k)) mid.bytes new.bytes =
-      subst (λ (s : ℕ). SameAt (OutsideWrite pass slots s) mid.bytes new.bytes) is reaches.keeps.reads in
-      let here : HasWritten pass slots (changes.slot k) (changes.bytes k) mid.bytes new.bytes =
-      subst (λ (s : ℕ). HasWritten pass slots s (changes.bytes k) mid.bytes new.bytes) is
-      (subst (λ (l : List ℕ). HasWritten pass slots slot l mid.bytes new.bytes) bytes_is reaches.done) in
+  pass_step pass old mid new k below sound comes reaches makes =
       record {
         keeps = Keeps-trans (OutsideSlots pass slots changes) old mid new sound
-            comes.keeps (Keeps-weaken (OutsideWrite pass slots slot) (OutsideSlots pass slots changes) mid new
-            (outside_one pass slots changes k slot below is) reaches.keeps);
-        done = passed_more pass old.bytes mid.bytes new.bytes k below reads comes.done here;
+            comes.keeps (Keeps-weaken (OutsideWrite pass slots (changes.slot k)) (OutsideSlots pass slots changes)
+            mid new (λ place outside. outside k below) reaches.keeps);
+        done = passed_more pass old.bytes mid.bytes new.bytes k below reaches.keeps.reads comes.done reaches.done;
         made = Made-as old new (slot_writes pass * k + slot_writes pass) 0 (slot_writes pass * (k + 1)) 0
             (writes_more pass k) refl
             (Made-then old mid new tt (slot_writes pass * k) 0 (slot_writes pass) 0 comes.made makes);

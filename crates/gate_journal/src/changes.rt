@@ -14,6 +14,11 @@ pub trait SlotChanges {
     fn count(&self) -> u32
         ensures { result ≡ (changes self.now).count };
 
+    /// The number of the slot of change `k`.
+    fn number(&self, k: u32) -> u32
+        requires { k < (changes self.now).count }
+        ensures { result ≡ (changes self.now).slot k };
+
     /// The number of the slot of change `k`. Its new bytes are put into `bytes`.
     fn change(&self, k: u32, bytes: &mut Slot) -> u32
         requires { k < (changes self.now).count }

@@ -39,21 +39,24 @@ enum Pass {
     Erase,
 }
 
-/// Makes the writes of this pass for a changed slot, whose new bytes are `bytes`.
-fn write_slot<D: Disk>(
+/// Makes the writes of this pass for change `k`. `bytes` is lent for its new bytes.
+fn write_change<D: Disk, S: SlotChanges>(
     disk: &mut D,
     slots: u32,
-    slot: u32,
-    bytes: &Slot,
+    changes: &S,
+    k: u32,
     pass: Pass,
+    bytes: &mut Slot,
 ) -> Result<(), DiskFault>
     requires in_range { slots ≤ slots_limit }
-    requires below { slot < slots }
     requires size { (D.state disk.old).size ≡ image_len slots }
+    requires changes { AreChanges slots (S.changes changes.now) }
+    requires below { k < (S.changes changes.now).count }
     ensures call { IsCall (D.state disk.old) (D.state disk.new) result }
     ensures reaches { IsObservable (D.state disk.old)
-        → Reaches (OutsideWrite pass slots slot)
-        (HasWritten pass slots slot bytes.now (D.state disk.old).bytes)
+        → Reaches (OutsideWrite pass slots ((S.changes changes.now).slot k))
+        (HasWritten pass slots ((S.changes changes.now).slot k) ((S.changes changes.now).bytes k)
+        (D.state disk.old).bytes)
         (D.state disk.old) (D.state disk.new) result }
     ensures makes { IsObservable (D.state disk.old)
         → Makes (slot_writes pass) 0 (D.state disk.old) (D.state disk.new) result }
@@ -61,9 +64,15 @@ fn write_slot<D: Disk>(
         → Rose (D.state disk.old).writes (D.state disk.new).writes }
 {
     match pass {
-        Pass::Journal => write_entry(disk, slots, slot, bytes, 1),
-        Pass::Table => disk.write_at(table_at(slots, slot), bytes),
-        Pass::Erase => write_entry(disk, slots, slot, &ZEROS, 0),
+        Pass::Journal => {
+            let slot = changes.change(k, bytes);
+            write_entry(disk, slots, slot, bytes, 1)
+        }
+        Pass::Table => {
+            let slot = changes.change(k, bytes);
+            disk.write_at(table_at(slots, slot), bytes)
+        }
+        Pass::Erase => write_entry(disk, slots, changes.number(k), &ZEROS, 0),
     }
 }
 
@@ -91,12 +100,14 @@ fn write_version<D: Disk>(disk: &mut D, slots: u32, pass: Pass) -> Result<(), Di
 }
 
 /// Makes the writes of this pass for each changed slot, and for the version in an upgrade, and makes them durable.
+/// `bytes` is lent for the new bytes of one slot after another.
 fn write_slots<D: Disk, S: SlotChanges>(
     disk: &mut D,
     slots: u32,
     changes: &S,
     pass: Pass,
     kind: Kind,
+    bytes: &mut Slot,
 ) -> Result<(), DiskFault>
     requires in_range { slots ≤ slots_limit }
     requires size { (D.state disk.old).size ≡ image_len slots }
@@ -116,10 +127,8 @@ fn write_slots<D: Disk, S: SlotChanges>(
         → 0 < (S.changes changes.now).count + version_writes kind
         → Rose (D.state disk.old).writes (D.state disk.new).writes }
 {
-    let mut bytes = [0; BLOCK];
     for k in 0..changes.count() {
-        let slot = changes.change(k, &mut bytes);
-        write_slot(disk, slots, slot, &bytes, pass)?;
+        write_change(disk, slots, changes, k, pass, bytes)?;
     }
     // Durable before the next pass or flag: a crash there counts on what this one wrote.
     match kind {
@@ -155,14 +164,15 @@ pub fn commit_changes<D: Disk, S: SlotChanges>(
     ensures wrote { IsObservable (D.state disk.old)
         → Rose (D.state disk.old).writes (D.state disk.new).writes }
 {
+    let mut bytes = [0; BLOCK];
     // Durable before the flag is set: behind a flag that is set, what the journal holds counts.
-    write_slots(disk, slots, changes, Pass::Journal, kind)?;
+    write_slots(disk, slots, changes, Pass::Journal, kind, &mut bytes)?;
     // Durable before header and table are written: where the flag is clear, they have to be whole.
     write_flag(disk, 1)?;
     // Durable before the flag is cleared: from then on nothing redoes it.
-    write_slots(disk, slots, changes, Pass::Table, kind)?;
+    write_slots(disk, slots, changes, Pass::Table, kind, &mut bytes)?;
     // Durable before the journal is erased: a flag that is still set would redo what is half erased.
     write_flag(disk, 0)?;
     // Durable before Ok: nothing is pending when the next commit begins.
-    write_slots(disk, slots, changes, Pass::Erase, kind)
+    write_slots(disk, slots, changes, Pass::Erase, kind, &mut bytes)
 }

@@ -209,23 +209,21 @@ used_length table numbers = length-map numbers (slot_in table)
 
 -- the number of a change is that of a slot of the table
 pub used_below : (table : Table) (numbers : List ℕ) (k at : ℕ) → AreUsed table (length table) numbers
-    → k < (used_changes table numbers).count → at ≡ get_or numbers k at → at < length table
-used_below table numbers k at used inside is =
-    let long = used_length table numbers in
-    subst (λ (n : ℕ). n < length table) (used_number table numbers k at (omega (arith, inside, long)) ∙ sym is)
-    (used.are.below k inside)
+    → k < (used_changes table numbers).count → at ≡ (used_changes table numbers).slot k → at < length table
+used_below table numbers k at used inside is = subst (λ (n : ℕ). n < length table) (sym is) (used.are.below k inside)
 
 -- the bytes that a slot of the table has are those of its change
 pub bytes_there : (table : Table) (numbers : List ℕ) (k at : ℕ) (bytes : List ℕ) → AreUsed table (length table) numbers
-    → k < (used_changes table numbers).count → at ≡ get_or numbers k at
+    → k < (used_changes table numbers).count → at ≡ (used_changes table numbers).slot k
     → ((held : Option Page) → slice_get table at ≡ Some held → bytes ≡ slot_bytes held)
     → bytes ≡ (used_changes table numbers).bytes k
 bytes_there table numbers k at bytes used inside is shows =
     let long = used_length table numbers in
+    let below : k < length numbers = omega (arith, inside, long) in
     let there = used_below table numbers k at used inside is in
     elim (slice_get_cases table at).1 [
-      | inl found ↦ shows found.0 found.2 ∙ sym (held_bytes table at found.0 found.2) ∙ ap (bytes_of table) is
-          ∙ sym (used_bytes table numbers k at (omega (arith, inside, long)))
+      | inl found ↦ shows found.0 found.2 ∙ sym (held_bytes table at found.0 found.2)
+          ∙ ap (bytes_of table) (is ∙ used_number table numbers k at below) ∙ sym (used_bytes table numbers k at below)
       | inr past ↦ let far = past.0 in absurd (omega (arith, there, far))
     ]
 

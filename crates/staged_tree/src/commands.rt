@@ -1,24 +1,21 @@
-//! How a command is carried out on the list of a tree, whose pages are staged.
+//! How a command that looks at a tree, and one that changes it, are carried out on its list, whose pages are staged.
 
 ghost use Rattle.std.specs.Prelude.{◌≡◌, true, false, Err};
 ghost use Rattle.store_model.specs.Parameters.{Parameters};
 ghost use Rattle.store_model.specs.Trees.{Tree};
 ghost use Rattle.store_model.specs.Draws.{draw_of};
 ghost use Rattle.store_model.specs.Commands.{IsCommand};
-ghost use Rattle.store_model.specs.Commands.Command.{Space, Digest};
 ghost use Rattle.store_model.specs.Steps as steps;
 ghost use Rattle.store_model.specs.Steps.{step};
 ghost use Rattle.disk_model.specs.DiskState.{IsObservable};
 ghost use Rattle.seeded_draw.specs.AnyDrawn.{any_draw};
 ghost use Rattle.script_lines.specs.InPlace.{in_place};
 ghost use Rattle.script_lines.specs.Parsing.{command_of};
-ghost use Rattle.script_lines.specs.Replies.{reply_of};
-ghost use Rattle.page_store.specs.StagedState.{Follows, without_changes};
+ghost use Rattle.page_store.specs.StagedState.{without_changes};
 ghost use Rattle.script_lines.specs.Sessions.{is_change};
 ghost use Rattle.tree_commands.specs.Answers.{is_look, change_reply};
 ghost use Rattle.tree_commands.specs.Counted.{counted_step};
-ghost use Rattle.image_check.specs.Standing.{IsFitting};
-ghost use Rattle.staged_tree.specs.StagedTree.{AreAt, IsStagedFor, IsListAt, GoesOn, HoldsTable};
+ghost use Rattle.staged_tree.specs.StagedTree.{IsStagedFor, IsListAt, GoesOn, HoldsTable};
 ghost use Rattle.staged_tree.specs.Steps.{settled_reply, settle_cause, EndsCommand};
 
 use disk_model::Disk;
@@ -38,41 +35,6 @@ pub type TreePages<D> = Staged<D, AnyDraw>;
 /// The list of the pairs of a tree, over its pages.
 pub type TreeList<D> = SkipList<TreePages<D>, AnyDraw>;
 
-/// Carries out a command on the list of a tree, and puts the reply into `reply`. After it nothing is staged.
-///
-/// A fault leaves the tree as it was. `NoMemory`: nothing was written. `Disk`: the disk failed, and where that came at
-/// a write or a sync, or after one, the pages are spent.
-pub fn carry_out<D: Disk>(
-    alloc: Global,
-    pairs: &mut TreeList<D>,
-    params: &Params,
-    command: &Command,
-    reply: &mut Reply,
-) -> Result<(), ApplyFault>
-    requires command { IsCommand (command_of command.now) }
-    requires runs { pairs.old.pages.is_spent ≡ false }
-    requires list { (t : Tree) × IsListAt D.state t params.now pairs.old }
-    ensures call { (t : Tree) → IsListAt D.state t params.now pairs.old
-        → EndsCommand D.state t (step t (command_of command.now) params.now)
-        params.now pairs.old.pages pairs.new.pages (in_place reply.new result) }
-    ensures list { GoesOn D.state pairs.old pairs.new }
-{
-    if lacks_version(command, params) {
-        reply.put_refusal(Refusal::Version);
-        return Ok(());
-    }
-    match command {
-        Command::Space => {
-            tell_space(&pairs.pages, params, reply);
-            Ok(())
-        }
-        Command::Digest => tell_digest(&mut pairs.pages, reply),
-        Command::List(_) | Command::Read(..) | Command::Get(..) | Command::Attrs(_) =>
-            carry_out_look(alloc, pairs, command, reply),
-        _ => put_answer(carry_out_change(pairs, params, command), reply),
-    }
-}
-
 /// Whether a command is refused for the version of the image.
 pub fn lacks_version(command: &Command, params: &Params) -> bool
     ensures { result ≡ steps.lacks_version (command_of command.now) params.now }
@@ -80,38 +42,9 @@ pub fn lacks_version(command: &Command, params: &Params) -> bool
     is_on_attributes(command) && params.version() == Version::One
 }
 
-/// Tells how many slots are used, and how many there are. LLVM is not to join it to `carry_out`, which would clear the
-/// room of a reply for each command.
-#[inline(never)]
-fn tell_space<D: Disk>(staged: &TreePages<D>, params: &Params, reply: &mut Reply)
-    requires runs { staged.now.is_spent ≡ false }
-    ensures { IsObservable (D.state staged.now.disk) → (t : Tree) → IsFitting t params.now
-        → AreAt D.state t params.now staged.now
-        → reply_of reply.new ≡ (step t Space params.now).reply }
-{
-    *reply = Reply::Space {
-        used: staged.used(),
-        slots: params.slots(),
-    };
-}
-
-/// Tells the digest of the image. LLVM is not to join it to `carry_out`, as `tell_space`.
-#[inline(never)]
-fn tell_digest<D: Disk>(staged: &mut TreePages<D>, reply: &mut Reply) -> Result<(), ApplyFault>
-    requires runs { staged.old.is_spent ≡ false }
-    ensures call { (t : Tree) (p : Parameters) → IsFitting t p → AreAt D.state t p staged.old
-        → EndsCommand D.state t (step t Digest p) p
-        staged.old staged.new (in_place reply.new result) }
-    ensures map { IsObservable (D.state staged.old.disk) → staged.new.map ≡ staged.old.map }
-    ensures follows { Follows D.state staged.old staged.new }
-{
-    *reply = Reply::Digest(staged.digest()?);
-    Ok(())
-}
-
 /// Carries out a command that only looks at the pairs of the tree, and that its image's version has. After it nothing
 /// is staged.
-fn carry_out_look<D: Disk>(
+pub fn carry_out_look<D: Disk>(
     alloc: Global,
     pairs: &mut TreeList<D>,
     command: &Command,
@@ -142,7 +75,7 @@ fn carry_out_look<D: Disk>(
 
 /// Carries out a command that changes the tree, and that its image's version has. A `Reply` is large, since it may hold
 /// the bytes of a read: it is not made here, but by the caller.
-fn carry_out_change<D: Disk>(
+pub fn carry_out_change<D: Disk>(
     pairs: &mut TreeList<D>,
     params: &Params,
     command: &Command,
@@ -228,15 +161,4 @@ pub fn cause_of(fault: SettleFault) -> ApplyFault
         SettleFault::Full { .. } | SettleFault::NoMemory => ApplyFault::NoMemory,
         SettleFault::Disk => ApplyFault::Disk,
     }
-}
-
-/// Puts the answer of a change that ended so into `reply`.
-fn put_answer(changed: Result<Answer<()>, ApplyFault>, reply: &mut Reply) -> Result<(), ApplyFault>
-    ensures { in_place reply.new result ≡ change_reply changed }
-{
-    match changed? {
-        Ok(()) => reply.put_ok(),
-        Err(refusal) => reply.put_refusal(refusal),
-    }
-    Ok(())
 }

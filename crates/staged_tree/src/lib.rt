@@ -1,9 +1,9 @@
 //! The tree of a store as a list over staged pages, and what is carried out on it. Start at `TreeList`.
 //!
-//! `carry_out` carries out a command, as the definitions' step says. `carry_out_all` carries out a group of changes
-//! together, or none of them: it stages them one after another, and settles once. `upgrade_list` makes the list one of
-//! version 2. `find_next` gives the pairs one after another, and `load_list` fills the list of the empty tree with the
-//! pairs of a whole tree.
+//! `carry_out_look` and `carry_out_change` carry out a command, as the definitions' step says: one that looks at the
+//! tree, and one that changes it. `carry_out_all` carries out a group of changes together, or none of them: it stages
+//! them one after another, and settles once. `upgrade_list` makes the list one of version 2. `find_next` gives the
+//! pairs one after another, and `load_list` fills the list of the empty tree with the pairs of a whole tree.
 //!
 //! A command works on the skip list in the staged pages of the table, and reads the pages that it asks for. What it
 //! changed is settled at once, and only the slots that differ are written. After every call nothing is staged.
@@ -16,7 +16,7 @@ mod next_pair;
 mod upgrade;
 mod used_slots;
 
-pub use commands::{TreeList, TreePages, carry_out};
+pub use commands::{TreeList, TreePages, carry_out_change, carry_out_look, lacks_version};
 pub use group::{GroupAnswer, carry_out_all};
 pub use load::{LoadAnswer, load_list};
 pub use next_pair::find_next;

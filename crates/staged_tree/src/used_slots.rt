@@ -44,8 +44,12 @@ impl SlotChanges for UsedSlots<'_> {
         self.numbers.len() as u32
     }
 
+    fn number(&self, k: u32) -> u32 {
+        self.numbers[k as usize]
+    }
+
     fn change(&self, k: u32, bytes: &mut Slot) -> u32 {
-        let at = self.numbers[k as usize];
+        let at = self.number(k);
         self.layout.slot(at, bytes);
         at
     }

@@ -22,6 +22,10 @@ impl SlotChanges for ChangedSlots {
         self.slots.len() as u32
     }
 
+    fn number(&self, k: u32) -> u32 {
+        self.slots[k as usize].0
+    }
+
     fn change(&self, k: u32, bytes: &mut Slot) -> u32 {
         let (at, kept) = &self.slots[k as usize];
         bytes.copy_from_slice(kept.get());

@@ -1,4 +1,4 @@
-use Rattle.std.proofs.Common.{Ok, Err, map, sym, ap, subst}
+use Rattle.std.proofs.Common.{Ok, Err, map, sym, ap, subst, ◌∙◌}
 use Rattle.seeded_draw.specs.declared.any.AnyDraw.{AnyDraw}
 use Rattle.script_lines.specs.Sessions.{change_of}
 use Rattle.page_store.specs.StagedState.{StagedState}
@@ -98,3 +98,23 @@ returns-in-Err-clause-call g c t list =
     (failed_ends state t p group old c.stage_all.new.pairs list
     c.requires.runs c.in-Err.ensures.follows c.in-Err.fault
     (c.in-Err.ensures.call t (over_table list c.requires.runs))))
+
+-- ---- the list goes on
+
+pub returns-in-Ok-Done-clause-list : goal.returns-in-Ok-Done-clause-list
+returns-in-Ok-Done-clause-list g c = record {
+  draw = c.end_group.ensures.list.draw ∙ c.in-Ok-Done.ensures.follows.1;
+  whole = c.end_group.ensures.list.whole;
+}
+
+pub returns-in-Ok-Refused-clause-list : goal.returns-in-Ok-Refused-clause-list
+returns-in-Ok-Refused-clause-list g c = record {
+  draw = c.give_up.ensures.list.draw ∙ c.in-Ok-Refused.ensures.follows.1;
+  whole = c.give_up.ensures.list.whole;
+}
+
+pub returns-in-Err-clause-list : goal.returns-in-Err-clause-list
+returns-in-Err-clause-list g c = record {
+  draw = c.give_up-in-Err.ensures.list.draw ∙ c.in-Err.ensures.follows.1;
+  whole = c.give_up-in-Err.ensures.list.whole;
+}

@@ -1,12 +1,12 @@
-use Rattle.std.proofs.Common.{Result, Ok, subst, ◌∙◌}
+use Rattle.std.proofs.Common.{Result, Ok, refl, subst, ◌∙◌}
 use Rattle.store_model.specs.declared.refusal.Refusal.{Refusal}
 use Rattle.store_model.specs.Trees.{Tree}
 use Rattle.store_model.specs.Commands.{Command}
 use Rattle.script_lines.specs.Sessions.{change_of}
-use Rattle.page_store.specs.StagedState.{Follows-trans}
+use Rattle.page_store.specs.StagedState.{Follows-refl, Follows-trans}
 use Rattle.staged_tree.specs.StagedTree.{IsListFor}
 use Rattle.staged_tree.specs.Staging.{StagesChange}
-use Rattle.staged_tree.proofs.GroupSteps.{staged_more, staged_refused, staged_all}
+use Rattle.staged_tree.proofs.GroupSteps.{staged_none, staged_more, staged_refused, staged_all}
 use Rattle.staged_tree.proofs.group.stage_all.Goals as goal
 
 pub stage_change-requires-clause-list : goal.stage_change-requires-clause-list
@@ -61,3 +61,13 @@ pub returns-clause-call : goal.returns-clause-call
 returns-clause-call g c t list =
     staged_all g.D.Disk.state t c.args.params.now c.args.changes.now c.args.pairs.now c.loop-index.index
     c.loop-index.pairs c.loop-index-test.false (c.loop-index.invariant.staged t list) c.loop-index.invariant.faults
+
+pub loop-index-init : goal.loop-index-init
+loop-index-init g c = record {
+  follows = (
+    Follows-refl g.D.Disk.state c.args.pairs.now.pages (g.met.D.Disk.sound c.args.pairs.now.pages.disk),
+    refl,
+  );
+  faults = refl;
+  staged = λ t list. staged_none g.D.Disk.state t c.args.params.now c.args.changes.now c.args.pairs.now list;
+}

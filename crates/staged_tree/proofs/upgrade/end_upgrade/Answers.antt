@@ -3,11 +3,12 @@ use Rattle.store_model.specs.declared.version.Version.TheVariants.{One}
 use Rattle.store_model.specs.Draws.{draw_of}
 use Rattle.seeded_draw.specs.declared.any.AnyDraw.{AnyDraw}
 use Rattle.seeded_draw.specs.AnyDrawn.{any_draw}
-use Rattle.page_store.specs.StagedState.{StagedState}
+use Rattle.skip_levels.specs.PagePairs.{KeepsList}
+use Rattle.page_store.specs.StagedState.{StagedState, pages_state}
 use Rattle.image_check.specs.declared.fault.ApplyFault.{ApplyFault}
 use Rattle.staged_tree.specs.StagedTree.{TreeList, IsUpgradeStaged}
 use Rattle.staged_tree.specs.Steps.{settle_cause, EndsUpgrade}
-use Rattle.staged_tree.proofs.ListSteps.{keeps_stays, settle_stays, table_behind_settle}
+use Rattle.staged_tree.proofs.ListSteps.{keeps_stays, settle_stays, settled_stays, table_behind_settle}
 use Rattle.staged_tree.proofs.UpgradeSteps.{upgraded}
 use Rattle.staged_tree.proofs.upgrade.end_upgrade.Goals as goal
 
@@ -56,3 +57,13 @@ returns-in-Err-clause-call g c t p staged =
     (sym c.cause_of.ensures)
     (subst (λ (x : StagedState g.row.D.Denot AnyDraw).
     EndsUpgrade state t p s.pages x (Err (settle_cause c.in-Err.fault))) (sym c.give_up.ensures.pages) ends))
+
+pub invariant_of-pairs : goal.invariant_of-pairs
+invariant_of-pairs g c =
+    let state = g.D.Disk.state in
+    let s = c.pairs.inside in
+    let runs = ap (λ (v : TreeList g.row.D.Denot). v.pages.is_spent) c.pairs.view_is ∙ c.requires.runs in
+    subst (λ (x : StagedState g.row.D.Denot AnyDraw).
+    KeepsList (any_draw s.draw) s.is_whole (pages_state state x) s.walk.known) (sym c.discard.ensures)
+    (keeps_stays state (any_draw s.draw) s.is_whole s.walk.known s.pages _
+    (settled_stays state s.pages c.settle_upgrade.new.self runs c.in-Ok.ensures.call) c.pairs.invariant)

@@ -1,11 +1,25 @@
+use Rattle.std.proofs.Common.{ℕ, ◌<◌, sym, subst}
 use Rattle.gate_journal.proofs.Calls.{Makes-write}
-use Rattle.gate_journal.proofs.commit.write_slot.Goals as goal
+use Rattle.gate_journal.proofs.commit.write_change.Goals as goal
+
+pub write_entry-requires-clause-below : goal.write_entry-requires-clause-below
+write_entry-requires-clause-below g c =
+    subst (λ (slot : ℕ). slot < c.args.slots) (sym c.change-slot.ensures.slot)
+    (c.requires.changes.below c.args.k c.requires.below)
+
+pub write_entry-requires-in-Erase-clause-below : goal.write_entry-requires-in-Erase-clause-below
+write_entry-requires-in-Erase-clause-below g c =
+    subst (λ (slot : ℕ). slot < c.args.slots) (sym c.number.ensures)
+    (c.requires.changes.below c.args.k c.requires.below)
 
 pub returns-in-Journal-clause-reaches : goal.returns-in-Journal-clause-reaches
-returns-in-Journal-clause-reaches g c = rw c.in-Journal.is c.write_entry.ensures.reaches
+returns-in-Journal-clause-reaches g c observable =
+    rw c.in-Journal.is
+    (rw c.change-slot.ensures.slot at (rw c.change-slot.ensures.bytes at (c.write_entry.ensures.reaches observable)))
 
 pub returns-in-Erase-clause-reaches : goal.returns-in-Erase-clause-reaches
-returns-in-Erase-clause-reaches g c = rw c.in-Erase.is c.write_entry-in-Erase.ensures.reaches
+returns-in-Erase-clause-reaches g c observable =
+    rw c.in-Erase.is (rw c.number.ensures at (c.write_entry-in-Erase.ensures.reaches observable))
 
 pub returns-in-Journal-clause-call : goal.returns-in-Journal-clause-call
 returns-in-Journal-clause-call g c = c.write_entry.ensures.call

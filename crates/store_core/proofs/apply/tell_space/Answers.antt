@@ -3,7 +3,7 @@ use Rattle.store_model.specs.Commands.Reply.{PagesUsed}
 use Rattle.store_model.specs.Steps.{Step}
 use Rattle.tree_commands.proofs.StepLemmas.{space_step}
 use Rattle.staged_tree.proofs.TreePages.{tree_holds, held_count}
-use Rattle.staged_tree.proofs.commands.tell_space.Goals as goal
+use Rattle.store_core.proofs.apply.tell_space.Goals as goal
 
 pub returns : goal.returns
 returns g c observable t fit at =

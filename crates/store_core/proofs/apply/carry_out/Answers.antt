@@ -16,7 +16,7 @@ use Rattle.staged_tree.specs.Steps.{IsReplyTo, EndsCommand}
 use Rattle.staged_tree.proofs.ListSteps.{keeps_stays, follows_stay}
 use Rattle.staged_tree.proofs.StagedSteps.{read_step, same_staged}
 use Rattle.tree_commands.proofs.StepLemmas.{space_step}
-use Rattle.staged_tree.proofs.commands.carry_out.Goals as goal
+use Rattle.store_core.proofs.apply.carry_out.Goals as goal
 
 pub invariant_of-pairs : goal.invariant_of-pairs
 invariant_of-pairs g c =

@@ -11,7 +11,7 @@ use Rattle.image_check.specs.declared.fault.ApplyFault.TheVariants as apply
 use Rattle.staged_tree.specs.Steps.{IsReplyTo, EndsCommand}
 use Rattle.staged_tree.proofs.StagedSteps.{read_step, same_staged}
 use Rattle.tree_commands.proofs.StepLemmas.{digest_step}
-use Rattle.staged_tree.proofs.commands.tell_digest.Goals as goal
+use Rattle.store_core.proofs.apply.tell_digest.Goals as goal
 
 pub returns-in_err-digest : goal.returns-in_err-digest
 returns-in_err-digest g c = record {
