@@ -1,8 +1,7 @@
-pub mod BigLemmas
-pub mod FormatLemmas
 pub mod LineLemmas
 pub mod PairLemmas
 pub mod RequestLemmas
+pub mod SeedLemmas
 pub mod SingleWords
 pub mod Subcommands
 pub mod TakenLines

@@ -1,5 +1,5 @@
 -- Words of a call on two images.
-use Rattle.std.proofs.Common.{◌≡◌, ◌↔◌, ◌∙◌, IsTrue, List, [], ◌∷◌, length, Option, Some, None, refl, sym, ap, codes}
+use Rattle.std.proofs.Common.{◌≡◌, ◌↔◌, ◌∙◌, IsTrue, List, [], ◌∷◌, length, Option, Some, None, sym, ap, codes}
 use Rattle.std.proofs.Common.{arith}
 use Rattle.std.specs.Option.{option_copied, option_eq}
 use Rattle.std.specs.List.{slice_get}
@@ -7,7 +7,6 @@ use Rattle.std.specs.Borrow.{Bor}
 use Rattle.std.specs.Cmp.Lexicographic.{bytes_decides}
 use Rattle.clap.specs.Walk.{Text}
 use Rattle.store_model.specs.Lists.{same_bytes}
-use Rattle.store_model.specs.Words.{request_of}
 use Rattle.command_line.specs.Requests.{AskMirror}
 use Rattle.command_line.proofs.LineLemmas.{some_same}
 
@@ -32,11 +31,3 @@ asks_pair (a ∷ b ∷ []) (Some first) name named read two =
           ∙ ap (λ (words : List Text). elim words as (λ _. Text) [ [] ↦ [] | w ∷ _ ↦ w ]) asks.words_are ∙ sym named),
     )
 asks_pair (a ∷ b ∷ c ∷ rest) found name named read two = absurd (omega (arith, two))
-
--- and for nothing else
-pub pair_apart : (words : List Text) → length words ≡ 2 → request_of words ≡ None
-unfolding request_of
-pair_apart [] two = refl
-pair_apart (a ∷ []) two = absurd (omega (arith, two))
-pair_apart (a ∷ b ∷ []) two = refl
-pair_apart (a ∷ b ∷ c ∷ rest) two = absurd (omega (arith, two))

@@ -18,8 +18,7 @@ use Rattle.command_line.specs.Line.{HoldsLine, IsLine, TakesDraws, format_word}
 use Rattle.command_line.proofs.LineLemmas.{some_same}
 use Rattle.command_line.proofs.SingleWords.{by_word, nothing}
 use Rattle.command_line.proofs.TakenLines.{IsTaken, single_word_taken, big_taken, format_taken}
-use Rattle.command_line.proofs.ValueLemmas.{draw_names, draw_passes, draw_plain, number_limited, number_plain}
-use Rattle.command_line.proofs.ValueLemmas.{number_passes, range_passes, range_plain, seed_plain}
+use Rattle.command_line.proofs.ValueLemmas.{draw_fits, number_fits, number_limited, range_fits, seed_plain}
 
 -- a value that comes of another, which is there then
 record Comes {A B : Type 0} (from : Option A) (f : A → Option B) (y : B) : Type 0 where
@@ -47,11 +46,10 @@ module _ (draws : Version → ValueParser) (takes : (version : Version) → Take
   big number count request e =
       let first = comes (number_of number) _ request e in
       let second = comes (number_in 1 commands_limit count) _ request first.then in
-      big_taken draws number count (number_plain number first.value first.there)
-      (range_plain 1 commands_limit second.value count second.there)
-      (number_passes number 0 number_limit first.value first.there (le-leb 0 first.value (omega arith))
+      big_taken draws number count
+      (number_fits number 0 number_limit first.value first.there (le-leb 0 first.value (omega arith))
       (number_limited number first.value first.there))
-      (range_passes 1 commands_limit second.value count second.there)
+      (range_fits 1 commands_limit second.value count second.there)
 
   format : (version : Version) (slots height draw seed : Text) (request : Request)
       → (number_in 1 slots_limit slots >>= λ n. number_in 1 height_limit height >>= λ h. kind_of_word draw >>=
@@ -63,13 +61,10 @@ module _ (draws : Version → ValueParser) (takes : (version : Version) → Take
       let second = comes (number_in 1 height_limit height) _ request first.then in
       let third = comes (kind_of_word draw) _ request second.then in
       let fourth = comes (seed_of_word seed) _ request third.then in
-      let named = draw_names draw third.value third.there in
-      format_taken draws version slots height draw seed (range_plain 1 slots_limit first.value slots first.there)
-      (range_plain 1 height_limit second.value height second.there) (draw_plain draw named)
+      format_taken draws version slots height draw seed (range_fits 1 slots_limit first.value slots first.there)
+      (range_fits 1 height_limit second.value height second.there)
+      (draw_fits (draws version) draw third.value (takes version) third.there)
       (seed_plain seed fourth.value fourth.there)
-      (range_passes 1 slots_limit first.value slots first.there)
-      (range_passes 1 height_limit second.value height second.there)
-      (draw_passes (draws version) draw (takes version) named)
 
   pub request_taken : (line : List Text) (request : Request) → request_of line ≡ Some request → IsTaken draws line
   unfolding request_of

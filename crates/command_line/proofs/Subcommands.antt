@@ -1,8 +1,6 @@
 -- The subcommands of the list, one after another.
-use Rattle.std.proofs.Common.{◌≡◌, ◌∙◌, ◌+◌, ◌<◌, ℕ, Bool, true, false, List, [], ◌∷◌, length, get_or, drop}
-use Rattle.std.proofs.Common.{drop-cons, add-one, Option, Some, None, ap, sym, subst, cond, ◌≤◌}
-use Rattle.std.specs.Borrow.{Bor}
-use Rattle.std.specs.List.{list_all}
+use Rattle.std.proofs.Common.{◌≡◌, ◌∙◌, ◌+◌, ◌<◌, ℕ, true, false, List, [], ◌∷◌, length, get_or, drop}
+use Rattle.std.proofs.Common.{drop-cons, add-one, Option, Some, None, ap, map, sym, subst, ◌≤◌, if◌then◌else◌}
 use Rattle.std.proofs.lemmas.List.{drop_all}
 use Rattle.clap.specs.Simple.{App, with_subcommand}
 use Rattle.clap.specs.Walk.{Text}
@@ -10,18 +8,14 @@ use Rattle.clap.specs.declared.builder.value_parser.ValueParser.{ValueParser}
 use Rattle.clap.specs.declared.builder.value_parser.ValueParser.TheVariants as parsers
 use Rattle.store_model.specs.declared.version.Version.{Version}
 use Rattle.store_model.specs.declared.version.Version.TheVariants.{One, Two}
-use Rattle.store_model.specs.Grammar.{on_word}
 use Rattle.store_model.specs.Lists.{same_bytes}
 use Rattle.store_model.specs.Words.{Request}
-use Rattle.store_model.proofs.ListsLemmas.{first_true, second_true}
 use Rattle.command_line.specs.Building.{subcommand_told}
 use Rattle.command_line.specs.Line.{IsLine, TakesDraws, line_of}
-use Rattle.command_line.specs.Requests.{request_seen, IsInRange}
+use Rattle.command_line.specs.Requests.{request_seen}
 use Rattle.command_line.specs.declared.line.Argument.{Argument}
 use Rattle.command_line.specs.declared.line.Subcommand.{Subcommand}
 use Rattle.command_line.specs.declared.line.Subcommand.TheVariants.{Taking, Single}
-use Rattle.command_line.specs.declared.request.Request as own
-use Rattle.command_line.specs.declared.request.Request.TheVariants as own_requests
 
 -- those from one on
 pub from_next : (rows : List Subcommand) (i : ℕ) (d : Subcommand) → i < length rows
@@ -67,56 +61,47 @@ is_line line whole rows i left all whole_is one two = record {
   line_is = ap (with_subcommands line) (sym (drop_all i rows all)) ∙ left ∙ whole_is;
 }
 
--- what a word asks for by one of them
-abbrev pub asked_alone : List Subcommand → Text → Option Request
-asked_alone [] word = None
-asked_alone (Taking name arguments ∷ rows) word = asked_alone rows word
-asked_alone (Single name asks ∷ rows) word = on_word word name.now (Some (request_seen asks)) (asked_alone rows word)
+-- what is found for a word among the subcommands, by the word and the find that some of them have
+abbrev by_row : {A : Type 0} → Option (Text × A) → Text → A → A
+by_row None word rest = rest
+by_row (Some named) word rest = if same_bytes word named.0 then named.1 else rest
 
--- what one of them asks for has no parameters
-abbrev pub is_bare : Subcommand → Bool
-is_bare (Single name (own_requests.Format p)) = false
-is_bare (Single name (own_requests.Big number count)) = false
-is_bare _ = true
+abbrev pub lookup : {A : Type 0} → (Subcommand → Option (Text × A)) → A → List Subcommand → Text → A
+lookup of none [] word = none
+lookup of none (row ∷ rows) word = by_row (of row) word (lookup of none rows word)
 
-pub bare_in_range : (name : Bor Text) (asks : own.Request) → is_bare (Single name asks) ≡ true → IsInRange asks
-bare_in_range name (own_requests.Format p) bare = absurd (cc)
-bare_in_range name (own_requests.Big number count) bare = absurd (cc)
-bare_in_range name _ bare = tt
+-- what a word asks for by itself, and the names of the arguments behind one
+abbrev pub asked_alone : Subcommand → Option (Text × Option Request)
+asked_alone (Taking name arguments) = None
+asked_alone (Single name asks) = Some (name.now, Some (request_seen asks))
 
--- what a word asks for by those that are left
-module _ (rows : List Subcommand) (i : ℕ) (d : Subcommand) (word : Text) (asked : Option Request)
-    (left : asked_alone (drop i rows) word ≡ asked) (low : i < length rows) where
-  begun : (row : Subcommand) → get_or rows i d ≡ row → asked_alone (row ∷ drop (i + 1) rows) word ≡ asked
-  begun row is = ap (λ first. asked_alone (first ∷ drop (i + 1) rows) word) (sym is)
-      ∙ ap (λ all. asked_alone all word) (sym (from_next rows i d low)) ∙ left
+abbrev pub named_behind : Subcommand → Option (Text × List Text)
+named_behind (Taking name arguments) = Some (name.now, map (λ argument. argument.name.now) arguments.now)
+named_behind (Single name asks) = None
 
-  -- where the first of them is of this word, and where it is not
-  pub found_here : (name : Bor Text) (asks : own.Request) → get_or rows i d ≡ Single name asks
-      → same_bytes word name.now ≡ true → Some (request_seen asks) ≡ asked
-  found_here name asks is same =
-      subst (λ b. cond b (Some (request_seen asks)) (asked_alone (drop (i + 1) rows) word) ≡ asked) same
-      (begun (Single name asks) is)
+-- what is found among those that are left
+module _ {A : Type 0} (of : Subcommand → Option (Text × A)) (none : A) (rows : List Subcommand) (i : ℕ) (word : Text)
+    (found : A) (left : lookup of none (drop i rows) word ≡ found) where
+  module _ (d row : Subcommand) (low : i < length rows) (row_is : get_or rows i d ≡ row) where
+    begun : by_row (of row) word (lookup of none (drop (i + 1) rows) word) ≡ found
+    begun = ap (λ first. lookup of none (first ∷ drop (i + 1) rows) word) (sym row_is)
+        ∙ ap (λ all. lookup of none all word) (sym (from_next rows i d low)) ∙ left
 
-  pub passed_over : (name : Bor Text) (asks : own.Request) → get_or rows i d ≡ Single name asks
-      → same_bytes word name.now ≡ false → asked_alone (drop (i + 1) rows) word ≡ asked
-  passed_over name asks is other =
-      subst (λ b. cond b (Some (request_seen asks)) (asked_alone (drop (i + 1) rows) word) ≡ asked) other
-      (begun (Single name asks) is)
+    -- where the first of them is of this word, where it is of another, and where it has none
+    pub found_here : (named : Text × A) → of row ≡ Some named → same_bytes word named.0 ≡ true → named.1 ≡ found
+    found_here named is same =
+        subst (λ b. (if b then named.1 else lookup of none (drop (i + 1) rows) word) ≡ found) same
+        (subst (λ o. by_row o word (lookup of none (drop (i + 1) rows) word) ≡ found) is begun)
 
-  pub passed_taking : (name : Bor Text) (arguments : Bor (List Argument)) → get_or rows i d ≡ Taking name arguments
-      → asked_alone (drop (i + 1) rows) word ≡ asked
-  passed_taking name arguments is = begun (Taking name arguments) is
+    pub passed_over : (named : Text × A) → of row ≡ Some named → same_bytes word named.0 ≡ false
+        → lookup of none (drop (i + 1) rows) word ≡ found
+    passed_over named is other =
+        subst (λ b. (if b then named.1 else lookup of none (drop (i + 1) rows) word) ≡ found) other
+        (subst (λ o. by_row o word (lookup of none (drop (i + 1) rows) word) ≡ found) is begun)
 
--- none is left
-pub none_left : (rows : List Subcommand) (i : ℕ) (word : Text) (asked : Option Request)
-    → asked_alone (drop i rows) word ≡ asked → length rows ≤ i → None ≡ asked
-none_left rows i word asked left all = ap (λ some. asked_alone some word) (sym (drop_all i rows all)) ∙ left
+    pub passed_none : of row ≡ None → lookup of none (drop (i + 1) rows) word ≡ found
+    passed_none is = subst (λ o. by_row o word (lookup of none (drop (i + 1) rows) word) ≡ found) is begun
 
--- the next one is bare, and so are those behind it
-pub next_bare : (rows : List Subcommand) (i : ℕ) (d : Subcommand) → list_all is_bare (drop i rows) ≡ true
-    → i < length rows → (is_bare (get_or rows i d) ≡ true) × (list_all is_bare (drop (i + 1) rows) ≡ true)
-next_bare rows i d bare low =
-    let here : list_all is_bare (get_or rows i d ∷ drop (i + 1) rows) ≡ true =
-    ap (list_all is_bare) (sym (from_next rows i d low)) ∙ bare in
-    (first_true _ _ here, second_true _ _ here)
+  -- none is left
+  pub none_left : length rows ≤ i → none ≡ found
+  none_left all = ap (λ some. lookup of none some word) (sym (drop_all i rows all)) ∙ left

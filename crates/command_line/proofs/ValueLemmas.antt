@@ -1,13 +1,12 @@
 -- What `clap` asks of the values of a well-formed line holds of them.
 use Rattle.std.proofs.Common.{◌≡◌, ◌∙◌, ℕ, ◌+◌, ◌-◌, ◌*◌, ◌%◌, ◌^◌, ◌≤◌, Bool, true, false, cond, ◌==◌, ◌&&◌, List, []}
-use Rattle.std.proofs.Common.{◌∷◌, length, Option, Some, None, Err, nat_le, nat_lt, refl, ap, arith, codes, subst}
-use Rattle.std.proofs.Common.{⊎_elim, inl, inr, ◌⊎◌}
+use Rattle.std.proofs.Common.{◌∷◌, length, Option, Some, None, Err, nat_le, nat_lt, refl, sym, ap, arith, codes, subst}
+use Rattle.std.proofs.Common.{⊎_elim}
 use Rattle.std.specs.List.{fold, list_all, list_any}
 use Rattle.std.specs.Char.{digit_value}
 use Rattle.std.specs.Str.{bytes_eq}
 use Rattle.std.specs.Str.Parse.{digits_value_after, without_leading_plus}
 use Rattle.std.specs.Borrow.{Bor}
-use Rattle.std.specs.Cmp.Lexicographic.{bytes_decides}
 use Rattle.std.proofs.lemmas.Bool.{cases_Bool, false≢true, le-leb, leb-true, le-ltb, lt-ltb, eqb-true}
 use Rattle.clap.specs.ValueTests as tests
 use Rattle.clap.specs.ValueTests.{accepts, is_unsigned_in}
@@ -18,14 +17,14 @@ use Rattle.clap.proofs.WalkLemmas.{list_any-map}
 use Rattle.hex.specs.Hex.{decode_pairs}
 use Rattle.hex.specs.declared.error.FromHexError.TheVariants.{OddLength}
 use Rattle.store_model.specs.declared.draw_kind.DrawKind.{DrawKind}
-use Rattle.store_model.specs.Lists.{same_bytes}
 use Rattle.store_model.specs.Grammar.{◌>>=◌, digits_value, is_digit, is_numeral, number_limit, number_of, ok_value}
 use Rattle.store_model.specs.Parameters.{seed_len}
 use Rattle.store_model.specs.Words.{kind_of_word, number_in, seed_of_word}
 use Rattle.store_model.proofs.ListsLemmas.{first_true, second_true}
 use Rattle.command_line.specs.Line.{TakesDraws}
 use Rattle.command_line.proofs.WalkLemmas.{all_true, is_plain}
-use Rattle.command_line.proofs.TakenLines.{Passes}
+use Rattle.command_line.proofs.SingleWords.{by_word, nothing}
+use Rattle.command_line.proofs.TakenLines.{Fits}
 
 -- a value that is there under a condition
 pub some_if : {A : Type 0} (b : Bool) (x y : A) → cond b (Some x) None ≡ Some y → (b ≡ true) × (x ≡ y)
@@ -91,30 +90,30 @@ number_is text n e =
     let found = some_if _ _ _ e in
     (first_true _ _ found.0, found.1, subst (λ m. m ≤ number_limit) found.1 (leb-true _ _ (second_true _ _ found.0)))
 
-pub number_plain : (text : Text) (n : ℕ) → number_of text ≡ Some n → is_plain text ≡ true
-number_plain text n e = (numeral_digits text (number_is text n e).0).plain
-
 pub number_limited : (text : Text) (n : ℕ) → number_of text ≡ Some n → nat_le n number_limit ≡ true
 number_limited text n e = le-leb _ _ (number_is text n e).2
 
 -- a number in the range passes
-pub number_passes : (text : Text) (low high n : ℕ) → number_of text ≡ Some n → nat_le low n ≡ true
-    → nat_le n high ≡ true → Passes (parsers.Unsigned low high) text
+pub number_fits : (text : Text) (low high n : ℕ) → number_of text ≡ Some n → nat_le low n ≡ true
+    → nat_le n high ≡ true → Fits (parsers.Unsigned low high) text
 unfolding digits_value
-number_passes text low high n e from to =
+number_fits text low high n e from to =
     let found = number_is text n e in
     let digits = numeral_digits text found.0 in
     let n_is : digits_value_after 10 0 text ≡ n = value_after text 0 digits.all ∙ found.1 in
     let limit = found.2 in
-    ap (λ (t : Text). tests.is_numeral t
-    && (nat_lt (digits_value_after 10 0 t) (2 ^ 64)
-    && (nat_le low (digits_value_after 10 0 t) && nat_le (digits_value_after 10 0 t) high))) digits.no_plus
-    ∙ all_true _ _ (all_true _ _ digits.some (digits_small text digits.all))
-    (ap (λ m. nat_lt m (2 ^ 64) && (nat_le low m && nat_le m high)) n_is
-    ∙ all_true _ _ (lt-ltb n (2 ^ 64) (omega (arith, limit))) (all_true _ _ from to))
+    record {
+      plain = digits.plain;
+      passes = ap (λ (t : Text). tests.is_numeral t
+          && (nat_lt (digits_value_after 10 0 t) (2 ^ 64)
+          && (nat_le low (digits_value_after 10 0 t) && nat_le (digits_value_after 10 0 t) high))) digits.no_plus
+          ∙ all_true _ _ (all_true _ _ digits.some (digits_small text digits.all))
+          (ap (λ m. nat_lt m (2 ^ 64) && (nat_le low m && nat_le m high)) n_is
+          ∙ all_true _ _ (lt-ltb n (2 ^ 64) (omega (arith, limit))) (all_true _ _ from to));
+    }
 
 -- the number of a word that spells one in the range
-pub in_range : (low high n : ℕ) (text : Text) → number_in low high text ≡ Some n
+in_range : (low high n : ℕ) (text : Text) → number_in low high text ≡ Some n
     → (number_of text ≡ Some n) × (nat_le low n ≡ true) × (nat_le n high ≡ true)
 unfolding number_in
 in_range low high n text e = go (number_of text) e
@@ -129,13 +128,10 @@ in_range low high n text e = go (number_of text) e
           subst (λ k. nat_le k high ≡ true) found.1 (second_true _ _ found.0),
         )
 
-pub range_plain : (low high n : ℕ) (text : Text) → number_in low high text ≡ Some n → is_plain text ≡ true
-range_plain low high n text e = number_plain text n (in_range low high n text e).0
-
-pub range_passes : (low high n : ℕ) (text : Text) → number_in low high text ≡ Some n
-    → Passes (parsers.Unsigned low high) text
-range_passes low high n text e = let found = in_range low high n text e
-    in number_passes text low high n found.0 found.1 found.2
+pub range_fits : (low high n : ℕ) (text : Text) → number_in low high text ≡ Some n
+    → Fits (parsers.Unsigned low high) text
+range_fits low high n text e = let found = in_range low high n text e
+    in number_fits text low high n found.0 found.1 found.2
 
 -- ---- seeds
 
@@ -158,30 +154,21 @@ seed_plain (c ∷ digits) seed e =
 
 -- ---- draws
 
-no_draw : (text : Text) → same_bytes text (codes "ruler") ≡ false → same_bytes text (codes "sha256") ≡ false
-    → kind_of_word text ≡ None
-unfolding kind_of_word
-no_draw text ruler sha = rw (ruler, sha) refl
-
 -- a word that names a draw passes, and is no flag
-pub draw_names : (text : Text) (kind : DrawKind) → kind_of_word text ≡ Some kind
-    → (text ≡ codes "ruler") ⊎ (text ≡ codes "sha256")
+pub draw_fits : (draws : ValueParser) (text : Text) (kind : DrawKind) → TakesDraws draws
+    → kind_of_word text ≡ Some kind → Fits draws text
 unfolding kind_of_word
-draw_names text kind e =
-    ⊎_elim (λ yes. inl ((bytes_decides text (codes "ruler")).0 yes))
-    (λ no. ⊎_elim (λ yes. inr ((bytes_decides text (codes "sha256")).0 yes))
-    (λ other. let none = no_draw text no other in absurd (cc)) (cases_Bool (same_bytes text (codes "sha256"))))
-    (cases_Bool (same_bytes text (codes "ruler")))
-
-pub draw_plain : (text : Text) → (text ≡ codes "ruler") ⊎ (text ≡ codes "sha256") → is_plain text ≡ true
-draw_plain text names = ⊎_elim (λ e. ap is_plain e) (λ e. ap is_plain e) names
-
-pub draw_passes : (draws : ValueParser) (text : Text) → TakesDraws draws
-    → (text ≡ codes "ruler") ⊎ (text ≡ codes "sha256") → Passes draws text
-draw_passes draws text takes names =
-    let parser = ap (λ parser. accepts false parser text) takes.parser_is in
-    let listed = list_any-map (λ (name : Text). bytes_eq name text) (λ (name : Bor Text). name.now) takes.names.now in
-    let here = ap (list_any (λ (name : Text). bytes_eq name text)) takes.names_are in
-    parser ∙ listed ∙ here
-    ∙ ⊎_elim (λ e. ap (λ t. list_any (λ (name : Text). bytes_eq name t) (codes "ruler" ∷ codes "sha256" ∷ [])) e)
-    (λ e. ap (λ t. list_any (λ (name : Text). bytes_eq name t) (codes "ruler" ∷ codes "sha256" ∷ [])) e) names
+draw_fits draws text kind takes e =
+    ⊎_elim (λ here. subst (Fits draws) (sym here.0) (named (codes "ruler") refl refl))
+    (λ other. ⊎_elim (λ here. subst (Fits draws) (sym here.0) (named (codes "sha256") refl refl))
+    (λ none. nothing kind none) (by_word text (codes "sha256") _ _ kind other))
+    (by_word text (codes "ruler") _ _ kind e)
+  where
+    named : (name : Text) → is_plain name ≡ true
+        → list_any (λ (draw : Text). bytes_eq draw name) (codes "ruler" ∷ codes "sha256" ∷ []) ≡ true → Fits draws name
+    named name plain listed = record {
+      plain = plain;
+      passes = ap (λ parser. accepts false parser name) takes.parser_is
+          ∙ list_any-map (λ (draw : Text). bytes_eq draw name) (λ (draw : Bor Text). draw.now) takes.names.now
+          ∙ ap (list_any (λ (draw : Text). bytes_eq draw name)) takes.names_are ∙ listed;
+    }

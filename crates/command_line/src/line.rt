@@ -1,15 +1,15 @@
 //! The one list of the subcommands: the word of each, its arguments with their ranges, and what the word asks for where
 //! it has none. The command line that `clap` reads is made of it.
 
-ghost use Rattle.std.specs.Prelude.{◌≡◌, ◌∷◌, false, [], IfOk, IfSome};
+ghost use Rattle.std.specs.Prelude.{◌≡◌, ◌∷◌, false, [], IfOk, IfSome, map};
 ghost use Rattle.std.specs.Option.{option_map};
 ghost use Rattle.clap.specs.Simple.{app_of};
 ghost use Rattle.clap.specs.Walk.{rule_of};
 ghost use Rattle.clap.specs.declared.builder.command.Command.TheViews.{out-Command};
 ghost use Rattle.store_model.specs.Words.{request_of};
 ghost use Rattle.command_line.specs.Building.{AddsArguments, AddsSubcommand, IsBuilt, rule_told};
-ghost use Rattle.command_line.specs.Line.{IsLine, without_help, without_subcommands};
-ghost use Rattle.command_line.specs.Requests.{request_seen, IsInRange};
+ghost use Rattle.command_line.specs.Line.{IsLine, arguments_of, without_help, without_subcommands};
+ghost use Rattle.command_line.specs.Requests.{request_seen};
 
 use self::Subcommand::{Single, Taking};
 use crate::request::Request;
@@ -22,8 +22,8 @@ use store_base::{MAX_HEIGHT, MAX_SLOTS};
 pub const MAX_COMMANDS: u32 = 1_000_000;
 
 /// An argument of a subcommand: its name, and what its value has to be.
-struct Argument {
-    name: &'static str,
+pub(crate) struct Argument {
+    pub(crate) name: &'static str,
     parser: ValueParser<'static>,
 }
 
@@ -84,8 +84,7 @@ const SUBCOMMANDS: [Subcommand; 11] = [
 
 /// What a word asks for by itself.
 pub(crate) fn single_request(name: &str) -> Option<Request>
-    ensures value { option_map request_seen result ≡ request_of (name.now ∷ []) }
-    ensures valid { IfSome result IsInRange }
+    ensures { option_map request_seen result ≡ request_of (name.now ∷ []) }
 {
     for subcommand in &SUBCOMMANDS {
         match subcommand {
@@ -98,6 +97,23 @@ pub(crate) fn single_request(name: &str) -> Option<Request>
         }
     }
     None
+}
+
+/// The arguments of the subcommand with this word.
+pub(crate) fn arguments_of(name: &str) -> &'static [Argument]
+    ensures { map (λ argument. argument.name.now) result.now ≡ arguments_of name.now }
+{
+    for subcommand in &SUBCOMMANDS {
+        match subcommand {
+            Taking(word, arguments) => {
+                if name == *word {
+                    return arguments;
+                }
+            }
+            Single(_, _) => {}
+        }
+    }
+    &[]
 }
 
 /// Makes the argument for `clap`. It is required and has one value, which passes the parser.

@@ -8,6 +8,7 @@ use crate::words::Words;
 
 /// Whether the words ask for a mirror: there are two of them, `mirror` and the path of the other image. It takes no
 /// memory.
+#[tactic(auto, unfolding(store_model::specs::Words::request_of))]
 pub fn pair_words(words: &Words) -> bool
     ensures asks { IsTrue result ↔ AskMirror words.now }
     // and then they ask for nothing else

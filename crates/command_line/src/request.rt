@@ -1,17 +1,15 @@
 //! What a command line asks for, by the texts of its words.
 
-ghost use Rattle.std.specs.Prelude.{◌≡◌, ◌∷◌, [], codes, IfSome};
+ghost use Rattle.std.specs.Prelude.{◌≡◌, ◌≤◌, ◌∷◌, [], IfSome, map};
 ghost use Rattle.std.specs.Option.{option_map};
-ghost use Rattle.store_model.specs.Parameters.{IsParameters};
-ghost use Rattle.store_model.specs.Words.{kind_of_word, request_of, seed_of_word};
-ghost use Rattle.store_model.specs.Words.Request.{Format};
-ghost use Rattle.command_line.specs.Line.{format_word};
-ghost use Rattle.command_line.specs.Requests.{request_seen, IsInRange};
+ghost use Rattle.std.specs.String.{string_bytes};
+ghost use Rattle.store_model.specs.Words.{kind_of_word, number_in, request_of, seed_of_word, version_of_word};
+ghost use Rattle.command_line.specs.Requests.{request_seen};
 
-use crate::line::MAX_COMMANDS;
+use crate::line::{MAX_COMMANDS, single_request};
 use hex::FromHex;
 use script_lines::parse_number;
-use store_base::Params;
+use store_base::{MAX_HEIGHT, MAX_SLOTS, Params};
 use store_model::{DrawKind, Version};
 
 /// What a command line asks for.
@@ -39,43 +37,82 @@ pub enum Request {
     Big(u32, u32),
 }
 
-/// What `format` or `format2` asks for, by the version of the images that it makes and by its arguments.
-pub(crate) fn format_request(
-    version: Version,
-    slots: &str,
-    height: &str,
-    draw: &str,
-    seed: &str,
-) -> Option<Request>
-    ensures value { option_map request_seen result
-        ≡ request_of (format_word version ∷ slots.now ∷ height.now ∷ draw.now ∷ seed.now ∷ []) }
-    ensures valid { IfSome result IsInRange }
+/// What the words ask for; `None` exactly where they are not well formed.
+#[tactic(auto, unfolding(store_model::specs::Words::request_of))]
+pub(crate) fn asked(words: &[String]) -> Option<Request>
+    ensures { option_map request_seen result ≡ request_of (map string_bytes words.now) }
 {
-    Some(Request::Format(params_of_values(version, slots, height, draw, seed)?))
+    match words {
+        [word] => single_request(word.as_str()),
+        [word, number, count] => big_request(word.as_str(), number.as_str(), count.as_str()),
+        [word, slots, height, draw, seed] => format_request(
+            word.as_str(),
+            slots.as_str(),
+            height.as_str(),
+            draw.as_str(),
+            seed.as_str(),
+        ),
+        _ => None,
+    }
 }
 
-/// The parameters of this version that the texts spell; `None` exactly where one of them spells nothing in its range.
-fn params_of_values(
-    version: Version,
-    slots: &str,
-    height: &str,
-    draw: &str,
-    seed: &str,
-) -> Option<Params>
-    ensures value { option_map Format result
-        ≡ request_of (format_word version ∷ slots.now ∷ height.now ∷ draw.now ∷ seed.now ∷ []) }
-    ensures valid { IfSome result IsParameters }
+/// What a word and two arguments ask for: those of `big`.
+#[tactic(auto, unfolding(store_model::specs::Words::request_of))]
+fn big_request(word: &str, number: &str, count: &str) -> Option<Request>
+    ensures { option_map request_seen result
+        ≡ request_of (word.now ∷ number.now ∷ count.now ∷ []) }
 {
-    let slots = parse_number(slots.as_bytes())?;
-    let height = parse_number(height.as_bytes())?;
-    let height = u8::try_from(height).ok()?;
+    if word != "big" {
+        return None;
+    }
+    let number = parse_number(number.as_bytes())?;
+    let count = number_in(1, MAX_COMMANDS, count)?;
+    Some(Request::Big(number, count))
+}
+
+/// What a word and four arguments ask for: those of `format` and `format2`.
+#[tactic(auto, unfolding(store_model::specs::Words::request_of))]
+fn format_request(word: &str, slots: &str, height: &str, draw: &str, seed: &str) -> Option<Request>
+    ensures { option_map request_seen result
+        ≡ request_of (word.now ∷ slots.now ∷ height.now ∷ draw.now ∷ seed.now ∷ []) }
+{
+    let version = version_of(word)?;
+    let slots = number_in(1, MAX_SLOTS, slots)?;
+    let height = number_in(1, u32::from(MAX_HEIGHT), height)?;
     let kind = draw_kind(draw)?;
     let seed = seed_of(seed)?;
-    let params = Params::new(slots, height, kind, seed).ok()?;
-    Some(params.with_version(version))
+    let params = Params::new(slots, height as u8, kind, seed).ok()?;
+    Some(Request::Format(params.with_version(version)))
+}
+
+/// The version of the images that a word makes.
+#[tactic(auto, unfolding(store_model::specs::Words::version_of_word))]
+fn version_of(word: &str) -> Option<Version>
+    ensures { result ≡ version_of_word word.now }
+{
+    match word {
+        "format" => Some(Version::One),
+        "format2" => Some(Version::Two),
+        _ => None,
+    }
+}
+
+/// The number that a word spells, where it lies in the range.
+#[tactic(auto, unfolding(store_model::specs::Words::number_in))]
+fn number_in(low: u32, high: u32, word: &str) -> Option<u32>
+    ensures value { result ≡ number_in low high word.now }
+    ensures range { IfSome result (λ number. (low ≤ number) × (number ≤ high)) }
+{
+    let number = parse_number(word.as_bytes())?;
+    if low <= number && number <= high {
+        Some(number)
+    } else {
+        None
+    }
 }
 
 /// The draw that a word names.
+#[tactic(auto, unfolding(store_model::specs::Words::kind_of_word))]
 fn draw_kind(word: &str) -> Option<DrawKind>
     ensures { result ≡ kind_of_word word.now }
 {
@@ -91,18 +128,4 @@ fn seed_of(word: &str) -> Option<[u8; 32]>
     ensures { result ≡ seed_of_word word.now }
 {
     <[u8; 32] as FromHex>::from_hex(word).ok()
-}
-
-/// What `big` asks for, by its arguments.
-pub(crate) fn big_request(number: &str, count: &str) -> Option<Request>
-    ensures value { option_map request_seen result
-        ≡ request_of (codes "big" ∷ number.now ∷ count.now ∷ []) }
-    ensures valid { IfSome result IsInRange }
-{
-    let number = parse_number(number.as_bytes())?;
-    let count = parse_number(count.as_bytes())?;
-    if count < 1 || count > MAX_COMMANDS {
-        return None;
-    }
-    Some(Request::Big(number, count))
 }

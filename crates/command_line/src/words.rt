@@ -6,11 +6,11 @@ ghost use Rattle.std.specs.String.{string_bytes};
 ghost use Rattle.clap.specs.Simple.{subcommand_rows_of};
 ghost use Rattle.store_model.specs.Words.{request_of};
 ghost use Rattle.command_line.specs.Line.{HoldsLine};
-ghost use Rattle.command_line.specs.Requests.{request_seen, IsInRange};
+ghost use Rattle.command_line.specs.Requests.{request_seen};
 
 use crate::line;
-use crate::line_read::LineRead;
-use crate::request::Request;
+use crate::line_read::holds;
+use crate::request::{Request, asked};
 use clap::ArgMatches;
 use clap::error::ErrorKind;
 use std::alloc::Global;
@@ -74,13 +74,12 @@ impl Words {
     /// Finds what the words ask for; `None` exactly where they are not well formed.
     /// `NoMemory`: it was not found out.
     pub fn request(&self) -> Result<Option<Request>, NoMemory>
-        ensures value { IfOk result (λ asked. option_map request_seen asked ≡ request_of self.now) }
-        ensures valid { IfOk result (λ asked. IfSome asked IsInRange) }
+        ensures { IfOk result (λ asked. option_map request_seen asked ≡ request_of self.now) }
     {
         let line = line::command(self.alloc)?;
         let words = self.words.as_slice();
         match line.try_get_matches_from(words) {
-            Ok(matches) => Ok(asked(words, &matches)),
+            Ok(matches) => Ok(asked_of(words, &matches)),
             Err(error) => not_asked(error.kind()),
         }
     }
@@ -97,16 +96,14 @@ fn not_asked(why: ErrorKind) -> Result<Option<Request>, NoMemory>
 }
 
 /// What the matches ask for, where they hold the words just as they stand.
-fn asked(words: &[String], matches: &ArgMatches<'_>) -> Option<Request>
+fn asked_of(words: &[String], matches: &ArgMatches<'_>) -> Option<Request>
     ensures right { IfSome result (λ request. request_of (map string_bytes words.now)
         ≡ Some (request_seen request)) }
     ensures whole { HoldsLine (map string_bytes words.now) (subcommand_rows_of matches.now)
         → option_map request_seen result ≡ request_of (map string_bytes words.now) }
-    ensures valid { IfSome result IsInRange }
 {
-    let line = LineRead::of(matches)?;
-    if line.has(words) {
-        line.request()
+    if holds(matches, words) {
+        asked(words)
     } else {
         None
     }

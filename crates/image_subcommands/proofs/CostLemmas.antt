@@ -29,8 +29,7 @@ counts_format p old new result makes = record {
       sync_count = omega (arith, makes.sync_count);
     }
     made (Err journal.Disk) makes e = absurd (cc)
-    made (Err journal.AlreadyImage) makes e = absurd (cc)
-    made (Err journal.WrongLength) makes e = absurd (cc)
+    made (Err fault) makes e = absurd (cc)
 
 -- ---- wiping
 

@@ -1,5 +1,5 @@
 -- Each status once: what follows from the columns of the table of statuses, without a case for each of them.
-use Rattle.std.proofs.Common.{◌≡◌, ◌⊎◌, ◌==◌, List, [], ◌∷◌, ℕ, Bool, true, false, refl, sym, ap, subst, ◌∙◌, inl}
+use Rattle.std.proofs.Common.{◌≡◌, ◌⊎◌, ◌==◌, List, [], ◌∷◌, ℕ, Bool, true, false, refl, sym, ap, subst, inl}
 use Rattle.std.proofs.Common.{inr, ⊎_elim, arith}
 use Rattle.std.specs.Prelude.{not, ◌&&◌, ◌||◌}
 use Rattle.std.specs.List.{AllByRecursion, list_all}

@@ -25,34 +25,22 @@ use Rattle.image_subcommands.proofs.CostLemmas.{counts_format}
 ended : (r : Result (Unit {0}) JournalFault) → IsStatusOf words.Format (status_of journal_status r)
 ended (Ok value) = refl
 ended (Err causes.Disk) = refl
-ended (Err causes.AlreadyImage) = refl
-ended (Err causes.WrongLength) = refl
+ended (Err fault) = refl
 
-done : (r : Result (Unit {0}) JournalFault) → status_of journal_status r ≡ statuses.Done → r ≡ Ok tt
-done (Ok value) e = refl
-done (Err causes.Disk) e = absurd (cc)
-done (Err causes.AlreadyImage) e = absurd (cc)
-done (Err causes.WrongLength) e = absurd (cc)
-
-already : (r : Result (Unit {0}) JournalFault) → status_of journal_status r ≡ statuses.AlreadyImage
-    → r ≡ Err causes.AlreadyImage
-already (Ok value) e = absurd (cc)
-already (Err causes.Disk) e = absurd (cc)
-already (Err causes.AlreadyImage) e = refl
-already (Err causes.WrongLength) e = absurd (cc)
-
-wrong : (r : Result (Unit {0}) JournalFault) → status_of journal_status r ≡ statuses.WrongLength
-    → r ≡ Err causes.WrongLength
-wrong (Ok value) e = absurd (cc)
-wrong (Err causes.Disk) e = absurd (cc)
-wrong (Err causes.AlreadyImage) e = absurd (cc)
-wrong (Err causes.WrongLength) e = refl
+-- the status tells which it is
+same : (r other : Result (Unit {0}) JournalFault) → status_of journal_status r ≡ status_of journal_status other
+    → r ≡ other
+same (Ok value) (Ok done) e = refl
+same (Ok value) (Err causes.Disk) e = absurd (cc)
+same (Err causes.Disk) (Err causes.Disk) e = refl
+same (Err causes.AlreadyImage) (Err causes.AlreadyImage) e = refl
+same (Err causes.WrongLength) (Err causes.WrongLength) e = refl
+same r other e = absurd (cc)
 
 in_memory : (r : Result (Unit {0}) JournalFault) → status_of journal_status r ≡ statuses.NoMemory → ⊥
 in_memory (Ok value) e = cc
 in_memory (Err causes.Disk) e = cc
-in_memory (Err causes.AlreadyImage) e = cc
-in_memory (Err causes.WrongLength) e = cc
+in_memory (Err fault) e = cc
 
 refused_by : (P : Type 0) (r : Result (Unit {0}) JournalFault) → IsRefusedDisk (status_of journal_status r)
     → (r ≡ Err causes.AlreadyImage → P) → (r ≡ Err causes.WrongLength → P) → P
@@ -129,24 +117,26 @@ format_ends {D} disk_of sound p before disk r wrong_length untouched image image
       ends = ended r;
       done = refl;
       wrong_length = record {
-        only = λ e. wrong_length.0 (wrong r e);
+        only = λ e. wrong_length.0 (same r (Err causes.WrongLength) e);
         always = λ differ. inl (ap (status_of journal_status) (wrong_length.1 differ));
       };
-      right_length = λ e. right_length p old new r wrong_length (Err causes.AlreadyImage) (already r e) (λ h. cc);
+      right_length = λ e. right_length p old new r wrong_length (Err causes.AlreadyImage)
+          (same r (Err causes.AlreadyImage) e) (λ h. cc);
       source = refl;
       sink = refl;
       no_memory = λ e. absurd (in_memory r e);
       observed = λ o. record {
         already_image = record {
           only = λ e. record {
-            size_is = right_length p old new r wrong_length (Err causes.AlreadyImage) (already r e) (λ h. cc);
-            first_is = image o (already r e);
+            size_is = right_length p old new r wrong_length (Err causes.AlreadyImage)
+                (same r (Err causes.AlreadyImage) e) (λ h. cc);
+            first_is = image o (same r (Err causes.AlreadyImage) e);
           };
           always = λ begins. ⊎_elim (λ is. inl (ap (status_of journal_status) is))
               (λ is. inr (subst (λ (x : Result (Unit {0}) JournalFault). MayComeFirst (status_of journal_status x))
               (sym is) refl)) (found o begins.size_is begins.first_is);
         };
-        formatted = λ e. stands p old new r wrong_length r (done r e) (formatted o);
+        formatted = λ e. stands p old new r wrong_length r (same r (Ok tt) e) (formatted o);
         refused = λ refused. refused_by (ReadsOnly old new) r refused (image_reads o) (unchanged o);
         keeps = λ first. elim (cases_eq old.size (image_len p.slots)) [
           | inl right ↦ image_kept o right first

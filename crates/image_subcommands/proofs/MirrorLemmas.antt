@@ -26,33 +26,18 @@ use Rattle.image_subcommands.proofs.ReportLemmas.{rose}
 -- ---- by status
 
 fails_mirror : (fault : MirrorFault) → IsStatusOf words.Mirror (mirror_status fault)
-fails_mirror faults.FromNotImage = refl
-fails_mirror faults.FromDamaged = refl
-fails_mirror faults.ToNotImage = refl
-fails_mirror (faults.Unequal p q) = refl
-fails_mirror faults.FromDisk = refl
-fails_mirror faults.ToDisk = refl
 fails_mirror faults.NoMemory = refl
+fails_mirror fault = refl
 
 -- none of a fault is that of a mirror that was carried out
 is_not_mirrored : (fault : MirrorFault) → IsMirrored (mirror_status fault) → ⊥
-is_not_mirrored faults.FromNotImage h = false≢true h
-is_not_mirrored faults.FromDamaged h = false≢true h
-is_not_mirrored faults.ToNotImage h = false≢true h
-is_not_mirrored (faults.Unequal p q) h = false≢true h
-is_not_mirrored faults.FromDisk h = false≢true h
-is_not_mirrored faults.ToDisk h = false≢true h
 is_not_mirrored faults.NoMemory h = false≢true h
+is_not_mirrored fault h = false≢true h
 
 -- nor is it that of a sink
 spares_sink : (fault : MirrorFault) (count : ℕ) → sink_faults_by (mirror_status fault) count ≡ count
-spares_sink faults.FromNotImage count = refl
-spares_sink faults.FromDamaged count = refl
-spares_sink faults.ToNotImage count = refl
-spares_sink (faults.Unequal p q) count = refl
-spares_sink faults.FromDisk count = refl
-spares_sink faults.ToDisk count = refl
 spares_sink faults.NoMemory count = refl
+spares_sink fault count = refl
 
 -- a fault whose status spares the second disk is none of that
 is_of_first : (fault : MirrorFault) → SparesSecond (mirror_status fault) → fault ≡ faults.ToDisk → ⊥
@@ -253,14 +238,6 @@ module _ (from from_new to to_new : DiskState) where
       → to_new.faults ≡ to_faults_after {T = ℕ} to.faults (Err fault)
       → (IsObservable to → (fault ≡ faults.ToDisk → ⊥) → ReadsOnly to to_new)
       → FailsOne (mirror_status fault) from from_new to to_new
-  fails_by faults.FromNotImage cause from_faults to_faults refused =
-      fails_none statuses.NotImage (λ count. refl) (λ e. cc) from_faults to_faults
-  fails_by faults.FromDamaged cause from_faults to_faults refused =
-      fails_none statuses.Damaged (λ count. refl) (λ e. cc) from_faults to_faults
-  fails_by faults.ToNotImage cause from_faults to_faults refused =
-      fails_none statuses.NotImage (λ count. refl) (λ e. cc) from_faults to_faults
-  fails_by (faults.Unequal p q) cause from_faults to_faults refused =
-      fails_none statuses.Unequal (λ count. refl) (λ e. cc) from_faults to_faults
   fails_by faults.FromDisk cause from_faults to_faults refused =
       inl (record {
         from_faults = from_faults;
@@ -269,8 +246,8 @@ module _ (from from_new to to_new : DiskState) where
       })
   fails_by faults.ToDisk some from_faults to_faults refused =
       inr (record { from_faults = from_faults; to_faults = to_faults; holds = λ e. some })
-  fails_by faults.NoMemory cause from_faults to_faults refused =
-      fails_none statuses.NoMemory (λ count. refl) (λ e. cc) from_faults to_faults
+  fails_by fault cause from_faults to_faults refused =
+      fails_none (mirror_status fault) (λ count. refl) (λ e. cc) from_faults to_faults
 
 module _ {W : Type 0} (sink_of : W → SinkState) (from from_new to to_new : DiskState) where
   fails_one : (result : Result ℕ MirrorFault) (sink sink_new : W) (status : Status)

@@ -1,23 +1,21 @@
 -- Lemmas on calls that judge a disk and print a report: what is printed, and how they end.
-use Rattle.std.proofs.Common.{◌≡◌, ℕ, ◌≤◌, Result, Ok, Err, IfOk, refl, sym, ap, ◌∙◌, subst, arith, inl, inr, ⊎_elim}
+use Rattle.std.proofs.Common.{◌≡◌, ◌⊎◌, ℕ, ◌≤◌, Result, Ok, Err, IfOk, refl, sym, subst, arith, inl, inr, ⊎_elim}
 use Rattle.std.proofs.lemmas.Bool.{false≢true}
 use Rattle.store_base.specs.Counts.{raised, Rose}
 use Rattle.store_base.specs.Faults.{disk_faults_after}
 use Rattle.store_base.specs.declared.store_fault.Fault.{Fault}
 use Rattle.store_base.specs.declared.store_fault.Fault.TheVariants as causes
 use Rattle.disk_model.specs.DiskState.{DiskState}
-use Rattle.gate_journal.specs.Disks.{KeepsDisk}
 use Rattle.image_check.specs.declared.verdict.Verdict.{Verdict}
 use Rattle.image_check.specs.declared.verdict.Verdict.TheVariants as verdicts
 use Rattle.image_check.specs.Verdicts.{IsNoImage}
-use Rattle.script_lines.specs.SourceState.{SourceState}
 use Rattle.script_lines.specs.SinkState.{SinkState}
 use Rattle.image_subcommands.specs.declared.status.Status.{Status}
 use Rattle.image_subcommands.specs.declared.status.Status.TheVariants as statuses
 use Rattle.image_subcommands.specs.Endings.{fault_status}
-use Rattle.image_subcommands.specs.Outside.{KeepsOutside}
-use Rattle.image_subcommands.specs.Reports.{verdict_status, PrintsReport, Reports, EndsByVerdict}
-use Rattle.image_subcommands.specs.Statuses.{IsJudged, disk_faults_by, source_faults_by, sink_faults_by}
+use Rattle.image_subcommands.specs.Reports.{verdict_status, IsUnreported, PrintsReport, Reports}
+use Rattle.image_subcommands.specs.Reports.{EndsByVerdict}
+use Rattle.image_subcommands.specs.Statuses.{IsJudged, sink_faults_by}
 
 -- a count of failed calls that was raised rose
 pub rose : (old new : ℕ) → new ≡ raised old → Rose old new
@@ -74,32 +72,36 @@ Found IsWhole IsBroken old verdicts.NotImage = IsNoImage old
 Found IsWhole IsBroken old verdicts.Damaged = IsBroken
 
 module _ (IsWhole IsBroken : Type 0) (old new : DiskState) where
+  -- by a status that is none of a verdict
+  none_judged : (status : Status) → IsUnreported status → (status ≡ statuses.Done → ⊥)
+      → (status ≡ statuses.NotImage → ⊥) → (status ≡ statuses.Damaged → ⊥) → (sink sink_new : SinkState)
+      → ((Rose old.faults new.faults → ⊥) → (Rose sink.faults sink_new.faults → ⊥)
+      → (status ≡ statuses.Done) ⊎ (status ≡ statuses.NoMemory))
+      → EndsByVerdict IsWhole IsBroken status old new sink sink_new
+  none_judged status before done image damage sink sink_new complete = record {
+    clean = record { only = λ e. absurd (done e); always = λ whole. inr before };
+    not_image = record { only = λ e. absurd (image e); always = λ none. inr before };
+    damaged = record { only = λ e. absurd (damage e); always = λ broken. inr before };
+    complete = λ whole. complete;
+  }
+
   -- by a fault before the verdict
   ends_by_fault : (fault : Fault) (sink sink_new : SinkState)
       → new.faults ≡ disk_faults_after {T = Verdict} old.faults (Err fault)
       → EndsByVerdict IsWhole IsBroken (fault_status fault) old new sink sink_new
-  ends_by_fault causes.Disk sink sink_new faults = record {
-    clean = record { only = λ e. absurd (cc); always = λ whole. inr (inr refl) };
-    not_image = record { only = λ e. absurd (cc); always = λ none. inr (inr refl) };
-    damaged = record { only = λ e. absurd (cc); always = λ broken. inr (inr refl) };
-    complete = λ whole disk_well sink_well. absurd (disk_well (rose old.faults new.faults faults));
-  }
-  ends_by_fault causes.NoMemory sink sink_new faults = record {
-    clean = record { only = λ e. absurd (cc); always = λ whole. inr (inr refl) };
-    not_image = record { only = λ e. absurd (cc); always = λ none. inr (inr refl) };
-    damaged = record { only = λ e. absurd (cc); always = λ broken. inr (inr refl) };
-    complete = λ whole disk_well sink_well. inr refl;
-  }
+  ends_by_fault causes.Disk sink sink_new faults =
+      none_judged statuses.DiskFault (inr refl) (λ e. cc) (λ e. cc) (λ e. cc) sink sink_new
+      (λ disk_well sink_well. absurd (disk_well (rose old.faults new.faults faults)))
+  ends_by_fault causes.NoMemory sink sink_new faults =
+      none_judged statuses.NoMemory (inr refl) (λ e. cc) (λ e. cc) (λ e. cc) sink sink_new
+      (λ disk_well sink_well. inr refl)
 
   -- by one of the sink
   ends_by_sink : (sink sink_new : SinkState) → sink_new.faults ≡ raised sink.faults
       → EndsByVerdict IsWhole IsBroken statuses.SinkFault old new sink sink_new
-  ends_by_sink sink sink_new faults = record {
-    clean = record { only = λ e. absurd (cc); always = λ whole. inr (inl refl) };
-    not_image = record { only = λ e. absurd (cc); always = λ none. inr (inl refl) };
-    damaged = record { only = λ e. absurd (cc); always = λ broken. inr (inl refl) };
-    complete = λ whole disk_well sink_well. absurd (sink_well (rose sink.faults sink_new.faults faults));
-  }
+  ends_by_sink sink sink_new faults =
+      none_judged statuses.SinkFault (inl refl) (λ e. cc) (λ e. cc) (λ e. cc) sink sink_new
+      (λ disk_well sink_well. absurd (sink_well (rose sink.faults sink_new.faults faults)))
 
   module _ (whole_image : IsWhole → IsNoImage old → ⊥) (whole_broken : IsWhole → IsBroken → ⊥)
       (image_broken : IsNoImage old → IsBroken → ⊥) where
@@ -139,56 +141,3 @@ module _ (IsWhole IsBroken : Type 0) (old new : DiskState) where
     ends_by_verdict sink_of (Err fault) sink sink_new status found faults prints =
         let P : Status → Type 0 = λ s. EndsByVerdict IsWhole IsBroken s old new (sink_of sink) (sink_of sink_new) in
         subst P (sym prints.status_is) (ends_by_fault fault (sink_of sink) (sink_of sink_new) faults)
-
--- ---- what stands around it
-
-spares_disk : (verdict : Verdict) (count : ℕ) → disk_faults_by (verdict_status verdict) count ≡ count
-spares_disk (verdicts.Clean pages dirs files bytes) count = refl
-spares_disk verdicts.NotImage count = refl
-spares_disk verdicts.Damaged count = refl
-
-spares_source : (verdict : Verdict) (count : ℕ) → source_faults_by (verdict_status verdict) count ≡ count
-spares_source (verdicts.Clean pages dirs files bytes) count = refl
-spares_source verdicts.NotImage count = refl
-spares_source verdicts.Damaged count = refl
-
--- a disk was judged, and the report printed, or not
-pub outside_report : {W : Type 0} (sink_of : W → SinkState) (result : Result Verdict Fault) (old new : DiskState)
-    (source : SourceState) (sink sink_new : W) (status : Status)
-    → KeepsDisk old new → new.faults ≡ disk_faults_after old.faults result
-    → PrintsReport sink_of result sink sink_new status
-    → KeepsOutside status old new source source (sink_of sink) (sink_of sink_new)
-outside_report sink_of (Ok verdict) old new source sink sink_new status kept faults prints = record {
-  disk_kept = kept;
-  source_observable = refl;
-  sink_observable = prints.observable;
-  disk_faults = faults ∙ ⊎_elim (λ e. ap (λ (s : Status). disk_faults_by s old.faults) (sym e))
-      (λ e. sym (spares_disk verdict old.faults) ∙ ap (λ (s : Status). disk_faults_by s old.faults) (sym e))
-      prints.status_is;
-  source_faults = ⊎_elim (λ e. ap (λ (s : Status). source_faults_by s source.faults) (sym e))
-      (λ e. sym (spares_source verdict source.faults) ∙ ap (λ (s : Status). source_faults_by s source.faults) (sym e))
-      prints.status_is;
-  sink_faults = prints.faults;
-}
-outside_report {W} sink_of (Err causes.Disk) old new source sink sink_new status kept faults prints =
-    subst (λ (s : Status). KeepsOutside s old new source source (sink_of sink) (sink_of sink_new))
-    (sym prints.status_is)
-    (record {
-      disk_kept = kept;
-      source_observable = refl;
-      sink_observable = ap (λ (w : W). (sink_of w).is_observable) prints.same;
-      disk_faults = faults;
-      source_faults = refl;
-      sink_faults = ap (λ (w : W). (sink_of w).faults) prints.same;
-    })
-outside_report {W} sink_of (Err causes.NoMemory) old new source sink sink_new status kept faults prints =
-    subst (λ (s : Status). KeepsOutside s old new source source (sink_of sink) (sink_of sink_new))
-    (sym prints.status_is)
-    (record {
-      disk_kept = kept;
-      source_observable = refl;
-      sink_observable = ap (λ (w : W). (sink_of w).is_observable) prints.same;
-      disk_faults = faults;
-      source_faults = refl;
-      sink_faults = ap (λ (w : W). (sink_of w).faults) prints.same;
-    })

@@ -1,7 +1,6 @@
 -- The statuses of a call, in one table. What other records ask of a status follows from it; those of a dump and of a
 -- load stand beside their records.
-use Rattle.std.specs.Prelude.{◌≡◌, ◌⊎◌, ℕ, ◌==◌, List, [], ◌∷◌, Bool, true, false, IsTrue, not, ◌&&◌, if◌then◌else◌}
-use Rattle.std.specs.List.{list_any}
+use Rattle.std.specs.Prelude.{◌≡◌, ◌⊎◌, ℕ, List, [], ◌∷◌, Bool, true, false, IsTrue, not, ◌&&◌, if◌then◌else◌}
 use Rattle.store_base.specs.Counts.{raised}
 use Rattle.image_subcommands.specs.declared.status.Status.{Status}
 use Rattle.image_subcommands.specs.declared.status.Status.TheVariants.{Done, Usage, SourceFault, SinkFault, DiskFault}
@@ -23,31 +22,37 @@ pub data Subcommand : Type 0 where
   Dump : Subcommand
   Load : Subcommand
 
--- all of them
-abbrev every_word : List Subcommand
-every_word = Format ∷ Run ∷ Session ∷ Check ∷ Scrub ∷ Wipe ∷ Upgrade ∷ Big ∷ Mirror ∷ Dump ∷ Load ∷ []
+-- those for which there has to be an image, those that read a source, and those that print
+abbrev needs_image : Subcommand → Bool
+needs_image Format = false
+needs_image Wipe = false
+needs_image word = true
 
--- those for which there has to be an image
-abbrev words_on_image : List Subcommand
-words_on_image = Run ∷ Session ∷ Check ∷ Scrub ∷ Upgrade ∷ Big ∷ Mirror ∷ Dump ∷ Load ∷ []
+abbrev reads_source : Subcommand → Bool
+reads_source Run = true
+reads_source Session = true
+reads_source Load = true
+reads_source word = false
 
--- the place of each in that order, by which two are told apart
-abbrev place_of : Subcommand → ℕ
-place_of Format = 0
-place_of Run = 1
-place_of Session = 2
-place_of Check = 3
-place_of Scrub = 4
-place_of Wipe = 5
-place_of Upgrade = 6
-place_of Big = 7
-place_of Mirror = 8
-place_of Dump = 9
-place_of Load = 10
+abbrev prints : Subcommand → Bool
+prints Upgrade = false
+prints word = needs_image word
+
+abbrev is_format : Subcommand → Bool
+is_format Format = true
+is_format word = false
+
+abbrev is_mirror : Subcommand → Bool
+is_mirror Mirror = true
+is_mirror word = false
+
+abbrev is_load : Subcommand → Bool
+is_load Load = true
+is_load word = false
 
 -- whether it is one of these
-abbrev pub is_among : Subcommand → List Subcommand → Bool
-is_among word words = list_any (λ other. place_of other == place_of word) words
+abbrev pub is_among : Subcommand → (Subcommand → Bool) → Bool
+is_among word words = words word
 
 -- what failed in a call, if anything did
 pub data Failed : Type 0 where
@@ -61,7 +66,7 @@ pub record Row : Type 0 where
   -- the number that the program ends with
   pub code : ℕ
   -- the subcommands that may end so
-  pub words : List Subcommand
+  pub words : Subcommand → Bool
   -- what failed
   pub failed : Failed
   -- the work was carried out
@@ -89,7 +94,7 @@ pub record Row : Type 0 where
 abbrev with_code : ℕ → Row
 with_code code = record {
   code = code;
-  words = [];
+  words = λ word. false;
   failed = Nothing;
   is_done = false;
   is_judged = false;
@@ -105,7 +110,7 @@ with_code code = record {
 
 abbrev pub row : Status → Row
 row Done = record (with_code 0) {
-  words = every_word;
+  words = λ word. true;
   is_done = true;
   is_judged = true;
   is_past_header = true;
@@ -114,14 +119,14 @@ row Done = record (with_code 0) {
 }
 row Usage = with_code 2
 row SourceFault = record (with_code 3) {
-  words = Run ∷ Session ∷ Load ∷ [];
+  words = reads_source;
   failed = TheSource;
   is_past_header = true;
   is_between_lines = true;
   is_cut_short = true;
 }
 row SinkFault = record (with_code 4) {
-  words = Run ∷ Session ∷ Check ∷ Scrub ∷ Big ∷ Mirror ∷ Dump ∷ Load ∷ [];
+  words = prints;
   failed = TheSink;
   is_judged = true;
   is_past_header = true;
@@ -129,42 +134,42 @@ row SinkFault = record (with_code 4) {
   is_mirrored = true;
 }
 row DiskFault = record (with_code 5) {
-  words = every_word;
+  words = λ word. true;
   failed = TheDisk;
   is_cut_short = true;
   may_come_first = true;
 }
 row TooLong = record (with_code 6) {
-  words = Run ∷ Session ∷ Load ∷ [];
+  words = reads_source;
   is_past_header = true;
   is_between_lines = true;
   is_cut_short = true;
 }
 row NotImage = record (with_code 7) {
-  words = words_on_image;
+  words = needs_image;
   is_judged = true;
   refuses_image = true;
   spares_second = true;
 }
 row Damaged = record (with_code 8) {
-  words = words_on_image;
+  words = needs_image;
   is_judged = true;
   refuses_image = true;
   is_past_header = true;
   spares_second = true;
 }
 row NoMemory = record (with_code 9) {
-  words = every_word;
+  words = λ word. true;
   is_cut_short = true;
   may_come_first = true;
   spares_second = true;
 }
-row AlreadyImage = record (with_code 10) { words = Format ∷ []; refuses_disk = true }
-row WrongLength = record (with_code 11) { words = Format ∷ []; refuses_disk = true }
-row Unequal = record (with_code 13) { words = Mirror ∷ []; spares_second = true }
-row NotEmpty = record (with_code 14) { words = Load ∷ []; is_past_header = true }
-row BadListing = record (with_code 15) { words = Load ∷ []; is_past_header = true }
-row TooFull = record (with_code 16) { words = Load ∷ []; is_past_header = true }
+row AlreadyImage = record (with_code 10) { words = is_format; refuses_disk = true }
+row WrongLength = record (with_code 11) { words = is_format; refuses_disk = true }
+row Unequal = record (with_code 13) { words = is_mirror; spares_second = true }
+row NotEmpty = record (with_code 14) { words = is_load; is_past_header = true }
+row BadListing = record (with_code 15) { words = is_load; is_past_header = true }
+row TooFull = record (with_code 16) { words = is_load; is_past_header = true }
 
 -- all statuses, of which each predicate below is a filter
 abbrev pub every_status : List Status

