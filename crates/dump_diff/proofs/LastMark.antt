@@ -114,14 +114,6 @@ unmarked items p rising upto other = by_last (slice_get items (length items - 1)
         ap (find path_cmp p) marks ∙ none_of_less (marks_of split.0 ++ (d.path, d.mark) ∷ []) p
         (all_before (marks_of split.0) d.path p d.mark rises (less_of_other d.path p le (other d e)))
 
--- a path that has a mark is marked already
-pub marked_there : (marks : List (Path × Mark)) (p : Path) (mark known : Mark) → find path_cmp p marks ≡ Some known
-    → MarksPath marks marks p mark known
-marked_there marks p mark known some = record {
-  marked = record { there = λ m e. refl; added = λ none. let never : Some known ≡ None = sym some ∙ none in cc };
-  known_is = some;
-}
-
 -- one that has none is marked behind all others
 pub marked_more : (items : List Difference) (p : Path) (mark : Mark) → find path_cmp p (marks_of items) ≡ None
     → MarksPath (marks_of items) (marks_of (items ++ record { path = p; mark = mark } ∷ [])) p mark mark

@@ -8,19 +8,16 @@ use Rattle.std.specs.List.{AllByRecursion}
 use Rattle.std.proofs.lemmas.Bool.{false≢true}
 use Rattle.std.proofs.lemmas.List.{append-nil}
 use Rattle.std.proofs.lemmas.List.Elements.{filter-append}
-use Rattle.store_model.specs.Commands.{Command}
+use Rattle.tree_listing.specs.Dumps.{DumpStep, step_path}
 use Rattle.store_model.specs.Paths.{Path, path_cmp}
 use Rattle.store_model.proofs.ListsLemmas.{all_weaker, all_append, rising_append, rising_one, rising_from_is_sorted}
 use Rattle.store_model.proofs.ListsLemmas.{is_sorted_from_rising}
-use Rattle.store_model.proofs.TreesLemmasPaths.{path_cmp_total, same_from_tie}
+use Rattle.store_model.proofs.TreesLemmasPaths.{path_cmp_total, same_from_tie, same_from_test}
 use Rattle.dump_diff.specs.declared.difference.Mark.{Mark}
-use Rattle.dump_diff.specs.Places.{command_path}
+use Rattle.dump_diff.proofs.DumpPlaces.{own_all, own_none}
 use Rattle.dump_diff.specs.Shown.{own, Shows, AreShown, AreUpTo, IsMarked}
 
 -- ---- orders
-
-pub le_of_less : (x y : Path) → path_cmp x y ≡ Less → is_le (path_cmp x y) ≡ true
-le_of_less x y l = ap is_le l
 
 pub le_itself : (x : Path) → is_le (path_cmp x x) ≡ true
 le_itself x = ap is_le (tied_itself path_cmp_total x)
@@ -121,29 +118,11 @@ marks_one old new p mark rising upto is = by_mark (find path_cmp p old) refl
           added = λ none. ap (find path_cmp p) more ∙ found_here old p mark none;
         }
 
--- ---- commands of one path more
+-- ---- steps of one path more
 
-tie_of : (o : Ordering) → is_eq o ≡ true → o ≡ Equal
-tie_of Less e = cc
-tie_of Equal e = refl
-tie_of Greater e = cc
-
-pub own_all : (p : Path) (cs : List Command) → AllByRecursion (λ c. command_path c ≡ p) cs → own p cs ≡ cs
-own_all p [] on = refl
-own_all p (c ∷ cs) on =
-    ap (λ b. cond b (c ∷ own p cs) (own p cs))
-    (ap (λ (q : Path). eq_by_cmp path_cmp p q) on.0 ∙ ap is_eq (tied_itself path_cmp_total p))
-    ∙ ap (λ (more : List Command). c ∷ more) (own_all p cs on.1)
-
-pub own_none : (p q : Path) (cs : List Command) → eq_by_cmp path_cmp q p ≡ false
-    → AllByRecursion (λ c. command_path c ≡ p) cs → own q cs ≡ []
-own_none p q [] other on = refl
-own_none p q (c ∷ cs) other on = ap (λ b. cond b (c ∷ own q cs) (own q cs))
-    (ap (λ (r : Path). eq_by_cmp path_cmp q r) on.0 ∙ other) ∙ own_none p q cs other on.1
-
-pub shown_more : (first second xs ys : List Command) (old new : List (Path × Mark)) (p : Path)
+pub shown_more : (first second xs ys : List DumpStep) (old new : List (Path × Mark)) (p : Path)
     → AreShown first second old
-    → AllByRecursion (λ c. command_path c ≡ p) xs → AllByRecursion (λ c. command_path c ≡ p) ys
+    → AllByRecursion (λ c. step_path c ≡ p) xs → AllByRecursion (λ c. step_path c ≡ p) ys
     → IsTrue (is_sorted path_cmp new)
     → ((q : Path) → eq_by_cmp path_cmp q p ≡ false → find path_cmp q new ≡ find path_cmp q old)
     → Shows (find path_cmp p new) (own p first ++ xs) (own p second ++ ys) → AreShown (first ++ xs) (second ++ ys) new
@@ -152,31 +131,28 @@ shown_more first second xs ys old new p shown on_xs on_ys rising elsewhere here 
   each = λ q. by_test q (eq_by_cmp path_cmp q p) refl;
 }
   where
-    test : Path → Command → Bool
-    test q c = eq_by_cmp path_cmp q (command_path c)
-
     by_test : (q : Path) → (b : Bool) → eq_by_cmp path_cmp q p ≡ b
         → Shows (find path_cmp q new) (own q (first ++ xs)) (own q (second ++ ys))
     by_test q true e =
-        let same : q ≡ p = same_from_tie q p (tie_of (path_cmp q p) e) in
+        let same : q ≡ p = same_from_test q p e in
         let left : own p (first ++ xs) ≡ own p first ++ xs =
-        filter-append (λ c. eq_by_cmp path_cmp p (command_path c)) first xs
-        ∙ ap (λ (more : List Command). own p first ++ more) (own_all p xs on_xs) in
+        filter-append (λ c. eq_by_cmp path_cmp p (step_path c)) first xs
+        ∙ ap (λ (more : List DumpStep). own p first ++ more) (own_all p xs on_xs) in
         let right : own p (second ++ ys) ≡ own p second ++ ys =
-        filter-append (λ c. eq_by_cmp path_cmp p (command_path c)) second ys
-        ∙ ap (λ (more : List Command). own p second ++ more) (own_all p ys on_ys) in
+        filter-append (λ c. eq_by_cmp path_cmp p (step_path c)) second ys
+        ∙ ap (λ (more : List DumpStep). own p second ++ more) (own_all p ys on_ys) in
         subst (λ (r : Path). Shows (find path_cmp r new) (own r (first ++ xs)) (own r (second ++ ys))) (sym same)
-        (subst (λ (cs : List Command). Shows (find path_cmp p new) cs (own p (second ++ ys))) (sym left)
-        (subst (λ (ds : List Command). Shows (find path_cmp p new) (own p first ++ xs) ds) (sym right) here))
+        (subst (λ (cs : List DumpStep). Shows (find path_cmp p new) cs (own p (second ++ ys))) (sym left)
+        (subst (λ (ds : List DumpStep). Shows (find path_cmp p new) (own p first ++ xs) ds) (sym right) here))
     by_test q false e =
         let left : own q (first ++ xs) ≡ own q first =
-        filter-append (λ c. eq_by_cmp path_cmp q (command_path c)) first xs
-        ∙ ap (λ (more : List Command). own q first ++ more) (own_none p q xs e on_xs) ∙ append-nil (own q first) in
+        filter-append (λ c. eq_by_cmp path_cmp q (step_path c)) first xs
+        ∙ ap (λ (more : List DumpStep). own q first ++ more) (own_none p q xs e on_xs) ∙ append-nil (own q first) in
         let right : own q (second ++ ys) ≡ own q second =
-        filter-append (λ c. eq_by_cmp path_cmp q (command_path c)) second ys
-        ∙ ap (λ (more : List Command). own q second ++ more) (own_none p q ys e on_ys)
+        filter-append (λ c. eq_by_cmp path_cmp q (step_path c)) second ys
+        ∙ ap (λ (more : List DumpStep). own q second ++ more) (own_none p q ys e on_ys)
         ∙ append-nil (own q second) in
-        subst (λ (cs : List Command). Shows (find path_cmp q new) cs (own q (second ++ ys))) (sym left)
-        (subst (λ (ds : List Command). Shows (find path_cmp q new) (own q first) ds) (sym right)
+        subst (λ (cs : List DumpStep). Shows (find path_cmp q new) cs (own q (second ++ ys))) (sym left)
+        (subst (λ (ds : List DumpStep). Shows (find path_cmp q new) (own q first) ds) (sym right)
         (subst (λ (found : Option Mark). Shows found (own q first) (own q second))
         (sym (elsewhere q e)) (shown.each q)))

@@ -8,20 +8,24 @@ use Rattle.std.proofs.lemmas.List.{append-nil, append_assoc, take_more, take-app
 use Rattle.std.proofs.lemmas.List.Concat.{flat_map-append}
 use Rattle.store_model.specs.Paths.{Path, is_root, parent}
 use Rattle.store_model.specs.Commands.{Command, command_text, line}
-use Rattle.tree_listing.specs.Dumps.{commands_text}
 use Rattle.script_lines.specs.SinkState.{SinkState, IsPut, Puts}
 use Rattle.script_lines.proofs.Putting.{Puts-none, Puts-one, Puts-then, Puts-cut}
-use Rattle.dump_diff.specs.Scripts.{WroteText}
-use Rattle.dump_diff.proofs.TakenAdditions.{text_none, text_append, text_one}
+use Rattle.dump_diff.specs.Scripts.{WroteText, commands_text}
+
+-- the lines of commands and of more
+pub text_append : (commands more : List Command)
+    → commands_text (commands ++ more) ≡ commands_text commands ++ commands_text more
+text_append commands more = flat_map-append (λ c. line (command_text c)) commands more
 
 -- the line of a command, and that of none
 pub puts_command : {T E : Type 0} (a b : SinkState) (c : Command) (result : Result T E)
     → IsPut a b (line (command_text c)) result → Puts a b (commands_text (c ∷ [])) result
-puts_command a b c result put = subst (λ (text : List ℕ). Puts a b text result) (sym (text_one c))
+puts_command a b c result put =
+    subst (λ (text : List ℕ). Puts a b text result) (sym (append-nil (line (command_text c))))
     (Puts-one a b (line (command_text c)) result put)
 
 pub wrote_no_command : (a : SinkState) → WroteText a a (commands_text [])
-wrote_no_command a = subst (WroteText a a) (sym text_none) (Puts-none a tt)
+wrote_no_command a = Puts-none a tt
 
 -- the commands of one item more
 pub one_more : {X Y : Type 0} (f : X → List Y) (items : List X) (i : ℕ) (x : X) → i < length items

@@ -1,10 +1,9 @@
--- Streams whose next command is at hand.
-use Rattle.std.specs.Prelude.{◌≡◌, true, false, Option, Some, None}
+-- Streams whose next step is at hand.
+use Rattle.std.specs.Prelude.{◌≡◌, true, false, List, Option, Some, None}
 use Rattle.std.specs.declared.cmp.Ordering.TheVariants.{Less, Equal}
 use Rattle.store_model.specs.Trees.{Tree, IsTree}
-use Rattle.store_model.specs.Commands.{Command}
-use Rattle.store_model.specs.Steps.{next_tree}
-use Rattle.script_lines.specs.Parsing.{command_of}
+use Rattle.tree_listing.specs.Dumps.{DumpStep}
+use Rattle.tree_listing.specs.Dumps.{after_step}
 use Rattle.tree_listing.specs.Dumps.{dump}
 use Rattle.dump_streams.specs.Streams.{Extends}
 use Rattle.dump_diff.specs.declared.heads.Head.{Head}
@@ -19,39 +18,42 @@ use Rattle.dump_diff.specs.Places.{place_cmp}
 use Rattle.dump_diff.specs.Shown.{AreShown, AreBefore, IsBehind, places_of}
 use Rattle.dump_diff.specs.Sides.{AreAttributeDifferences, SidesShown}
 
--- the command at hand came behind the dump of a tree
-pub record IsAt (came : Tree → Type 0) (t : Tree) (c : Command) : Type 0 where
-  pub came_now : came (next_tree t c)
+-- the step at hand came behind the dump of a tree
+pub record IsAt (came : Tree → Type 0) (t : Tree) (c : DumpStep) : Type 0 where
+  pub came_now : came (after_step t c)
   pub extends : Extends t c
 
--- what a stream gave before the command at hand is the dump of a tree; where there is no command, the dump is whole
+-- what a stream gave before the step at hand is the dump of a tree; where there is no step, the dump is whole
 pub record IsAhead (came whole : Tree → Type 0) (head : Head) (t : Tree) : Type 0 where
   pub is_tree : IsTree t
-  pub there : head.is_there ≡ true → IsAt came t (command_of head.command)
+  pub there : head.is_there ≡ true → IsAt came t head.step
   pub ended : head.is_there ≡ false → whole t
 
--- the marks are what the dumps of two trees show, and the commands at hand stand behind them
-pub record IsMerged (merge : Merge) (t u : Tree) : Type 0 where
-  pub shown : AreShown (dump t) (dump u) (marks_of merge.found.paths.items)
-  pub first_behind : merge.first.is_there ≡ true
-      → IsBehind (dump t) (dump u) (marks_of merge.found.paths.items) (command_of merge.first.command)
-  pub second_behind : merge.second.is_there ≡ true
-      → IsBehind (dump t) (dump u) (marks_of merge.found.paths.items) (command_of merge.second.command)
-  pub sides : SidesShown (dump t) (dump u) (marks_of merge.found.paths.items) (sides_of merge.found.attributes.items)
-  pub places_rise : IsStrictlySortedBy place_cmp (places_of merge.found.attributes.items)
-  pub first_after : merge.first.is_there ≡ true
-      → AreBefore (places_of merge.found.attributes.items) (command_of merge.first.command)
-  pub second_after : merge.second.is_there ≡ true
-      → AreBefore (places_of merge.found.attributes.items) (command_of merge.second.command)
+-- the step stands behind what came of two dumps, and behind what is noted
+pub record IsAfter (cs ds : List DumpStep) (found : Differences) (s : DumpStep) : Type 0 where
+  pub behind : IsBehind cs ds (marks_of found.paths.items) s
+  pub after : AreBefore (places_of found.attributes.items) s
 
--- the commands that came of two streams before those at hand are the dumps of two trees, and the marks are what these
+-- what is noted is what the first steps of two dumps show, and the steps at hand stand behind them
+pub record HasMerged (merge : Merge) (cs ds : List DumpStep) : Type 0 where
+  pub shown : AreShown cs ds (marks_of merge.found.paths.items)
+  pub sides : SidesShown cs ds (marks_of merge.found.paths.items) (sides_of merge.found.attributes.items)
+  pub places_rise : IsStrictlySortedBy place_cmp (places_of merge.found.attributes.items)
+  pub first : merge.first.is_there ≡ true → IsAfter cs ds merge.found merge.first.step
+  pub second : merge.second.is_there ≡ true → IsAfter cs ds merge.found merge.second.step
+
+-- these are the dumps of two trees
+abbrev pub IsMerged : Merge → Tree → Tree → Type 0
+IsMerged merge t u = HasMerged merge (dump t) (dump u)
+
+-- the steps that came of two streams before those at hand are the dumps of two trees, and the marks are what these
 -- show
 pub record IsBetween (came whole came' whole' : Tree → Type 0) (merge : Merge) (t u : Tree) : Type 0 where
   pub first : IsAhead came whole merge.first t
   pub second : IsAhead came' whole' merge.second u
   pub merged : IsMerged merge t u
 
--- some trees have dumps that came of the two streams before the commands at hand
+-- some trees have dumps that came of the two streams before the steps at hand
 pub record IsBetweenSome (came whole came' whole' : Tree → Type 0) (merge : Merge) : Type 0 where
   pub one : Tree
   pub other : Tree
@@ -66,14 +68,14 @@ pub record AreFound (whole whole' : Tree → Type 0) (found : Differences) : Typ
   pub differences : AreDifferences one other (marks_of found.paths.items)
   pub attributes : AreAttributeDifferences one other (marks_of found.paths.items) (sides_of found.attributes.items)
 
--- the command whose place is the lower one: that of one stream, or those of both
+-- the step whose place is the lower one: that of one stream, or those of both
 abbrev pub IsSideOf : Merge → Option Side → Type 0
 IsSideOf merge None = (merge.first.is_there ≡ false) × (merge.second.is_there ≡ false)
 IsSideOf merge (Some First) = (merge.first.is_there ≡ true)
-    × (merge.second.is_there ≡ true → place_cmp (command_of merge.first.command) (command_of merge.second.command)
+    × (merge.second.is_there ≡ true → place_cmp merge.first.step merge.second.step
     ≡ Less)
 IsSideOf merge (Some Second) = (merge.second.is_there ≡ true)
-    × (merge.first.is_there ≡ true → place_cmp (command_of merge.second.command) (command_of merge.first.command)
+    × (merge.first.is_there ≡ true → place_cmp merge.second.step merge.first.step
     ≡ Less)
 IsSideOf merge (Some Both) = (merge.first.is_there ≡ true) × (merge.second.is_there ≡ true)
-    × (place_cmp (command_of merge.first.command) (command_of merge.second.command) ≡ Equal)
+    × (place_cmp merge.first.step merge.second.step ≡ Equal)

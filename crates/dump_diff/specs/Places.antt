@@ -1,68 +1,46 @@
--- Where the commands of a dump stand in it.
-use Rattle.std.specs.Prelude.{◌≡◌, ℕ, List, [], ◌∷◌, Bool, true, false, ◌==◌}
+-- Where the steps of a dump stand in it.
+use Rattle.std.specs.Prelude.{ℕ, List, [], ◌∷◌, Bool, true, false, ◌==◌}
 use Rattle.std.specs.declared.cmp.Ordering.{Ordering}
-use Rattle.std.specs.declared.cmp.Ordering.TheVariants.{Equal}
 use Rattle.std.specs.Ordering.{ordering_then, nat_cmp}
 use Rattle.std.specs.Cmp.Lexicographic.{slice_cmp}
-use Rattle.store_model.specs.Paths.{Path, path_cmp}
-use Rattle.store_model.specs.Commands.{Command}
-use Rattle.store_model.specs.Commands.Command.{Make, Write, SetAttribute}
+use Rattle.store_model.specs.Paths.{path_cmp}
+use Rattle.tree_listing.specs.Dumps.{DumpStep, step_path}
+use Rattle.tree_listing.specs.Dumps.DumpStep.{Make, Write, Set}
 
--- the path that a command of a dump is on, and the root for another command
-abbrev pub command_path : Command → Path
-command_path (Make p) = p
-command_path (Write p at bytes) = p
-command_path (SetAttribute p a bytes) = p
-command_path _ = []
-
--- where a command stands in the dump of an entry: first comes what makes a directory or writes, by offset, and then
--- come the attributes, by name
-abbrev pub part : Command → List ℕ
+-- where a step stands in the dump of an entry: first comes what makes a directory or writes, by offset, and then come
+-- the attributes, by name
+abbrev pub part : DumpStep → List ℕ
+part (Make p) = 0 ∷ 0 ∷ []
 part (Write p at bytes) = 0 ∷ at ∷ []
-part (SetAttribute p a bytes) = 1 ∷ a
-part _ = 0 ∷ 0 ∷ []
+part (Set p a bytes) = 1 ∷ a
 
-abbrev pub part_cmp : Command → Command → Ordering
+abbrev pub part_cmp : DumpStep → DumpStep → Ordering
 part_cmp c d = slice_cmp nat_cmp (part c) (part d)
 
 -- the order of places: of paths, and at one path of the parts
-abbrev pub place_cmp : Command → Command → Ordering
-place_cmp c d = ordering_then (path_cmp (command_path c) (command_path d)) (part_cmp c d)
+abbrev pub place_cmp : DumpStep → DumpStep → Ordering
+place_cmp c d = ordering_then (path_cmp (step_path c) (step_path d)) (part_cmp c d)
 
--- whether a command makes a directory
-abbrev pub makes : Command → Bool
+-- whether a step makes a directory
+abbrev pub makes : DumpStep → Bool
 makes (Make p) = true
-makes _ = false
+makes (Write p at bytes) = false
+makes (Set p a bytes) = false
 
 -- whether it writes
-abbrev pub writes : Command → Bool
+abbrev pub writes : DumpStep → Bool
+writes (Make p) = false
 writes (Write p at bytes) = true
-writes _ = false
+writes (Set p a bytes) = false
 
 -- whether it sets an attribute
-abbrev pub sets : Command → Bool
-sets (SetAttribute p a bytes) = true
-sets _ = false
+abbrev pub sets : DumpStep → Bool
+sets (Make p) = false
+sets (Write p at bytes) = false
+sets (Set p a bytes) = true
 
--- whether a command is one of those that dumps have
-abbrev pub is_listed : Command → Bool
-is_listed (Make p) = true
-is_listed (Write p at bytes) = true
-is_listed (SetAttribute p a bytes) = true
-is_listed _ = false
-
--- whether a command is the first one of an entry
-abbrev pub is_first : Command → Bool
+-- whether a step is the first one of an entry
+abbrev pub is_first : DumpStep → Bool
 is_first (Make p) = true
 is_first (Write p at bytes) = at == 0
-is_first _ = false
-
--- the offset of a write, and 0 for another command
-abbrev pub offset : Command → ℕ
-offset (Write p at bytes) = at
-offset _ = 0
-
--- two commands of dumps stand at one place
-pub record IsPlaceOfBoth (c d : Command) : Type 0 where
-  pub listed : is_listed c ≡ true
-  pub tied : place_cmp c d ≡ Equal
+is_first (Set p a bytes) = false

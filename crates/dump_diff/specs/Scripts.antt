@@ -6,9 +6,10 @@ use Rattle.std.specs.List.{filter, flat_map}
 use Rattle.std.specs.declared.cmp.Ordering.{Ordering}
 use Rattle.std.specs.Ordering.{ordering_then}
 use Rattle.store_model.specs.Paths.{Path, Name, path_cmp, name_cmp, parent, path_text}
-use Rattle.store_model.specs.Commands.{Command, line}
-use Rattle.store_model.specs.Commands.Command.{Make, Write, Cut, Prune, SetAttribute, UnsetAttribute}
-use Rattle.tree_listing.specs.Dumps.{commands_text}
+use Rattle.store_model.specs.Commands.{Command, command_text, line}
+use Rattle.store_model.specs.Commands.Command.{Cut, Prune, UnsetAttribute}
+use Rattle.tree_listing.specs.Dumps.{DumpStep, steps_text}
+use Rattle.tree_listing.specs.Dumps.DumpStep.{Make, Write, Set}
 use Rattle.script_lines.specs.declared.command.Command as declared
 use Rattle.script_lines.specs.Parsing.{command_of}
 use Rattle.script_lines.specs.SinkState.{SinkState, IsObservable, Puts}
@@ -60,35 +61,33 @@ is_set (Some sides.Second) = true
 is_set (Some sides.Both) = true
 is_set None = false
 
--- whether a command of the second dump makes or writes what the first tree has not, or has otherwise
-abbrev pub is_addition : Differences → Command → Bool
+-- whether a step of the second dump makes or writes what the first tree has not, or has otherwise
+abbrev pub is_addition : Differences → DumpStep → Bool
 is_addition found (Make p) = is_made (find path_cmp p (marks_of found.paths.items))
 is_addition found (Write p at bytes) = is_written (find path_cmp p (marks_of found.paths.items))
-is_addition found (SetAttribute p a bytes) = is_made (find path_cmp p (marks_of found.paths.items))
+is_addition found (Set p a bytes) = is_made (find path_cmp p (marks_of found.paths.items))
     || is_set (find attribute_cmp (p, a) (sides_of found.attributes.items))
-is_addition found _ = false
 
 -- the differences rise by path, and their attributes by path and name
 pub record AreRising (found : Differences) : Type 0 where
   pub paths : IsTrue (is_sorted path_cmp (marks_of found.paths.items))
   pub attributes : IsTrue (is_sorted attribute_cmp (sides_of found.attributes.items))
 
--- From one moment to a later one the lines of those of these commands were written that are additions, and nothing
--- else.
+-- From one moment to a later one the lines of those of these steps were written that are additions, and nothing else.
 pub record TookAdditions {W : Type 0} (sink_of : W → SinkState) (first now : AdditionTaker W)
-    (commands : List Command) : Type 0 where
+    (steps : List DumpStep) : Type 0 where
   pub found_is : now.found ≡ first.found
   pub observable : (sink_of now.sink).is_observable ≡ (sink_of first.sink).is_observable
   pub faults : (sink_of now.sink).faults ≡ (sink_of first.sink).faults
   pub written : IsObservable (sink_of first.sink) → AreRising first.found
       → (sink_of now.sink).written ≡ (sink_of first.sink).written
-      ++ commands_text (filter (is_addition first.found) commands)
+      ++ steps_text (filter (is_addition first.found) steps)
 
--- one more command was taken
-abbrev pub TakesAddition : {W E : Type 0} → (W → SinkState) → AdditionTaker W → AdditionTaker W → Command
+-- one more step was taken
+abbrev pub TakesAddition : {W E : Type 0} → (W → SinkState) → AdditionTaker W → AdditionTaker W → DumpStep
     → Result (Unit {0}) E → Type 0
-TakesAddition {W} sink_of old new c result = (first : AdditionTaker W)
-    → IsTaken (TookAdditions sink_of first old) (TookAdditions sink_of first new) c result
+TakesAddition {W} sink_of old new s result = (first : AdditionTaker W)
+    → IsTaken (TookAdditions sink_of first old) (TookAdditions sink_of first new) s result
 
 -- a search among items that rise by key finds the value of the item with the key, or that there is none
 abbrev pub IsFound : {K V X : Type 0} → (K → K → Ordering) → (X → K) → (X → V) → List X → K → Result ℕ ℕ → Type 0
@@ -111,6 +110,10 @@ abbrev pub WroteText : SinkState → SinkState → List ℕ → Type 0
 WroteText old new text = Puts {T = Unit {0}} {E = SinkFault} old new text (Ok tt)
 
 -- ---- what is taken away
+
+-- the lines of commands
+abbrev pub commands_text : List Command → List ℕ
+commands_text commands = flat_map (λ c. line (command_text c)) commands
 
 -- whether what a mark is of is pruned: it is gone, or made anew
 abbrev pub is_pruned : Option Mark → Bool

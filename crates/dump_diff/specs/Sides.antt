@@ -4,8 +4,8 @@ use Rattle.std.specs.Prelude.{◌⊎◌}
 use Rattle.std.specs.FinMap.{find, is_sorted}
 use Rattle.std.specs.List.{flat_map}
 use Rattle.store_model.specs.Paths.{Path, Name, path_cmp, name_cmp}
-use Rattle.store_model.specs.Commands.{Command}
-use Rattle.store_model.specs.Commands.Command.{SetAttribute}
+use Rattle.tree_listing.specs.Dumps.{DumpStep, step_path}
+use Rattle.tree_listing.specs.Dumps.DumpStep.{Make, Write, Set}
 use Rattle.store_model.specs.Trees.{Tree, Attributes as Held, attribute_at}
 use Rattle.dump_diff.specs.declared.difference.Mark.{Mark}
 use Rattle.dump_diff.specs.declared.difference.Mark.TheVariants.{Removed, Added, Kind, Bytes, Attributes}
@@ -15,7 +15,6 @@ use Rattle.dump_diff.specs.declared.difference.AttributeDifference.{AttributeDif
 use Rattle.dump_diff.specs.Scripts.{AttributePlace, attribute_cmp}
 use Rattle.dump_diff.specs.declared.differences.Differences.{Differences}
 use Rattle.dump_diff.specs.Differences.{marks_of}
-use Rattle.dump_diff.specs.Places.{command_path, IsPlaceOfBoth}
 use Rattle.dump_diff.specs.Shown.{own, AreUpTo, Notes}
 
 -- two trees have the same bytes of an attribute, or neither has it, where no side is told; and else it differs so
@@ -43,19 +42,20 @@ pub record AreAttributeDifferences (t u : Tree) (marks : List (Path × Mark))
   pub each : (p : Path) (a : Name) → FitsMark (find path_cmp p marks) (find attribute_cmp (p, a) sides)
       (attribute_at t p a) (attribute_at u p a)
 
--- ---- what commands show of them
+-- ---- what steps show of them
 
--- the attribute that a command gives
-abbrev pub attributes_in : Command → Held
-attributes_in (SetAttribute p a bytes) = (a, bytes) ∷ []
-attributes_in _ = []
+-- the attribute that a step gives
+abbrev pub attributes_in : DumpStep → Held
+attributes_in (Make p) = []
+attributes_in (Write p at bytes) = []
+attributes_in (Set p a bytes) = (a, bytes) ∷ []
 
--- the bytes that commands give an attribute, if they do
-abbrev pub set_in : Name → List Command → Option (List ℕ)
-set_in a commands = find name_cmp a (flat_map attributes_in commands)
+-- the bytes that steps give an attribute, if they do
+abbrev pub set_in : Name → List DumpStep → Option (List ℕ)
+set_in a steps = find name_cmp a (flat_map attributes_in steps)
 
--- the sides are what the first commands of two dumps show
-abbrev pub SidesShown : List Command → List Command → List (Path × Mark) → List (AttributePlace × Side) → Type 0
+-- the sides are what the first steps of two dumps show
+abbrev pub SidesShown : List DumpStep → List DumpStep → List (Path × Mark) → List (AttributePlace × Side) → Type 0
 SidesShown first second marks sides =
     (p : Path) (a : Name) → FitsMark (find path_cmp p marks) (find attribute_cmp (p, a) sides) (set_in a (own p first))
     (set_in a (own p second))
@@ -68,28 +68,29 @@ with_attribute held Removed side p a = held
 with_attribute held Added side p a = held
 with_attribute held Kind side p a = held
 
-abbrev pub with_noted : List AttributeDifference → Mark → Side → Command → List AttributeDifference
-with_noted held mark side (SetAttribute p a bytes) = with_attribute held mark side p a
-with_noted held mark side _ = held
+abbrev pub with_noted : List AttributeDifference → Mark → Side → DumpStep → List AttributeDifference
+with_noted held mark side (Make p) = held
+with_noted held mark side (Write p at bytes) = held
+with_noted held mark side (Set p a bytes) = with_attribute held mark side p a
 
--- the attribute of a command is noted, at a path that has a mark by now
-pub record NotesAttribute (side : Side) (c : Command) (marks : List (Path × Mark))
+-- the attribute of a step is noted, at a path that has a mark by now
+pub record NotesAttribute (side : Side) (c : DumpStep) (marks : List (Path × Mark))
     (old new : List AttributeDifference) : Type 0 where
   pub known : Mark
-  pub known_is : find path_cmp (command_path c) marks ≡ Some known
+  pub known_is : find path_cmp (step_path c) marks ≡ Some known
   pub noted_is : new ≡ with_noted old known side c
 
-abbrev pub IsAttributeNoted : {X E : Type 0} → Side → Command → List (Path × Mark) → List (Path × Mark)
+abbrev pub IsAttributeNoted : {X E : Type 0} → Side → DumpStep → List (Path × Mark) → List (Path × Mark)
     → List AttributeDifference → List AttributeDifference → Result X E → Type 0
-IsAttributeNoted side c marks later old new result = IsTrue (is_sorted path_cmp marks) → AreUpTo marks (command_path c)
+IsAttributeNoted side c marks later old new result = IsTrue (is_sorted path_cmp marks) → AreUpTo marks (step_path c)
     → OnOk result (NotesAttribute side c later old new)
 
--- two commands at one place are the same, and nothing is noted, or they are not, and it is noted
-abbrev pub IsJudged : Command → Command → Differences → Differences → Type 0
+-- two steps at one place are the same, and nothing is noted, or they are not, and it is noted
+abbrev pub IsJudged : DumpStep → DumpStep → Differences → Differences → Type 0
 IsJudged c d old new = ((c ≡ d) × (new ≡ old))
     ⊎ ((c ≡ d → ⊥) × Notes Both c d (marks_of old.paths.items) (marks_of new.paths.items)
     × NotesAttribute Both c (marks_of new.paths.items) old.attributes.items new.attributes.items)
 
-abbrev pub Judges : {X E : Type 0} → Command → Command → Differences → Differences → Result X E → Type 0
-Judges c d old new result = IsPlaceOfBoth c d → IsTrue (is_sorted path_cmp (marks_of old.paths.items))
-    → AreUpTo (marks_of old.paths.items) (command_path c) → OnOk result (IsJudged c d old new)
+abbrev pub Judges : {X E : Type 0} → DumpStep → DumpStep → Differences → Differences → Result X E → Type 0
+Judges c d old new result = IsTrue (is_sorted path_cmp (marks_of old.paths.items))
+    → AreUpTo (marks_of old.paths.items) (step_path c) → OnOk result (IsJudged c d old new)

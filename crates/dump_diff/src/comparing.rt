@@ -4,8 +4,7 @@ ghost use Rattle.std.specs.Prelude.{◌≡◌, OnOk, IfOk, true};
 ghost use Rattle.std.specs.Bool.{OnTrue, OnFalse};
 ghost use Rattle.std.specs.declared.cmp.Ordering.TheVariants.{Less, Equal};
 ghost use Rattle.store_model.specs.Trees.{Tree, empty_tree};
-ghost use Rattle.store_model.specs.Steps.{next_tree};
-ghost use Rattle.script_lines.specs.Parsing.{command_of};
+ghost use Rattle.tree_listing.specs.Dumps.{after_step};
 ghost use Rattle.dump_diff.specs.Differences.{marks_of};
 ghost use Rattle.dump_diff.specs.Places.{place_cmp};
 ghost use Rattle.dump_diff.specs.Sides.{Judges};
@@ -29,7 +28,7 @@ struct Merge {
 }
 
 impl Merge {
-    /// Which stream has the command at hand whose place is the lower one; nothing where both dumps are whole.
+    /// Which stream has the step at hand whose place is the lower one; nothing where both dumps are whole.
     fn side(&self) -> Option<Side>
         ensures { IsSideOf self.now result }
     {
@@ -43,73 +42,73 @@ impl Merge {
         if !self.first.is_there {
             return Some(Side::Second);
         }
-        match order(&self.first.command, &self.second.command) {
+        match order(&self.first.step, &self.second.step) {
             Ordering::Less => Some(Side::First),
             Ordering::Equal => Some(Side::Both),
             Ordering::Greater => Some(Side::Second),
         }
     }
 
-    /// Takes a command that the first dump has alone.
+    /// Takes a step that the first dump has alone.
     fn take_first<A: DumpStream>(&mut self, first: &mut A) -> Result<(), CompareFault>
         requires there { self.old.first.is_there ≡ true }
         requires lower { self.old.second.is_there ≡ true
-            → place_cmp (command_of self.old.first.command) (command_of self.old.second.command)
+            → place_cmp self.old.first.step self.old.second.step
             ≡ Less }
         ensures second { self.new.second ≡ self.old.second }
         ensures ahead { (t : Tree) → IsAhead (A.came first.old) (A.whole first.old) self.old.first t
             → OnOk result (IsAhead (A.came first.new)
-            (A.whole first.new) self.new.first (next_tree t (command_of self.old.first.command))) }
+            (A.whole first.new) self.new.first (after_step t self.old.first.step)) }
         ensures merged { (t u : Tree)
             → IsAhead (A.came first.old) (A.whole first.old) self.old.first t
             → IsMerged self.old t u
-            → OnOk result (IsMerged self.new (next_tree t (command_of self.old.first.command)) u) }
+            → OnOk result (IsMerged self.new (after_step t self.old.first.step) u) }
         ensures keeps { (start : A) → A.keeps start first.old → A.keeps start first.new }
     {
         self.found
-            .note(Side::First, &self.first.command, &self.second.command)?;
+            .note(Side::First, &self.first.step, &self.second.step)?;
         self.first.fetch(first).map_err(CompareFault::First)
     }
 
-    /// Takes a command that the second dump has alone.
+    /// Takes a step that the second dump has alone.
     fn take_second<B: DumpStream>(&mut self, second: &mut B) -> Result<(), CompareFault>
         requires there { self.old.second.is_there ≡ true }
         requires lower { self.old.first.is_there ≡ true
-            → place_cmp (command_of self.old.second.command) (command_of self.old.first.command)
+            → place_cmp self.old.second.step self.old.first.step
             ≡ Less }
         ensures first { self.new.first ≡ self.old.first }
         ensures ahead { (u : Tree)
             → IsAhead (B.came second.old) (B.whole second.old) self.old.second u
             → OnOk result (IsAhead (B.came second.new)
             (B.whole second.new) self.new.second
-            (next_tree u (command_of self.old.second.command))) }
+            (after_step u self.old.second.step)) }
         ensures merged { (t u : Tree)
             → IsAhead (B.came second.old) (B.whole second.old) self.old.second u
             → IsMerged self.old t u
-            → OnOk result (IsMerged self.new t (next_tree u (command_of self.old.second.command))) }
+            → OnOk result (IsMerged self.new t (after_step u self.old.second.step)) }
         ensures keeps { (start : B) → B.keeps start second.old → B.keeps start second.new }
     {
         self.found
-            .note(Side::Second, &self.first.command, &self.second.command)?;
+            .note(Side::Second, &self.first.step, &self.second.step)?;
         self.second.fetch(second).map_err(CompareFault::Second)
     }
 
-    /// Notes whether the commands at hand, which have one place, differ.
+    /// Notes whether the steps at hand, which have one place, differ.
     fn judge(&mut self) -> Result<(), CompareFault>
         ensures first { self.new.first ≡ self.old.first }
         ensures second { self.new.second ≡ self.old.second }
-        ensures judged { Judges (command_of self.old.first.command)
-            (command_of self.old.second.command) self.old.found self.new.found result }
+        ensures judged { Judges self.old.first.step
+            self.old.second.step self.old.found self.new.found result }
     {
-        if same(&self.first.command, &self.second.command) {
+        if same(&self.first.step, &self.second.step) {
             return Ok(());
         }
         self.found
-            .note(Side::Both, &self.first.command, &self.second.command)?;
+            .note(Side::Both, &self.first.step, &self.second.step)?;
         Ok(())
     }
 
-    /// Takes a command of each dump, which have one place.
+    /// Takes a step of each dump, which have one place.
     fn take_both<A: DumpStream, B: DumpStream>(
         &mut self,
         first: &mut A,
@@ -117,8 +116,8 @@ impl Merge {
     ) -> Result<(), CompareFault>
         requires first_there { self.old.first.is_there ≡ true }
         requires second_there { self.old.second.is_there ≡ true }
-        requires tied { place_cmp (command_of self.old.first.command)
-            (command_of self.old.second.command) ≡ Equal }
+        requires tied { place_cmp self.old.first.step
+            self.old.second.step ≡ Equal }
         ensures between { IsBetweenSome (A.came first.old) (A.whole first.old) (B.came second.old)
             (B.whole second.old) self.old
             → OnOk result (IsBetweenSome (A.came first.new) (A.whole first.new) (B.came second.new)

@@ -4,20 +4,18 @@ ghost use Rattle.std.specs.Prelude.{◌≡◌, ◌↔◌, ◌∷◌, [], IsTrue,
 ghost use Rattle.std.specs.FinMap.{find, is_sorted};
 ghost use Rattle.std.specs.List.Sorted.{IsSearchInRange};
 ghost use Rattle.store_model.specs.Paths.{path_cmp};
-ghost use Rattle.script_lines.specs.Parsing.{command_of};
 ghost use Rattle.dump_diff.specs.Differences.{marks_of};
 ghost use Rattle.dump_diff.specs.Scripts.{IsAttributePlace, IsPathPlace, attribute_cmp, sides_of};
-ghost use Rattle.dump_diff.specs.Places.{command_path, is_first, is_listed, part};
+ghost use Rattle.dump_diff.specs.Places.{is_first};
 ghost use Rattle.dump_diff.specs.Sides.{IsAttributeNoted, with_attribute};
 ghost use Rattle.dump_diff.specs.Shown.{FitsSide, IsLastMark, IsNoted, Marks, change_of, change_of_two, noted};
 
 use crate::difference::{AttributeDifference, Difference, Mark, Side};
-use crate::order::path_of;
 use path_keys::{AttrName, Path};
-use script_lines::Command;
 use std::alloc::Global;
 use std::cmp::Ordering;
 use store_base::NoMemory;
+use tree_listing::{DumpStep, Step};
 
 /// What is different between two trees.
 #[derive(Debug, Drop)]
@@ -83,27 +81,27 @@ impl Differences {
         }
     }
 
-    /// Notes that a command stands in one of the dumps alone, or that the dumps have other commands at one place. The
+    /// Notes that a step stands in one of the dumps alone, or that the dumps have other steps at one place. The
     /// places come in their order.
     pub(crate) fn note(
         &mut self,
         side: Side,
-        first: &Command,
-        second: &Command,
+        first: &DumpStep,
+        second: &DumpStep,
     ) -> Result<(), NoMemory>
-        ensures marks { IsNoted side (command_of first.now) (command_of second.now)
+        ensures marks { IsNoted side first.now second.now
             (marks_of self.old.paths.items)
             (marks_of self.new.paths.items) result }
         ensures attributes { IsAttributeNoted side
-            (noted side (command_of first.now) (command_of second.now))
+            (noted side first.now second.now)
             (marks_of self.old.paths.items) (marks_of self.new.paths.items)
             self.old.attributes.items self.new.attributes.items result }
     {
-        let command = noted_of(side, first, second);
-        let mark = self.mark(path_of(command), mark_of(side, first, second))?;
-        match command {
-            Command::Set(path, name, _) => self.note_attribute(mark, path, name, side),
-            _ => Ok(()),
+        let step = noted_of(side, first, second);
+        let mark = self.mark(*step.path(), mark_of(side, first, second))?;
+        match step.parts() {
+            Step::Set(path, name, _) => self.note_attribute(mark, path, name, side),
+            Step::Make(_) | Step::Write(_, _, _) => Ok(()),
         }
     }
 
@@ -191,9 +189,9 @@ fn attribute_place(
     )
 }
 
-/// The command that is noted: the one that stands alone, or the first of two.
-fn noted_of<'a>(side: Side, first: &'a Command, second: &'a Command) -> &'a Command
-    ensures { command_of result.now ≡ noted side (command_of first.now) (command_of second.now) }
+/// The step that is noted: the one that stands alone, or the first of two.
+fn noted_of<'a>(side: Side, first: &'a DumpStep, second: &'a DumpStep) -> &'a DumpStep
+    ensures { result.now ≡ noted side first.now second.now }
 {
     match side {
         Side::First | Side::Both => first,
@@ -201,10 +199,10 @@ fn noted_of<'a>(side: Side, first: &'a Command, second: &'a Command) -> &'a Comm
     }
 }
 
-/// How two trees differ at a path at which this is the first difference of their dumps: a command that one of them has
+/// How two trees differ at a path at which this is the first difference of their dumps: a step that one of them has
 /// alone, or one of each at one place.
-fn mark_of(side: Side, first: &Command, second: &Command) -> Mark
-    ensures { FitsSide side (command_of first.now) (command_of second.now) result }
+fn mark_of(side: Side, first: &DumpStep, second: &DumpStep) -> Mark
+    ensures { FitsSide side first.now second.now result }
 {
     match side {
         Side::First => mark_of_one(first, Mark::Removed),
@@ -213,27 +211,25 @@ fn mark_of(side: Side, first: &Command, second: &Command) -> Mark
     }
 }
 
-/// The same for a command that one dump has alone: with the first one of an entry the other tree has no entry there.
-fn mark_of_one(command: &Command, alone: Mark) -> Mark
-    ensures first { is_first (command_of command.now) ≡ true → result ≡ alone }
-    ensures later { is_listed (command_of command.now) ≡ true
-        → is_first (command_of command.now) ≡ false
-        → result ≡ change_of (command_of command.now) }
+/// The same for a step that one dump has alone: with the first one of an entry the other tree has no entry there.
+fn mark_of_one(step: &DumpStep, alone: Mark) -> Mark
+    ensures first { is_first step.now ≡ true → result ≡ alone }
+    ensures later { is_first step.now ≡ false → result ≡ change_of step.now }
 {
-    match command {
-        Command::Set(_, _, _) => Mark::Attributes,
-        Command::Write(_, at, _) if *at > 0 => Mark::Bytes,
-        _ => alone,
+    match step.parts() {
+        Step::Make(_) | Step::Write(_, 0, _) => alone,
+        Step::Write(_, _, _) => Mark::Bytes,
+        Step::Set(_, _, _) => Mark::Attributes,
     }
 }
 
-/// The same for two commands at one place.
-fn mark_of_two(first: &Command, second: &Command) -> Mark
-    ensures { result ≡ change_of_two (command_of first.now) (command_of second.now) }
+/// The same for two steps at one place.
+fn mark_of_two(first: &DumpStep, second: &DumpStep) -> Mark
+    ensures { result ≡ change_of_two first.now second.now }
 {
-    match (first, second) {
-        (Command::Set(_, _, _), _) => Mark::Attributes,
-        (Command::Write(_, _, _), Command::Write(_, _, _)) => Mark::Bytes,
+    match (first.parts(), second.parts()) {
+        (Step::Set(_, _, _), _) => Mark::Attributes,
+        (Step::Write(_, _, _), Step::Write(_, _, _)) => Mark::Bytes,
         _ => Mark::Kind,
     }
 }

@@ -1,8 +1,8 @@
 //! What is different between two dumps, and the script that leads from one tree to the other.
 //!
-//! Start at `compare`. It compares two streams in one pass, command by command in the order of their places: path by
+//! Start at `compare`. It compares two streams in one pass, step by step in the order of their places: path by
 //! path, and at each path first what stands there, by offsets, and then its attributes, by name. It keeps no more
-//! than one command of each. The first command at a path that one dump has alone, or that the other has otherwise,
+//! than one step of each. The first step at a path that one dump has alone, or that the other has otherwise,
 //! tells how the path differs. Of a difference only names are kept: a path, and the names of attributes.
 //!
 //! The script is written from the differences and a second pass over the second dump: first what is taken away and cut,

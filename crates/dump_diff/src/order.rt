@@ -1,74 +1,46 @@
-//! The order of the commands of a dump, and whether two are the same.
+//! The order of the steps of a dump, and whether two are the same.
 
 ghost use Rattle.std.specs.Prelude.{◌≡◌, ◌↔◌, IsTrue};
-ghost use Rattle.script_lines.specs.Parsing.{command_of};
-ghost use Rattle.dump_diff.specs.Places.{command_path, part_cmp, place_cmp, offset, IsPlaceOfBoth};
+ghost use Rattle.dump_diff.specs.Places.{part_cmp, place_cmp};
 
-use path_keys::Path;
-use script_lines::Command;
 use std::cmp::Ordering;
-use store_base::Bytes;
+use tree_listing::{DumpStep, Step};
 
-/// The path that a command of a dump is on, and the root for another command.
-pub fn path_of(command: &Command) -> Path
-    ensures { result ≡ command_path (command_of command.now) }
+/// How the places of two steps in a dump compare: their paths, and at one path what the entry has there.
+pub fn order(one: &DumpStep, other: &DumpStep) -> Ordering
+    ensures { result ≡ place_cmp one.now other.now }
 {
-    match command {
-        Command::Make(path) | Command::Write(path, _, _) | Command::Set(path, _, _) => *path,
-        _ => Path::root(),
-    }
+    one.path().cmp(other.path()).then(part_order(one, other))
 }
 
-/// How the places of two commands in a dump compare: their paths, and at one path what the entry has there.
-pub fn order(one: &Command, other: &Command) -> Ordering
-    ensures { result ≡ place_cmp (command_of one.now) (command_of other.now) }
-{
-    path_of(one)
-        .cmp(&path_of(other))
-        .then(part_order(one, other))
-}
-
-/// How the places of two commands in the dump of an entry compare: first come the writes, by offset, and then the
+/// How the places of two steps in the dump of an entry compare: first come the writes, by offset, and then the
 /// attributes, by name.
-fn part_order(one: &Command, other: &Command) -> Ordering
-    ensures { result ≡ part_cmp (command_of one.now) (command_of other.now) }
+fn part_order(one: &DumpStep, other: &DumpStep) -> Ordering
+    ensures { result ≡ part_cmp one.now other.now }
 {
-    match (one, other) {
-        (Command::Set(_, name, _), Command::Set(_, next, _)) => {
-            name.as_bytes().cmp(next.as_bytes())
-        }
-        (Command::Set(_, _, _), _) => Ordering::Greater,
-        (_, Command::Set(_, _, _)) => Ordering::Less,
-        _ => offset_of(one).cmp(&offset_of(other)),
+    match (one.parts(), other.parts()) {
+        (Step::Set(_, name, _), Step::Set(_, next, _)) => name.as_bytes().cmp(next.as_bytes()),
+        (Step::Set(_, _, _), _) => Ordering::Greater,
+        (_, Step::Set(_, _, _)) => Ordering::Less,
+        (Step::Write(_, at, _), Step::Write(_, offset, _)) => at.cmp(&offset),
+        (Step::Write(_, at, _), Step::Make(_)) => at.cmp(&0),
+        (Step::Make(_), Step::Write(_, offset, _)) => 0_u32.cmp(&offset),
+        (Step::Make(_), Step::Make(_)) => Ordering::Equal,
     }
 }
 
-/// The offset of a write, and 0 for another command.
-fn offset_of(command: &Command) -> u32
-    ensures { result ≡ offset (command_of command.now) }
-{
-    match command {
-        Command::Write(_, at, _) => *at,
-        _ => 0,
-    }
-}
-
-/// Whether two byte strings are the same.
-fn same_bytes(one: &Bytes, other: &Bytes) -> bool
+/// Whether two steps are the same.
+pub fn same(one: &DumpStep, other: &DumpStep) -> bool
     ensures { IsTrue result ↔ (one.now ≡ other.now) }
 {
-    one.as_slice() == other.as_slice()
-}
-
-/// Whether two commands at one place of dumps are the same.
-pub fn same(one: &Command, other: &Command) -> bool
-    ensures { IsPlaceOfBoth (command_of one.now) (command_of other.now) → IsTrue result
-        ↔ (command_of one.now ≡ command_of other.now) }
-{
-    match (one, other) {
-        (Command::Make(_), Command::Make(_)) => true,
-        (Command::Write(_, _, bytes), Command::Write(_, _, others)) => same_bytes(bytes, others),
-        (Command::Set(_, _, bytes), Command::Set(_, _, others)) => same_bytes(bytes, others),
+    match (one.parts(), other.parts()) {
+        (Step::Make(path), Step::Make(next)) => *path == *next,
+        (Step::Write(path, at, bytes), Step::Write(next, offset, others)) => {
+            *path == *next && at == offset && *bytes == *others
+        }
+        (Step::Set(path, name, bytes), Step::Set(next, other, others)) => {
+            *path == *next && name.as_bytes() == other.as_bytes() && *bytes == *others
+        }
         _ => false,
     }
 }

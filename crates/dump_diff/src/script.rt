@@ -4,20 +4,19 @@ ghost use Rattle.std.specs.Prelude.{◌≡◌, [], true, false, Ok};
 ghost use Rattle.std.specs.List.{flat_map};
 ghost use Rattle.std.specs.FinMap.{find};
 ghost use Rattle.store_model.specs.Paths.{parent, path_cmp};
-ghost use Rattle.tree_listing.specs.Dumps.{commands_text};
+ghost use Rattle.tree_listing.specs.Dumps.{step_line};
 ghost use Rattle.dump_diff.specs.declared.difference.Mark.TheVariants as marks;
 ghost use Rattle.dump_diff.specs.Differences.{marks_of};
-ghost use Rattle.script_lines.specs.Parsing.{command_of};
 ghost use Rattle.script_lines.specs.SinkState.{IsPut, Puts};
-ghost use Rattle.store_model.specs.Commands.{command_text, line};
 ghost use Rattle.dump_diff.specs.Scripts as model;
-ghost use Rattle.dump_diff.specs.Scripts.{AreRising, TakesAddition, TookAdditions};
+ghost use Rattle.dump_diff.specs.Scripts.{AreRising, TakesAddition, TookAdditions, commands_text};
 
 use crate::difference::{AttributeDifference, Difference, Mark, Side};
 use crate::differences::Differences;
 use dump_streams::{Taker, TakerFault};
 use path_keys::Path;
 use script_lines::{Command, Sink, SinkFault, write_command};
+use tree_listing::{DumpStep, Step, write_step};
 
 /// Writes the first part of the script: the lines that take away what the second tree has not, and cut what it has
 /// otherwise. These are `prune` for each path that is gone or has another kind, unless its parent is pruned; `cut` to
@@ -108,7 +107,7 @@ fn unset_of(attribute: &AttributeDifference) -> Option<Command>
     }
 }
 
-/// Writes the second part of the script: those commands of the second dump that make and write what the first tree
+/// Writes the second part of the script: those steps of the second dump that make and write what the first tree
 /// has not, or has otherwise.
 #[derive(Drop)]
 pub struct AdditionTaker<W: Sink> {
@@ -139,38 +138,36 @@ impl<W: Sink> Taker for AdditionTaker<W> {
     ghost took = { TookAdditions W.state };
 
     /// `Failed`: the put of its line failed, and a prefix of it may have been written.
-    fn take(&mut self, command: &Command) -> Result<(), TakerFault>
-        ensures taken { TakesAddition W.state self.old self.new (command_of command.now) result }
+    fn take(&mut self, step: &DumpStep) -> Result<(), TakerFault>
+        ensures taken { TakesAddition W.state self.old self.new step.now result }
         ensures passed { AreRising self.old.found
-            → model.is_addition self.old.found (command_of command.now) ≡ false
+            → model.is_addition self.old.found step.now ≡ false
             → (self.new ≡ self.old) × (result ≡ Ok tt) }
         ensures put { AreRising self.old.found
-            → model.is_addition self.old.found (command_of command.now) ≡ true
+            → model.is_addition self.old.found step.now ≡ true
             → (self.new.found ≡ self.old.found)
             × IsPut (W.state self.old.sink) (W.state self.new.sink)
-            (line (command_text (command_of command.now))) result }
+            (step_line step.now) result }
     {
-        if !is_addition(&self.found, command) {
+        if !is_addition(&self.found, step) {
             return Ok(());
         }
-        match write_command(&mut self.sink, command) {
+        match write_step(&mut self.sink, step) {
             Ok(()) => Ok(()),
             Err(_) => Err(TakerFault::Failed),
         }
     }
 }
 
-/// Whether a command of the second dump makes or writes what the first tree has not, or has otherwise.
-fn is_addition(found: &Differences, command: &Command) -> bool
-    ensures { AreRising found.now → result ≡ model.is_addition found.now (command_of command.now) }
+/// Whether a step of the second dump makes or writes what the first tree has not, or has otherwise.
+fn is_addition(found: &Differences, step: &DumpStep) -> bool
+    ensures { AreRising found.now → result ≡ model.is_addition found.now step.now }
 {
-    match command {
-        Command::Make(path) => is_made(found.mark_at(path)),
-        Command::Write(path, _, _) => { is_written(found.mark_at(path)) }
-        Command::Set(path, name, _) => {
-            is_made(found.mark_at(path)) || is_set(found.side_of(path, name))
-        }
-        _ => false,
+    match step.parts() {
+        Step::Make(path) => is_made(found.mark_at(path)),
+        Step::Write(path, _, _) => is_written(found.mark_at(path)),
+        Step::Set(path, name, _) => is_made(found.mark_at(path))
+            || is_set(found.side_of(path, name)),
     }
 }
 

@@ -4,14 +4,11 @@ use Rattle.std.proofs.Common.{refl, sym, ap, subst, ◌∙◌, arith}
 use Rattle.std.proofs.Math.Nat.{min-eq_left}
 use Rattle.std.proofs.lemmas.List.{append-nil, append_assoc, map-append, length-append}
 use Rattle.store_base.specs.Counts.{raised}
-use Rattle.store_model.specs.declared.refusal.Refusal.{Refusal}
 use Rattle.store_model.specs.declared.version.Version.TheVariants.{Two}
 use Rattle.store_model.specs.declared.draw_kind.DrawKind.TheVariants as draws
 use Rattle.store_model.specs.Parameters.{Parameters}
 use Rattle.store_model.specs.Pages.{IsTreeUnder}
 use Rattle.store_model.specs.Trees.{Tree, IsTree, empty_tree}
-use Rattle.store_model.specs.Commands.{Command}
-use Rattle.store_model.specs.Steps.{next_tree}
 use Rattle.store_model.specs.Scripts.{lines, reading, script_limit}
 use Rattle.script_lines.specs.SourceState.{SourceState, IsObservable}
 use Rattle.script_lines.specs.LineState.{LineState, Answers, left, to_come, unread, KeepsSource, EndsCall, NextLine}
@@ -20,12 +17,12 @@ use Rattle.script_lines.specs.declared.lines.Line.TheVariants as answers
 use Rattle.script_lines.proofs.LineLemmas.{lines-none}
 use Rattle.script_lines.proofs.StateLemmas.{Answers-refl, Answers-trans}
 use Rattle.tree_listing.specs.declared.reader.ListingReader.{ListingReader}
-use Rattle.tree_listing.specs.Dumps.{dump}
+use Rattle.tree_listing.specs.Dumps.{DumpStep, command_of_step, after_step, dump}
 use Rattle.tree_listing.specs.Reading.{HasRead, GoesOn, BreaksOff}
 use Rattle.dump_streams.specs.declared.listing.ListingStream.{ListingStream}
 use Rattle.dump_streams.specs.Streams.{Extends}
 use Rattle.dump_streams.specs.Listings.{fresh_lines, CameOf, IsListed, IsNoListing, TakesText}
-use Rattle.dump_streams.proofs.TextSteps.{reading_long}
+use Rattle.tree_listing.proofs.StepLemmas.{reading_long, readings_more, none_by}
 
 -- ---- trees of version 2
 
@@ -35,54 +32,6 @@ any_parameters = record { slots = 0; height = 0; kind = draws.Ruler; seed = []; 
 
 under_two : (t : Tree) (p : Parameters) → p.version ≡ Two → IsTree t → IsTreeUnder t p
 under_two t p two is = record { is_tree = is; bare = λ lacks. absurd (cc) }
-
--- ---- lines and the commands of dumps
-
--- commands that begin with others, and what comes behind these
-record BeginsWith (cs ds : List Command) (next : Result Command Refusal) : Type 0 where
-  pub command : Command
-  pub rest : List Command
-  pub next_is : next ≡ Ok command
-  pub split : ds ≡ cs ++ command ∷ rest
-
-begins_with : (cs ds : List Command) (next : Result Command Refusal) (behind : List (Result Command Refusal))
-    → map Ok cs ++ next ∷ behind ≡ map Ok ds → BeginsWith cs ds next
-begins_with [] [] next behind e = absurd (cc)
-begins_with [] (d ∷ ds) next behind e = record { command = d; rest = ds; next_is = cc; split = refl }
-begins_with (c ∷ cs) [] next behind e = absurd (cc)
-begins_with (c ∷ cs) (d ∷ ds) next behind e =
-    let tail : map Ok cs ++ next ∷ behind ≡ map Ok ds = cc in
-    let head : d ≡ c = cc in
-    let there = begins_with cs ds next behind tail in
-    record {
-      command = there.command;
-      rest = there.rest;
-      next_is = there.next_is;
-      split = ap (λ x. x ∷ ds) head ∙ ap (λ xs. c ∷ xs) there.split;
-    }
-
--- the commands of the lines so far and one more
-texts_more : (t : Tree) (c : Command) (texts : List (List ℕ)) (text : List ℕ) → map reading texts ≡ map Ok (dump t)
-    → reading text ≡ Ok c → dump (next_tree t c) ≡ dump t ++ c ∷ []
-    → map reading (texts ++ text ∷ []) ≡ map Ok (dump (next_tree t c))
-texts_more t c texts text before is more =
-    map-append reading texts (text ∷ [])
-    ∙ ap (λ xs. xs ++ reading text ∷ []) before
-    ∙ ap (λ r. map Ok (dump t) ++ r ∷ []) is
-    ∙ sym (map-append Ok (dump t) (c ∷ []))
-    ∙ ap (map Ok) (sym more)
-
--- no listing begins with lines of which the last is bad
-none_by : (t : Tree) (texts : List (List ℕ)) (text : List ℕ) (script : List ℕ) (rest : List (List ℕ))
-    → map reading texts ≡ map Ok (dump t) → lines script ≡ (texts ++ text ∷ []) ++ rest
-    → ((c : Command) → reading text ≡ Ok c → BreaksOff t c any_parameters) → (u : Tree) → IsTree u
-    → map reading (lines script) ≡ map Ok (dump u) → ⊥
-unfolding any_parameters
-none_by t texts text script rest before split bad u is e =
-    let there = begins_with (dump t) (dump u) (reading text) (map reading rest)
-    (ap (λ xs. xs ++ reading text ∷ map reading rest) (sym before) ∙ sym (map-append reading texts (text ∷ rest))
-    ∙ ap (map reading) (sym (append_assoc texts (text ∷ []) rest) ∙ sym split) ∙ e) in
-    bad there.command there.next_is u there.rest (under_two u any_parameters refl is) there.split
 
 -- before the first line
 pub dump_none : dump empty_tree ≡ []
@@ -106,7 +55,7 @@ module _ {R : Type 0} (source_of : R → SourceState) where
     few = omega (arith, none, ap unread new);
     observable = ap (λ (l : LineState R). (source_of l.source).is_observable) new;
     faults = ap (λ (l : LineState R). (source_of l.source).faults) new;
-    commands = λ told. record {
+    steps = λ told. record {
       texts = [];
       answers = subst (λ (l : LineState R). Answers source_of (fresh_lines stream.first.value stream.lines.limit) l [])
           (ap (fresh_lines stream.first.value) (ap (λ (l : LineState R). l.limit) new) ∙ sym new)
@@ -123,19 +72,24 @@ module _ {R : Type 0} (source_of : R → SourceState) where
 
     -- the lines of the script are those that came and those that are to come
     lines_split : (o : IsObservable (source_of old.first.value))
-        → lines (left source_of (fresh_lines old.first.value old.lines.limit)) ≡ (before.commands o).texts
+        → lines (left source_of (fresh_lines old.first.value old.lines.limit)) ≡ (before.steps o).texts
         ++ lines (to_come source_of old.lines)
-    lines_split o = (before.commands o).answers.lines
+    lines_split o = (before.steps o).answers.lines
 
     -- a line that no dump goes on with
     none_at : (text : List ℕ) → (IsObservable (source_of old.lines.source)
         → Answers source_of old.lines next (text ∷ []))
-        → ((c : Command) → reading text ≡ Ok c → BreaksOff t c any_parameters) → IsNoListing (source_of old.first.value)
+        → ((s : DumpStep) → reading text ≡ Ok (command_of_step s) → BreaksOff t s any_parameters)
+        → IsNoListing (source_of old.first.value)
+    unfolding any_parameters
     none_at text answered bad o u is e =
-        let came = before.commands o in
-        none_by t came.texts text (source_of old.first.value).left (lines (to_come source_of next)) came.texts_are
-        (lines_split o ∙ ap (λ xs. came.texts ++ xs) (answered (told o)).lines
-        ∙ sym (append_assoc came.texts (text ∷ []) (lines (to_come source_of next)))) bad u is e
+        let came = before.steps o in
+        let split : lines (source_of old.first.value).left ≡ (came.texts ++ text ∷ [])
+        ++ lines (to_come source_of next) =
+        lines_split o ∙ ap (λ xs. came.texts ++ xs) (answered (told o)).lines
+        ∙ sym (append_assoc came.texts (text ∷ []) (lines (to_come source_of next))) in
+        none_by t u any_parameters came.texts text (lines (to_come source_of next)) came.texts_are bad
+        (under_two u any_parameters refl is) (ap (map reading) (sym split) ∙ e)
 
     -- the end of the source
     pub at_end : KeepsSource {T = Line} (source_of old.lines.source) (source_of next.source) (Ok answers.End)
@@ -145,7 +99,7 @@ module _ {R : Type 0} (source_of : R → SourceState) where
     at_end source line = record {
       is_tree = (before.read any_parameters refl).under.is_tree;
       listing = λ o.
-          let came = before.commands o in
+          let came = before.steps o in
           let last = line (told o) in
           ap (map reading) (lines_split o ∙ ap (λ xs. came.texts ++ xs) (last.0.lines ∙ ap lines last.1 ∙ lines-none)
           ∙ append-nil came.texts) ∙ came.texts_are;
@@ -172,8 +126,8 @@ module _ {R : Type 0} (source_of : R → SourceState) where
       -- a text
       module _ (ends : EndsCall old.lines next (Ok answers.Text))
           (line : IsObservable (source_of old.lines.source) → NextLine source_of old.lines next (Ok answers.Text))
-          (reader : ListingReader) (c : Command) where
-        pub at_bad : TakesText old.reader reader next.text c false
+          (reader : ListingReader) (s : DumpStep) where
+        pub at_bad : TakesText old.reader reader next.text s false
             → (count ≡ length (dump t) + 1) × IsNoListing (source_of old.first.value)
         unfolding any_parameters
         at_bad takes = (
@@ -183,12 +137,12 @@ module _ {R : Type 0} (source_of : R → SourceState) where
         )
 
         module _ (source : KeepsSource {T = Line} (source_of old.lines.source) (source_of next.source)
-            (Ok answers.Text)) (takes : TakesText old.reader reader next.text c true) where
-          goes : GoesOn t c any_parameters
+            (Ok answers.Text)) (takes : TakesText old.reader reader next.text s true) where
+          goes : GoesOn t s any_parameters
           unfolding any_parameters
           goes = takes.goes_on t any_parameters (before.read any_parameters refl)
 
-          pub at_text : CameOf source_of (record old { lines = next; reader = reader; count = count }) (next_tree t c)
+          pub at_text : CameOf source_of (record old { lines = next; reader = reader; count = count }) (after_step t s)
           at_text =
               let counted = count_more (omega (arith, before.few, ends.falls)) in
               record {
@@ -197,12 +151,12 @@ module _ {R : Type 0} (source_of : R → SourceState) where
                 live = ends.live.1 refl;
                 limit = ends.limit ∙ before.limit;
                 in_limit = ends.in_limit;
-                count_is = counted ∙ sym (ap length goes.dump_is ∙ length-append (dump t) (c ∷ []));
+                count_is = counted ∙ sym (ap length goes.dump_is ∙ length-append (dump t) (s ∷ []));
                 few = omega (arith, counted, before.count_is, before.few, ends.falls);
                 observable = source.observable ∙ before.observable;
                 faults = source.faults ∙ before.faults;
-                commands = λ o.
-                    let came = before.commands o in
+                steps = λ o.
+                    let came = before.steps o in
                     record {
                       texts = came.texts ++ next.text ∷ [];
                       answers =
@@ -210,9 +164,10 @@ module _ {R : Type 0} (source_of : R → SourceState) where
                           (came.texts ++ next.text ∷ [])) (sym ends.limit)
                           (Answers-trans source_of (fresh_lines old.first.value old.lines.limit) old.lines next
                           came.texts (next.text ∷ []) came.answers (line (told o)));
-                      texts_are = texts_more t c came.texts next.text came.texts_are takes.command goes.dump_is;
+                      texts_are = readings_more t (after_step t s) s came.texts next.text came.texts_are takes.step
+                          goes.dump_is;
                     };
               }
 
-          pub at_more : Extends t c
+          pub at_more : Extends t s
           at_more = record { is_tree = goes.under.is_tree; dump_is = goes.dump_is }

@@ -1,10 +1,9 @@
 -- What a taker took of a listing.
-use Rattle.std.proofs.Common.{◌≡◌, ◌⊎◌, ℕ, List, [], ◌∷◌, map, Result, Ok, Err, inl, inr, refl, sym, ap₂, subst, ◌∙◌}
-use Rattle.store_model.specs.declared.refusal.Refusal.{Refusal}
+use Rattle.std.proofs.Common.{◌≡◌, ◌⊎◌, List, Result, Ok, Err, inl, inr, subst}
 use Rattle.store_model.specs.Trees.{Tree}
-use Rattle.store_model.specs.Commands.{Command}
 use Rattle.script_lines.specs.SourceState.{SourceState}
-use Rattle.tree_listing.specs.Dumps.{dump, IsListing}
+use Rattle.tree_listing.specs.Dumps.{DumpStep, dump}
+use Rattle.tree_listing.proofs.StepLemmas.{one_dump}
 use Rattle.dump_streams.specs.Draining.{Drains, IsTooLong}
 use Rattle.dump_streams.specs.Listings.{CameOf, IsListed, EndsBy}
 use Rattle.dump_streams.specs.ReadListings.{HasListing, TakesListing}
@@ -13,25 +12,7 @@ use Rattle.dump_streams.specs.declared.fault.StreamFault.TheVariants as streams
 use Rattle.dump_streams.specs.declared.draining.DrainFault.{DrainFault}
 use Rattle.dump_streams.specs.declared.draining.DrainFault.TheVariants as drains
 
--- what reading commands gives
-abbrev read_as : List Command → List (Result Command Refusal)
-read_as commands = map Ok commands
-
--- from which the commands are told
-same_read : (cs ds : List Command) → read_as cs ≡ read_as ds → cs ≡ ds
-same_read [] [] e = refl
-same_read [] (d ∷ ds) e = absurd (cc)
-same_read (c ∷ cs) [] e = absurd (cc)
-same_read (c ∷ cs) (d ∷ ds) e =
-    let head : c ≡ d = cc in
-    let tail : read_as cs ≡ read_as ds = cc in
-    ap₂ (λ (x : Command) (xs : List Command). x ∷ xs) head (same_read cs ds tail)
-
--- a script is a listing of one dump alone
-one_dump : (t u : Tree) (script : List ℕ) → IsListing t script → IsListing u script → dump t ≡ dump u
-one_dump t u script is other = same_read (dump t) (dump u) (sym is ∙ other)
-
-module _ {R T : Type 0} (source_of : R → SourceState) (took : T → T → List Command → Type 0) where
+module _ {R T : Type 0} (source_of : R → SourceState) (took : T → T → List DumpStep → Type 0) where
   pub listing_taken : (old new : ListingStream R) (first taker : T) (result : Result (Unit {0}) DrainFault)
       → new.first ≡ old.first
       → Drains (CameOf source_of) (IsListed source_of) (EndsBy source_of) took old new first taker result
@@ -39,7 +20,7 @@ module _ {R T : Type 0} (source_of : R → SourceState) (took : T → T → List
   listing_taken old new first taker (Ok done) same drains t came none has =
       let all = drains came none in
       let here : HasListing (source_of new.first.value) t = subst (λ (s : R). HasListing (source_of s) t) (cc) has in
-      subst (λ (commands : List Command). took first taker commands)
+      subst (λ (steps : List DumpStep). took first taker steps)
       (one_dump all.tree t (source_of new.first.value).left ((all.whole_is).listing here.observable) here.listing)
       all.took_is
   listing_taken old new first taker (Err (drains.Taker fault)) same drains t came none has = tt

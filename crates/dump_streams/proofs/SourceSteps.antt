@@ -4,10 +4,8 @@ use Rattle.std.proofs.Common.{arith}
 use Rattle.std.proofs.lemmas.Bool.{false≢true}
 use Rattle.std.proofs.lemmas.List.{append-nil, nil_from_length}
 use Rattle.store_model.specs.Trees.{Tree, empty_tree}
-use Rattle.store_model.specs.Commands.{command_text, line}
-use Rattle.store_model.specs.Steps.{next_tree}
-use Rattle.script_lines.specs.Parsing.{command_of}
-use Rattle.tree_listing.specs.Dumps.{commands_text}
+use Rattle.store_model.specs.Commands.{line}
+use Rattle.tree_listing.specs.Dumps.{after_step, step_text, step_line, steps_text}
 use Rattle.dump_streams.specs.declared.source.ListingSource.{ListingSource}
 use Rattle.dump_streams.specs.Streams.{Extends}
 use Rattle.dump_streams.specs.Sources.{Gave, IsReady}
@@ -20,7 +18,7 @@ module _ {S : Type 0} (came whole : S → Tree → Type 0) where
       → source.is_ended ≡ false → Gave came whole source []
   gave_none source none rest going = record {
     tree = empty_tree;
-    text = ap commands_text dump_none ∙ text_none ∙ sym rest;
+    text = ap steps_text dump_none ∙ text_none ∙ sym rest;
     going = λ e. none;
     ended = λ e. absurd (false≢true (sym going ∙ e));
   }
@@ -30,21 +28,21 @@ module _ {S : Type 0} (came whole : S → Tree → Type 0) where
   some_line [] e = cc
   some_line (b ∷ text) e = cc
 
-  -- behind a line that was given comes that of another command
+  -- behind a line that was given comes that of another step
   pub ready_more : (old new : ListingSource S) (bytes : List ℕ) → old.is_ended ≡ false → old.line.rest ≡ []
       → new.is_ended ≡ false → (gave : Gave came whole old bytes)
-      → came new.stream (next_tree gave.tree (command_of new.command)) → Extends gave.tree (command_of new.command)
-      → new.line.rest ≡ line (command_text (command_of new.command)) → IsReady came whole new bytes
+      → came new.stream (after_step gave.tree new.step) → Extends gave.tree new.step
+      → new.line.rest ≡ step_line new.step → IsReady came whole new bytes
   ready_more old new bytes going none goes gave more extends rest = record {
     gave = record {
-      tree = next_tree gave.tree (command_of new.command);
-      text = ap commands_text extends.dump_is ∙ text_more _ (command_of new.command)
-          ∙ ap (λ xs. xs ++ line (command_text (command_of new.command)))
+      tree = after_step gave.tree new.step;
+      text = ap steps_text extends.dump_is ∙ text_more _ new.step
+          ∙ ap (λ xs. xs ++ step_line new.step)
           (gave.text ∙ ap (λ xs. bytes ++ xs) none ∙ append-nil bytes) ∙ ap (λ xs. bytes ++ xs) (sym rest);
       going = λ e. more;
       ended = λ e. absurd (false≢true (sym goes ∙ e));
     };
-    some = λ e empty. some_line (command_text (command_of new.command)) (sym rest ∙ empty);
+    some = λ e empty. some_line (step_text new.step) (sym rest ∙ empty);
   }
 
   -- no byte is given only at the end of the stream

@@ -36,7 +36,7 @@ module _ {W : Type 0} (sink_of : W → SinkState) where
     to_taker old stream sink first now (Err (drains.Taker fault)) none is took drains = let stop =
         drains none took in record {
           tree = stop.tree;
-          command = stop.command;
+          step = stop.step;
           came_is = stop.came_is;
           extends = stop.extends;
           before = (stop.before).sink;

@@ -1,48 +1,46 @@
 -- What leading a stream into a taker does.
 use Rattle.std.specs.Prelude.{◌≡◌, ◌⊎◌, ◌-◌, ◌^◌, ◌≤◌, List, [], ◌++◌, length, Result, MatchResult}
 use Rattle.store_model.specs.Trees.{Tree, empty_tree}
-use Rattle.store_model.specs.Commands.{Command}
-use Rattle.store_model.specs.Steps.{next_tree}
 use Rattle.script_lines.specs.SinkState.{SinkState, IsObservable}
-use Rattle.tree_listing.specs.Dumps.{dump, dump_text}
+use Rattle.tree_listing.specs.Dumps.{DumpStep, after_step, dump, dump_text}
 use Rattle.dump_streams.specs.Streams.{Extends}
 use Rattle.dump_streams.specs.declared.fault.StreamFault.{StreamFault}
 use Rattle.dump_streams.specs.declared.fault.StreamFault.TheVariants as streams
 use Rattle.dump_streams.specs.declared.draining.DrainFault.{DrainFault}
 use Rattle.dump_streams.specs.declared.draining.DrainFault.TheVariants as drains
 
--- the dump has as many commands as are led on at most
+-- the dump has as many steps as are led on at most
 pub record IsTooLong (t : Tree) (fault : StreamFault) : Type 0 where
   pub fault_is : fault ≡ streams.TooLong
   pub many : 2 ^ 64 - 1 ≤ length (dump t)
 
 module _ {S T : Type 0} (came whole : S → Tree → Type 0) (fails : S → Tree → StreamFault → Type 0)
-    (took : T → T → List Command → Type 0) where
-  -- the stream told that its dump is whole, and just its commands were taken
+    (took : T → T → List DumpStep → Type 0) where
+  -- the stream told that its dump is whole, and just its steps were taken
   pub record TakesWhole (stream : S) (first taker : T) : Type 0 where
     pub tree : Tree
     pub whole_is : whole stream tree
     pub took_is : took first taker (dump tree)
 
-  -- the stream told a fault after the dump of a tree, or gave too many commands, and just the commands that it gave
+  -- the stream told a fault after the dump of a tree, or gave too many steps, and just the steps that it gave
   -- were taken
   pub record TakesFront (stream : S) (first taker : T) (fault : StreamFault) : Type 0 where
     pub tree : Tree
     pub why : fails stream tree fault ⊎ IsTooLong tree fault
     pub took_is : took first taker (dump tree)
 
-  -- a command that goes on with the dump of a tree was not taken, and just those before it were
-  pub record RefusesCommand (stream : S) (first : T) : Type 0 where
+  -- a step that goes on with the dump of a tree was not taken, and just those before it were
+  pub record RefusesStep (stream : S) (first : T) : Type 0 where
     pub tree : Tree
-    pub command : Command
-    pub came_is : came stream (next_tree tree command)
-    pub extends : Extends tree command
+    pub step : DumpStep
+    pub came_is : came stream (after_step tree step)
+    pub extends : Extends tree step
     pub before : T
     pub took_is : took first before (dump tree)
 
   abbrev pub StopsBy : S → T → T → DrainFault → Type 0
   StopsBy stream first taker (drains.Stream fault) = TakesFront stream first taker fault
-  StopsBy stream first taker (drains.Taker fault) = RefusesCommand stream first
+  StopsBy stream first taker (drains.Taker fault) = RefusesStep stream first
 
   -- A stream from which nothing came is led into a taker that took nothing yet.
   abbrev pub Drains : S → S → T → T → Result (Unit {0}) DrainFault → Type 0
@@ -62,7 +60,7 @@ module _ {S W : Type 0} (came whole : S → Tree → Type 0) (fails : S → Tree
     pub written : HasWritten sink_of old new tree
     pub faults : (sink_of new).faults ≡ (sink_of old).faults
 
-  -- the stream told a fault after the dump of a tree, or gave too many commands, and the lines of those that it gave
+  -- the stream told a fault after the dump of a tree, or gave too many steps, and the lines of those that it gave
   -- were written
   pub record WritesFront (stream : S) (old new : W) (fault : StreamFault) : Type 0 where
     pub tree : Tree
@@ -70,12 +68,12 @@ module _ {S W : Type 0} (came whole : S → Tree → Type 0) (fails : S → Tree
     pub written : HasWritten sink_of old new tree
     pub faults : (sink_of new).faults ≡ (sink_of old).faults
 
-  -- the line of a command that goes on with the dump of a tree was not written, and those before it were
+  -- the line of a step that goes on with the dump of a tree was not written, and those before it were
   pub record BreaksLine (stream : S) (old : W) : Type 0 where
     pub tree : Tree
-    pub command : Command
-    pub came_is : came stream (next_tree tree command)
-    pub extends : Extends tree command
+    pub step : DumpStep
+    pub came_is : came stream (after_step tree step)
+    pub extends : Extends tree step
     pub before : W
     pub written : HasWritten sink_of old before tree
 

@@ -5,6 +5,7 @@ pub mod Draining
 pub mod Lines
 pub mod Listings
 pub mod Gathered
+pub mod GatheredLines
 pub mod Rooms
 pub mod Sources
 pub mod ReadListings

@@ -5,13 +5,11 @@ use Rattle.store_base.specs.Counts.{raised}
 use Rattle.store_model.specs.declared.version.Version.TheVariants.{Two}
 use Rattle.store_model.specs.Parameters.{Parameters}
 use Rattle.store_model.specs.Trees.{Tree, IsTree}
-use Rattle.store_model.specs.Commands.{Command}
-use Rattle.store_model.specs.Steps.{next_tree}
 use Rattle.store_model.specs.Scripts.{reading, script_limit}
 use Rattle.script_lines.specs.SourceState.{SourceState, IsObservable}
 use Rattle.script_lines.specs.LineState.{LineState, Answers, unread}
 use Rattle.tree_listing.specs.declared.reader.ListingReader.{ListingReader}
-use Rattle.tree_listing.specs.Dumps.{dump, IsListing}
+use Rattle.tree_listing.specs.Dumps.{DumpStep, command_of_step, after_step, dump, readings, IsListing}
 use Rattle.tree_listing.specs.Reading.{HasRead, GoesOn, BreaksOff}
 use Rattle.dump_streams.specs.declared.fault.StreamFault.{StreamFault}
 use Rattle.dump_streams.specs.declared.fault.StreamFault.TheVariants as faults
@@ -29,13 +27,13 @@ fresh_lines source limit = record {
   text = [];
 }
 
--- the lines that came ask for these commands of a dump
-pub record AreCommands {R : Type 0} (source_of : R → SourceState) (first now : LineState R) (t : Tree) : Type 0 where
+-- the lines that came ask for these steps of a dump
+pub record AreSteps {R : Type 0} (source_of : R → SourceState) (first now : LineState R) (t : Tree) : Type 0 where
   pub texts : List (List ℕ)
   pub answers : Answers source_of first now texts
-  pub texts_are : map reading texts ≡ map Ok (dump t)
+  pub texts_are : map reading texts ≡ readings (dump t)
 
--- The commands that came so far of a source are the dump of the tree.
+-- The steps that came so far of a source are the dump of the tree.
 pub record CameOf {R : Type 0} (source_of : R → SourceState) (stream : ListingStream R) (t : Tree) : Type 0 where
   pub read : (p : Parameters) → p.version ≡ Two → HasRead stream.reader t p
   pub version : stream.reader.version ≡ Two
@@ -47,8 +45,8 @@ pub record CameOf {R : Type 0} (source_of : R → SourceState) (stream : Listing
   pub few : stream.count + unread stream.lines ≤ script_limit
   pub observable : (source_of stream.lines.source).is_observable ≡ (source_of stream.first.value).is_observable
   pub faults : (source_of stream.lines.source).faults ≡ (source_of stream.first.value).faults
-  pub commands : IsObservable (source_of stream.first.value)
-      → AreCommands source_of (fresh_lines stream.first.value stream.lines.limit) stream.lines t
+  pub steps : IsObservable (source_of stream.first.value)
+      → AreSteps source_of (fresh_lines stream.first.value stream.lines.limit) stream.lines t
 
 -- what the source had is a listing of the tree, if it tells its bytes
 pub record IsListed {R : Type 0} (source_of : R → SourceState) (stream : ListingStream R) (t : Tree) : Type 0 where
@@ -62,7 +60,7 @@ pub record IsListed {R : Type 0} (source_of : R → SourceState) (stream : Listi
 abbrev pub IsNoListing : SourceState → Type 0
 IsNoListing source = IsObservable source → (t : Tree) → IsTree t → IsListing t source.left → ⊥
 
--- Why the stream of a listing ends after the commands of the dump of a tree. Memory never runs out.
+-- Why the stream of a listing ends after the steps of the dump of a tree. Memory never runs out.
 abbrev pub EndsBy : {R : Type 0} → (R → SourceState) → ListingStream R → Tree → StreamFault → Type 0
 EndsBy source_of stream t faults.NoDump = (stream.count ≡ length (dump t) + 1)
     × IsNoListing (source_of stream.first.value)
@@ -74,12 +72,12 @@ EndsBy source_of stream t faults.NoMemory = ⊥
 
 -- ---- on the way
 
--- The text of a line comes behind the dump of a tree. It is taken where it is a command with which some tree's dump
+-- The text of a line comes behind the dump of a tree. It is taken where it asks for a step with which some tree's dump
 -- begins, and just there.
-pub record TakesText (old new : ListingReader) (text : List ℕ) (c : Command) (taken : Bool) : Type 0 where
-  pub command : OnTrue taken (reading text ≡ Ok c)
-  pub read : (t : Tree) (p : Parameters) → HasRead old t p → OnTrue taken (HasRead new (next_tree t c) p)
-  pub goes_on : (t : Tree) (p : Parameters) → HasRead old t p → OnTrue taken (GoesOn t c p)
+pub record TakesText (old new : ListingReader) (text : List ℕ) (s : DumpStep) (taken : Bool) : Type 0 where
+  pub step : OnTrue taken (reading text ≡ Ok (command_of_step s))
+  pub read : (t : Tree) (p : Parameters) → HasRead old t p → OnTrue taken (HasRead new (after_step t s) p)
+  pub goes_on : (t : Tree) (p : Parameters) → HasRead old t p → OnTrue taken (GoesOn t s p)
   pub refused : (t : Tree) (p : Parameters) → HasRead old t p
-      → OnFalse taken ((d : Command) → reading text ≡ Ok d → BreaksOff t d p)
+      → OnFalse taken ((other : DumpStep) → reading text ≡ Ok (command_of_step other) → BreaksOff t other p)
   pub version : new.version ≡ old.version

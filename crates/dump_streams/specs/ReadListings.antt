@@ -1,9 +1,8 @@
 -- What leading a listing into a taker does.
 use Rattle.std.specs.Prelude.{List, [], Result, MatchResult, ⊤}
 use Rattle.store_model.specs.Trees.{Tree, IsTree, empty_tree}
-use Rattle.store_model.specs.Commands.{Command}
 use Rattle.script_lines.specs.SourceState.{SourceState, IsObservable}
-use Rattle.tree_listing.specs.Dumps.{dump, IsListing}
+use Rattle.tree_listing.specs.Dumps.{DumpStep, dump, IsListing}
 use Rattle.dump_streams.specs.Listings.{CameOf}
 use Rattle.dump_streams.specs.declared.listing.ListingStream.{ListingStream}
 use Rattle.dump_streams.specs.declared.fault.StreamFault.TheVariants as streams
@@ -23,9 +22,9 @@ IsFromOutside (drains.Stream streams.NoMemory) = ⊥
 IsFromOutside (drains.Stream _) = ⊤
 IsFromOutside (drains.Taker fault) = ⊤
 
--- Where the source has a listing of a tree, just the commands of its dump are taken.
-abbrev pub TakesListing : {R T : Type 0} → (R → SourceState) → (T → T → List Command → Type 0) → ListingStream R → T → T
-    → Result (Unit {0}) DrainFault → Type 0
+-- Where the source has a listing of a tree, just the steps of its dump are taken.
+abbrev pub TakesListing : {R T : Type 0} → (R → SourceState) → (T → T → List DumpStep → Type 0) → ListingStream R
+    → T → T → Result (Unit {0}) DrainFault → Type 0
 TakesListing source_of took stream first taker result =
     (t : Tree) → CameOf source_of stream empty_tree → took first first [] → HasListing (source_of stream.first.value) t
     → MatchResult result (λ done. took first taker (dump t)) IsFromOutside

@@ -1,8 +1,8 @@
--- What a taker of commands does.
+-- What a taker of steps does.
 use Rattle.std.specs.Prelude.{List, [], ◌∷◌, ◌++◌, Result, OnOk}
-use Rattle.store_model.specs.Commands.{Command}
+use Rattle.tree_listing.specs.Dumps.{DumpStep}
 
--- one more command was taken
-abbrev pub IsTaken : {E : Type 0} → (List Command → Type 0) → (List Command → Type 0) → Command
+-- one more step was taken
+abbrev pub IsTaken : {E : Type 0} → (List DumpStep → Type 0) → (List DumpStep → Type 0) → DumpStep
     → Result (Unit {0}) E → Type 0
-IsTaken old new c result = (commands : List Command) → old commands → OnOk result (new (commands ++ c ∷ []))
+IsTaken old new s result = (steps : List DumpStep) → old steps → OnOk result (new (steps ++ s ∷ []))

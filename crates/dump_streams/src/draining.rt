@@ -7,16 +7,16 @@ ghost use Rattle.dump_streams.specs.Draining.{Drains};
 use crate::fault::StreamFault;
 use crate::stream::DumpStream;
 use crate::taker::{Taker, TakerFault};
-use script_lines::Command;
 use thiserror::Error;
+use tree_listing::DumpStep;
 
-/// Why the commands of a stream were not all taken.
+/// Why the steps of a stream were not all taken.
 #[derive(Clone, Copy, Debug, PartialEq, Eq, Error)]
 pub enum DrainFault {
     /// The stream ended before its dump did.
     #[error(transparent)]
     Stream(StreamFault),
-    /// A command was not taken.
+    /// A step was not taken.
     #[error(transparent)]
     Taker(TakerFault),
 }
@@ -41,20 +41,20 @@ impl From<TakerFault> for DrainFault {
     }
 }
 
-/// Takes all commands of a stream from which none came.
-/// `Stream`: the stream ended before its dump did, and what came of it was taken. `Taker`: what came before the command
-/// was taken; a part of the command may be carried out.
+/// Takes all steps of a stream from which none came.
+/// `Stream`: the stream ended before its dump did, and what came of it was taken. `Taker`: what came before the step
+/// was taken; a part of the step may be carried out.
 pub fn drain<S: DumpStream, T: Taker>(stream: &mut S, taker: &mut T) -> Result<(), DrainFault>
     ensures drains { Drains S.came S.whole S.fails T.took stream.old stream.new
         taker.old taker.new result }
     ensures keeps { (start : S) → S.keeps start stream.old → S.keeps start stream.new }
 {
-    let mut command = Command::Space;
+    let mut step = DumpStep::new();
     for _ in 0..u64::MAX {
-        if !stream.next(&mut command)? {
+        if !stream.next(&mut step)? {
             return Ok(());
         }
-        taker.take(&command)?;
+        taker.take(&step)?;
     }
     Err(DrainFault::Stream(StreamFault::TooLong))
 }

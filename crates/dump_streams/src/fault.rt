@@ -1,4 +1,4 @@
-//! Why a stream of commands ends before its dump does.
+//! Why a stream of steps ends before its dump does.
 
 ghost use Rattle.std.specs.Prelude.{◌≡◌};
 ghost use Rattle.dump_streams.specs.Faults.{line_fault};
@@ -6,7 +6,7 @@ ghost use Rattle.dump_streams.specs.Faults.{line_fault};
 use script_lines::LineFault;
 use thiserror::Error;
 
-/// Why a stream gave no further command, and not because the dump was whole.
+/// Why a stream gave no further step, and not because the dump was whole.
 #[derive(Clone, Copy, Debug, PartialEq, Eq, Error)]
 pub enum StreamFault {
     /// Memory ran out.

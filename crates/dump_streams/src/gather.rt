@@ -1,15 +1,22 @@
-//! A sink that gathers bytes.
+//! A sink that gathers bytes, and one that gathers the lines of commands.
 
 ghost use Rattle.std.specs.Prelude.{◌≡◌, ◌+◌, ◌≤◌, ◌<◌, [], false, IsTrue, IfOk, IfErr, OnOk, length};
+ghost use Rattle.store_model.specs.Commands.{command_text, line};
+ghost use Rattle.store_model.specs.Commands.Command.{Write};
 ghost use Rattle.store_base.specs.Counts.{raised};
 ghost use Rattle.script_lines.specs.SinkState.{IsPut, IsObservable};
-ghost use Rattle.dump_streams.specs.Gathered.{gathered_state, CallsSink, IsFlushed, IsFrontOf};
+ghost use Rattle.script_lines.specs.Parsing.{command_of};
+ghost use Rattle.dump_streams.specs.Gathered.{gathered_state, gathers_none, CallsSink, IsFlushed, IsFrontOf, GrewFrom};
+ghost use Rattle.dump_streams.specs.GatheredLines.{lines_state, GathersLine};
 
-use script_lines::{Sink, SinkFault};
+use crate::room::LineRoom;
+use crate::taker::TakerFault;
+use path_keys::Path;
+use script_lines::{Command, Sink, SinkFault, write_command, write_piece};
 use std::alloc::Global;
 use std::marker::Model;
 use std::snapshot::Snapshot;
-use store_base::NoMemory;
+use store_base::{Bytes, NoMemory};
 
 /// So many bytes are gathered.
 const ROOM: usize = 65_536;
@@ -28,11 +35,13 @@ pub struct GatheredSink<W: Sink> {
     faults: u64,
     /// The sink before the bytes held.
     before: Snapshot<W>,
+    /// The sink that it was made over.
+    first: Snapshot<W>,
 }
 
 impl<W: Sink> Model for GatheredSink<W> {
     ghost use Rattle.std.specs.Prelude.{◌≤◌, vec_len, vec_capacity};
-    ghost use Rattle.dump_streams.specs.Gathered.{Gathered, StandsAt, gather_room};
+    ghost use Rattle.dump_streams.specs.Gathered.{Gathered, StandsAt, CameFrom, gather_room};
 
     ghost Value = { Gathered W };
 
@@ -42,35 +51,32 @@ impl<W: Sink> Model for GatheredSink<W> {
       is_broken = g.is_broken;
       faults = g.faults;
       before = g.before.value;
+      first = g.first.value;
     } };
 
     ghost invariant = { λ g. (vec_len g.held ≤ gather_room) × (gather_room ≤ vec_capacity g.held)
-        × StandsAt W.state g.sink g.held.items g.is_broken g.before.value };
+        × StandsAt W.state g.sink g.held.items g.is_broken g.before.value
+        × CameFrom W.state g.first.value g.before.value g.sink g.is_broken g.faults };
 }
 
 impl<W: Sink> GatheredSink<W> {
     /// A sink that gathers bytes for this one.
     /// `NoMemory`: the sink is given back.
     pub fn new(alloc: Global, sink: W) -> Result<Self, (NoMemory, W)>
-        ensures ok { IfOk result (λ gathered. gathered ≡ record {
-          sink = sink;
-          held = [];
-          is_broken = false;
-          faults = 0;
-          before = sink;
-        }) }
+        ensures ok { IfOk result (λ gathered. gathered ≡ gathers_none sink) }
         ensures err { IfErr result (λ refused. refused.1 ≡ sink) }
     {
         let Ok(held) = Vec::with_capacity(alloc, ROOM) else {
             return Err((NoMemory, sink));
         };
-        let before = Snapshot::of(&sink);
+        let (before, first) = (Snapshot::of(&sink), Snapshot::of(&sink));
         Ok(GatheredSink {
             sink,
             held,
             is_broken: false,
             faults: 0,
             before,
+            first,
         })
     }
 
@@ -82,6 +88,7 @@ impl<W: Sink> GatheredSink<W> {
             (gathered_state W.state self.new) [] result }
         ensures calls { CallsSink W.state self.old self.new result }
         ensures flushed { OnOk result (IsFlushed W.state self.new) }
+        ensures same { self.new.first ≡ self.old.first }
     {
         if self.is_broken {
             return Err(self.refuse());
@@ -91,7 +98,8 @@ impl<W: Sink> GatheredSink<W> {
         }
         if self.sink.put(&self.held).is_err() {
             self.is_broken = true;
-            return Err(self.refuse());
+            self.faults = 1;
+            return Err(SinkFault);
         }
         self.before = Snapshot::of(&self.sink);
         self.held.clear();
@@ -112,6 +120,7 @@ impl<W: Sink> GatheredSink<W> {
         ensures put { IsPut (gathered_state W.state self.old)
             (gathered_state W.state self.new) [] result }
         ensures calls { CallsSink W.state self.old self.new result }
+        ensures same { self.new.first ≡ self.old.first }
         ensures room { OnOk result (count ≤ ROOM → length self.new.held + count ≤ ROOM) }
         ensures none { OnOk result (ROOM < count → self.new.held ≡ []) }
     {
@@ -128,12 +137,14 @@ impl<W: Sink> GatheredSink<W> {
         ensures put { IsPut (gathered_state W.state self.old)
             (gathered_state W.state self.new) bytes.now result }
         ensures calls { CallsSink W.state self.old self.new result }
+        ensures same { self.new.first ≡ self.old.first }
     {
         let put = self.sink.put(bytes);
         self.before = Snapshot::of(&self.sink);
         if put.is_err() {
             self.is_broken = true;
-            return Err(self.refuse());
+            self.faults = 1;
+            return Err(SinkFault);
         }
         Ok(())
     }
@@ -143,6 +154,7 @@ impl<W: Sink> GatheredSink<W> {
         ensures sink { result ≡ self.sink }
         ensures front { IsObservable (W.state result)
             → IsFrontOf (W.state result).written (gathered_state W.state self).written }
+        ensures grew { GrewFrom W.state self.first result self.faults }
     {
         let GatheredSink {
             sink,
@@ -150,6 +162,7 @@ impl<W: Sink> GatheredSink<W> {
             is_broken: _,
             faults: _,
             before: _,
+            first: _,
         } = self;
         sink
     }
@@ -164,6 +177,7 @@ impl<W: Sink> Sink for GatheredSink<W> {
         ensures put { IsPut (gathered_state W.state self.old)
             (gathered_state W.state self.new) bytes.now result }
         ensures calls { CallsSink W.state self.old self.new result }
+        ensures same { self.new.first ≡ self.old.first }
     {
         self.make_room(bytes.len())?;
         if bytes.len() > ROOM {
@@ -173,5 +187,91 @@ impl<W: Sink> Sink for GatheredSink<W> {
             unreachable!()
         };
         Ok(())
+    }
+}
+
+/// Gathers the lines of commands, as `GatheredSink` gathers bytes.
+#[derive(Drop)]
+pub struct GatheredLines<W: Sink> {
+    gathered: GatheredSink<W>,
+    /// The line of a command, before it is gathered.
+    line: LineRoom,
+}
+
+impl<W: Sink> GatheredLines<W> {
+    /// Gathers lines for this sink. All memory but that of a longer line than a listing has is taken here.
+    /// `NoMemory`: the sink is given back.
+    pub fn new(alloc: Global, sink: W) -> Result<Self, (NoMemory, W)>
+        ensures ok { IfOk result (λ lines. lines.gathered ≡ gathers_none sink) }
+        ensures err { IfErr result (λ refused. refused.1 ≡ sink) }
+    {
+        let Ok(line) = LineRoom::new(alloc) else {
+            return Err((NoMemory, sink));
+        };
+        let gathered = GatheredSink::new(alloc, sink)?;
+        Ok(GatheredLines { gathered, line })
+    }
+
+    /// Gathers the line of a command.
+    /// `NoMemory`: the line has no room, and nothing was done. `Failed`: a put into the sink failed, now or before.
+    pub fn put_command(&mut self, command: &Command) -> Result<(), TakerFault>
+        ensures line { GathersLine W.state self.old self.new
+            (line (command_text (command_of command.now))) result }
+        ensures same { self.new.gathered.first ≡ self.old.gathered.first }
+    {
+        self.line.clear();
+        if write_command(&mut self.line, command).is_err() {
+            return Err(TakerFault::NoMemory);
+        }
+        self.put_line()
+    }
+
+    /// Gathers the line of the `write` that puts these bytes into a file from an offset on, as `put_command`.
+    pub fn put_piece(&mut self, path: &Path, at: u32, bytes: &[u8]) -> Result<(), TakerFault>
+        requires { length bytes.now ≤ Bytes.MAX_LEN }
+        ensures line { GathersLine W.state self.old self.new
+            (line (command_text (Write path.now at bytes.now))) result }
+        ensures same { self.new.gathered.first ≡ self.old.gathered.first }
+    {
+        self.line.clear();
+        if write_piece(&mut self.line, path, at, bytes).is_err() {
+            return Err(TakerFault::NoMemory);
+        }
+        self.put_line()
+    }
+
+    /// Gathers the line at hand.
+    fn put_line(&mut self) -> Result<(), TakerFault>
+        ensures line { GathersLine W.state self.old self.new self.old.line.rest result }
+        ensures same { self.new.gathered.first ≡ self.old.gathered.first }
+    {
+        match self.gathered.put(self.line.as_slice()) {
+            Ok(()) => Ok(()),
+            Err(SinkFault) => Err(TakerFault::Failed),
+        }
+    }
+
+    /// Puts the lines that are held into the sink, as `flush` of `GatheredSink`.
+    /// `Failed`: the put failed, or a call before.
+    pub fn flush(&mut self) -> Result<(), TakerFault>
+        ensures put { GathersLine W.state self.old self.new [] result }
+        ensures flushed { OnOk result (IsFlushed W.state self.new.gathered) }
+        ensures same { self.new.gathered.first ≡ self.old.gathered.first }
+    {
+        match self.gathered.flush() {
+            Ok(()) => Ok(()),
+            Err(SinkFault) => Err(TakerFault::Failed),
+        }
+    }
+
+    /// Gives the sink back, as `into_sink` of `GatheredSink`.
+    pub fn into_sink(self) -> W
+        ensures sink { result ≡ self.gathered.sink }
+        ensures front { IsObservable (W.state result)
+            → IsFrontOf (W.state result).written (lines_state W.state self).written }
+        ensures grew { GrewFrom W.state self.gathered.first result self.gathered.faults }
+    {
+        let GatheredLines { gathered, line: _ } = self;
+        gathered.into_sink()
     }
 }

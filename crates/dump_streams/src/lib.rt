@@ -1,6 +1,6 @@
-//! Dumps, command after command: where they come from, and what takes them.
+//! Dumps, step after step: where they come from, and what takes them.
 //!
-//! Start at `DumpStream` and `Taker`. A stream gives the commands of a dump one after another, and keeps no more than
+//! Start at `DumpStream` and `Taker`. A stream gives the steps of a dump one after another, and keeps no more than
 //! one. A taker does something with each of them. `drain` leads a stream into a taker, to the stream's end.
 #![tactic(auto)]
 
@@ -18,7 +18,7 @@ mod writing;
 
 pub use draining::{DrainFault, drain};
 pub use fault::StreamFault;
-pub use gather::GatheredSink;
+pub use gather::{GatheredLines, GatheredSink};
 pub use lines::{LineTaker, NoTaker};
 pub use listing::ListingStream;
 pub use reading::drain_listing;

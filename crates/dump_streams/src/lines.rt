@@ -1,15 +1,14 @@
-//! Takers that write the lines of commands, or nothing.
+//! Takers that write the lines of steps, or nothing.
 
 ghost use Rattle.std.specs.Prelude.{◌≡◌, [], List, ⊤};
-ghost use Rattle.store_model.specs.Commands.{Command};
-ghost use Rattle.script_lines.specs.Parsing.{command_of};
 ghost use Rattle.dump_streams.specs.Lines.{TookLines, PutsLine};
 ghost use Rattle.dump_streams.specs.Takers.{IsTaken};
 
 use crate::taker::{Taker, TakerFault};
-use script_lines::{Command as Line, Sink, write_command};
+use script_lines::Sink;
+use tree_listing::{DumpStep, write_step};
 
-/// Writes the line of each command that it takes.
+/// Writes the line of each step that it takes.
 #[derive(Drop)]
 pub struct LineTaker<W: Sink> {
     sink: W,
@@ -36,33 +35,33 @@ impl<W: Sink> LineTaker<W> {
 impl<W: Sink> Taker for LineTaker<W> {
     ghost took = { TookLines W.state };
 
-    /// Writes the line of the command.
+    /// Writes the line of the step.
     /// `Failed`: the sink failed. A prefix of the line may have been written.
-    fn take(&mut self, command: &Line) -> Result<(), TakerFault>
+    fn take(&mut self, step: &DumpStep) -> Result<(), TakerFault>
         ensures taken { (first : LineTaker W)
             → IsTaken (TookLines W.state first self.old) (TookLines W.state first self.new)
-            (command_of command.now) result }
-        ensures put { PutsLine W.state self.old self.new (command_of command.now) result }
+            step.now result }
+        ensures put { PutsLine W.state self.old self.new step.now result }
     {
-        match write_command(&mut self.sink, command) {
+        match write_step(&mut self.sink, step) {
             Ok(()) => Ok(()),
             Err(_) => Err(TakerFault::Failed),
         }
     }
 }
 
-/// Takes all commands and does nothing: to drain a stream into it only tells whether the stream is whole.
+/// Takes all steps and does nothing: to drain a stream into it only tells whether the stream is whole.
 #[derive(Clone, Copy, Debug)]
 pub struct NoTaker;
 
 impl Taker for NoTaker {
-    ghost took = { λ first now commands. ⊤ };
+    ghost took = { λ first now steps. ⊤ };
 
     /// Never fails.
-    fn take(&mut self, command: &Line) -> Result<(), TakerFault>
+    fn take(&mut self, step: &DumpStep) -> Result<(), TakerFault>
         ensures { result ≡ Ok tt }
     {
-        let _ = command;
+        let _ = step;
         Ok(())
     }
 }

@@ -1,27 +1,26 @@
-//! A stream of the commands of a listing.
+//! A stream of the steps of a listing.
 
 ghost use Rattle.std.specs.Prelude.{◌≡◌, ◌≤◌, IfOk, IfErr, length};
 ghost use Rattle.store_model.specs.Trees.{Tree, empty_tree};
-ghost use Rattle.script_lines.specs.Parsing.{command_of};
 ghost use Rattle.script_lines.specs.LineState.{LineState, left};
 ghost use Rattle.dump_streams.specs.Streams.{IsNext};
 ghost use Rattle.dump_streams.specs.Listings.{CameOf, IsListed, TakesText, EndsBy};
 
 use crate::fault::StreamFault;
 use crate::stream::DumpStream;
-use script_lines::{Command, Line, LineReader, MAX_LINE, Source, read_command, reveal};
+use script_lines::{Line, LineReader, MAX_LINE, Source};
 use std::alloc::Global;
 use std::snapshot::Snapshot;
 use store_base::{NoMemory, Version};
-use tree_listing::ListingReader;
+use tree_listing::{DumpStep, ListingReader, read_step};
 
-/// The commands of a listing, which a source has: a script that says the dump of a tree. Digits may be of either case,
+/// The steps of a listing, which a source has: a script that says the dump of a tree. Digits may be of either case,
 /// empty lines may stand between, and the last LF may be missing.
 #[derive(Drop)]
 pub struct ListingStream<R: Source> {
     /// The lines that are still to come.
     lines: LineReader<R>,
-    /// Which command may be the next.
+    /// Which step may be the next.
     reader: ListingReader,
     /// How many lines came.
     count: u64,
@@ -67,13 +66,13 @@ impl<R: Source> ListingStream<R> {
         lines.into_source()
     }
 
-    /// The next command, as `next` of the stream. `NoDump`: the line is no command, or no dump goes on with it. What
+    /// The next step, as `next` of the stream. `NoDump`: the line asks for no step, or no dump goes on with it. What
     /// the source has is no listing, and `line` tells the line. `Unreadable`: a take failed now or before. `TooLong`:
     /// the source has more bytes than a script may have.
-    fn next_command(&mut self, into: &mut Command) -> Result<bool, StreamFault>
+    fn next_step(&mut self, into: &mut DumpStep) -> Result<bool, StreamFault>
         ensures next { IsNext (CameOf R.state self.old) (CameOf R.state self.new)
             (IsListed R.state self.new)
-            (EndsBy R.state self.new) (command_of into.new) result }
+            (EndsBy R.state self.new) into.new result }
         ensures same { self.new.first ≡ self.old.first }
     {
         if !self.lines.is_live() {
@@ -96,17 +95,16 @@ impl<R: Source> ListingStream<R> {
     }
 }
 
-/// Takes the command that a text spells, behind those that were taken, and says whether some tree's dump begins with
-/// them all. The command is read into `command`.
-fn take_text(text: &[u8], reader: &mut ListingReader, command: &mut Command) -> bool
+/// Takes the step that a text asks for, behind those that were taken, and says whether some tree's dump begins with
+/// them all. The step is read into `step`.
+fn take_text(text: &[u8], reader: &mut ListingReader, step: &mut DumpStep) -> bool
     requires { length text.now ≤ MAX_LINE }
-    ensures { TakesText reader.old reader.new text.now (command_of command.new) result }
+    ensures { TakesText reader.old reader.new text.now step.new result }
 {
-    if read_command(text, command).is_err() {
+    if !read_step(text, step) {
         return false;
     }
-    reveal(command);
-    reader.add(command)
+    reader.add(step)
 }
 
 impl<R: Source> DumpStream for ListingStream<R> {
@@ -118,10 +116,10 @@ impl<R: Source> DumpStream for ListingStream<R> {
 
     ghost fails = { EndsBy R.state };
 
-    /// A listing is never refused. `NoDump`: the line is no command, or no dump goes on with it. What the source has
+    /// A listing is never refused. `NoDump`: the line asks for no step, or no dump goes on with it. What the source has
     /// is no listing, and `line` tells the line. `Unreadable`: a take failed now or before. `TooLong`: the source has
     /// more bytes than a script may have.
-    fn next(&mut self, into: &mut Command) -> Result<bool, StreamFault> {
-        self.next_command(into)
+    fn next(&mut self, into: &mut DumpStep) -> Result<bool, StreamFault> {
+        self.next_step(into)
     }
 }

@@ -10,9 +10,9 @@ use crate::listing::ListingStream;
 use crate::taker::Taker;
 use script_lines::Source;
 
-/// Takes all commands of a listing from which none came: where the source has a listing, just the commands of its dump
+/// Takes all steps of a listing from which none came: where the source has a listing, just the steps of its dump
 /// are taken, or the source or the taker fails.
-/// `Stream`: `NoDump`, so the source has no listing, `Unreadable` or `TooLong`. `Taker`: a command was not taken.
+/// `Stream`: `NoDump`, so the source has no listing, `Unreadable` or `TooLong`. `Taker`: a step was not taken.
 pub fn drain_listing<R: Source, T: Taker>(
     stream: &mut ListingStream<R>,
     taker: &mut T,

@@ -48,6 +48,13 @@ impl LineRoom {
         self.start == self.bytes.len()
     }
 
+    /// What is left of the line.
+    pub fn as_slice(&self) -> &[u8]
+        ensures { result.now ≡ self.now.rest }
+    {
+        &self.bytes[self.start..]
+    }
+
     /// Lets go of the line.
     pub fn clear(&mut self)
         ensures { self.new ≡ record self.old { rest = [] } }

@@ -10,19 +10,20 @@ ghost use Rattle.dump_streams.specs.Sources.{source_state, Gave, IsReady};
 use crate::fault::StreamFault;
 use crate::room::LineRoom;
 use crate::stream::DumpStream;
-use script_lines::{Command, SinkFault, Source, SourceFault, write_command};
+use script_lines::{SinkFault, Source, SourceFault};
 use std::alloc::Global;
 use store_base::NoMemory;
+use tree_listing::{DumpStep, write_step};
 
-/// The lines of the commands of a stream, one after another, as a source. It does not tell its bytes. Its count of
+/// The lines of the steps of a stream, one after another, as a source. It does not tell its bytes. Its count of
 /// faults starts at 0.
 ///
 /// Once the stream failed each take fails, and `fault` tells why.
 #[derive(Drop)]
 pub struct ListingSource<S: DumpStream> {
     stream: S,
-    /// The command that came last.
-    command: Command,
+    /// The step that came last.
+    step: DumpStep,
     /// What is left of its line.
     line: LineRoom,
     is_ended: bool,
@@ -48,7 +49,7 @@ impl<S: DumpStream> ListingSource<S> {
         };
         Ok(ListingSource {
             stream,
-            command: Command::Space,
+            step: DumpStep::new(),
             line,
             is_ended: false,
             fault: None,
@@ -69,7 +70,7 @@ impl<S: DumpStream> ListingSource<S> {
     {
         let ListingSource {
             stream,
-            command: _,
+            step: _,
             line: _,
             is_ended: _,
             fault: _,
@@ -78,7 +79,7 @@ impl<S: DumpStream> ListingSource<S> {
         stream
     }
 
-    /// Puts the line of the next command in the place of the one before, or none at the end of the stream.
+    /// Puts the line of the next step in the place of the one before, or none at the end of the stream.
     /// `NoMemory`: the line has no room, or so the stream answers. Others are answers of the stream.
     fn next_line(&mut self) -> Result<(), StreamFault>
         requires going { self.old.is_ended ≡ false }
@@ -89,11 +90,11 @@ impl<S: DumpStream> ListingSource<S> {
         ensures faults { self.new.faults ≡ self.old.faults }
     {
         self.line.clear();
-        if !self.stream.next(&mut self.command)? {
+        if !self.stream.next(&mut self.step)? {
             self.is_ended = true;
             return Ok(());
         }
-        match write_command(&mut self.line, &self.command) {
+        match write_step(&mut self.line, &self.step) {
             Ok(()) => Ok(()),
             Err(SinkFault) => Err(StreamFault::NoMemory),
         }
@@ -127,7 +128,7 @@ impl<S: DumpStream> ListingSource<S> {
 impl<S: DumpStream> Source for ListingSource<S> {
     ghost state = { source_state };
 
-    /// What is given are the lines of the commands that come; at the end of the source they are the whole dump.
+    /// What is given are the lines of the steps that come; at the end of the source they are the whole dump.
     /// `SourceFault`: the stream failed now or before, and `fault` tells why.
     fn take(&mut self, into: &mut [u8]) -> Result<usize, SourceFault>
         ensures contract { IsTake (source_state self.old) (source_state self.new) into.new result }

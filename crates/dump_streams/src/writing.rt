@@ -8,7 +8,7 @@ use crate::lines::LineTaker;
 use crate::stream::DumpStream;
 use script_lines::Sink;
 
-/// Writes the listing of a stream from which no command came: the lines of its dump, and no other bytes. The sink is
+/// Writes the listing of a stream from which no step came: the lines of its dump, and no other bytes. The sink is
 /// given back.
 /// `Stream`: the stream ended before its dump did, and the lines of what came of it were written. `Taker`: the sink
 /// failed. The lines before the one at which it did were written, and of that line a part may be.

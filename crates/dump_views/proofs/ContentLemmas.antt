@@ -12,13 +12,13 @@ use Rattle.store_model.specs.Paths.{Path, is_root, path_cmp, same_path}
 use Rattle.store_model.specs.Trees.{Tree, Node, Entry, Attributes, IsTree, node_of, node_at, contents_of, contents}
 use Rattle.store_model.specs.Trees.{empty_tree}
 use Rattle.store_model.specs.Trees.Node.{Directory, File}
-use Rattle.store_model.specs.Commands.{Command}
-use Rattle.store_model.specs.Commands.Command.{Write}
+use Rattle.tree_listing.specs.Dumps.{DumpStep}
+use Rattle.tree_listing.specs.Dumps.DumpStep.{Write}
 use Rattle.store_model.proofs.ListsLemmas.{rising_from_is_sorted, all_weaker}
 use Rattle.store_model.proofs.ListsLemmasCuts.{flat_map-runs}
 use Rattle.store_model.proofs.TreesLemmasPaths.{same_from_test}
 use Rattle.store_model.proofs.TreesLemmasFewer.{find_below_all}
-use Rattle.tree_listing.specs.Dumps.{dump, dump_piece, file_commands, node_commands, attribute_commands, entry_commands}
+use Rattle.tree_listing.specs.Dumps.{dump, dump_piece, file_steps, node_steps, attribute_steps, entry_steps}
 use Rattle.dump_views.specs.declared.content.Standing.{Standing}
 use Rattle.dump_views.specs.declared.content.Standing.TheVariants as standings
 use Rattle.script_lines.specs.SinkState.{SinkState}
@@ -36,9 +36,6 @@ nothing : (b : Bool) → [] ≡ cond b (let none : List ℕ = [] in none) []
 nothing true = refl
 nothing false = refl
 
-piece_of : Path → ℕ × List ℕ → Command
-piece_of q piece = Write q (dump_piece * piece.0) piece.1
-
 written_pieces : (p q : Path) (n : ℕ) (rs : List (List ℕ))
     → flat_map (bytes_at p) (map (λ piece. Write q (dump_piece * piece.0) piece.1) (enumerate_from n rs))
     ≡ cond (same_path p q) (flat_map (λ r. r) rs) []
@@ -48,29 +45,29 @@ written_pieces p q n (r ∷ rs) =
     ∙ joined (same_path p q) r (flat_map (λ r. r) rs)
 
 written_file : (p q : Path) (bytes : List ℕ)
-    → flat_map (bytes_at p) (file_commands q bytes) ≡ cond (same_path p q) bytes []
-unfolding file_commands
+    → flat_map (bytes_at p) (file_steps q bytes) ≡ cond (same_path p q) bytes []
+unfolding file_steps
 written_file p q [] = append-nil (cond (same_path p q) [] [])
 written_file p q (b ∷ bytes) = written_pieces p q 0 (runs dump_piece (b ∷ bytes))
     ∙ ap (λ (xs : List ℕ). cond (same_path p q) xs []) (flat_map-runs dump_piece (b ∷ bytes) (omega arith))
 
-written_node : (p q : Path) (node : Node) → flat_map (bytes_at p) (node_commands q node)
+written_node : (p q : Path) (node : Node) → flat_map (bytes_at p) (node_steps q node)
     ≡ cond (same_path p q) (contents_of (Some node)) []
 written_node p q Directory = nothing (same_path p q)
 written_node p q (File bytes) = written_file p q bytes
 
 written_attributes : (p q : Path) (attributes : Attributes)
-    → flat_map (bytes_at p) (attribute_commands q attributes) ≡ []
-unfolding attribute_commands
+    → flat_map (bytes_at p) (attribute_steps q attributes) ≡ []
+unfolding attribute_steps
 written_attributes p q [] = refl
 written_attributes p q (a ∷ attributes) = written_attributes p q attributes
 
-written_entry : (p q : Path) (e : Entry) → flat_map (bytes_at p) (entry_commands q e)
+written_entry : (p q : Path) (e : Entry) → flat_map (bytes_at p) (entry_steps q e)
     ≡ cond (same_path p q) (contents_of (Some e.node)) []
 written_entry p q e =
-    flat_map-append (bytes_at p) (node_commands q e.node) (attribute_commands q e.attributes)
-    ∙ ap (λ (xs : List ℕ). flat_map (bytes_at p) (node_commands q e.node) ++ xs) (written_attributes p q e.attributes)
-    ∙ append-nil (flat_map (bytes_at p) (node_commands q e.node)) ∙ written_node p q e.node
+    flat_map-append (bytes_at p) (node_steps q e.node) (attribute_steps q e.attributes)
+    ∙ ap (λ (xs : List ℕ). flat_map (bytes_at p) (node_steps q e.node) ++ xs) (written_attributes p q e.attributes)
+    ∙ append-nil (flat_map (bytes_at p) (node_steps q e.node)) ∙ written_node p q e.node
 
 -- what stands behind an entry at the path is not at it
 none_behind : (p : Path) (e : Path × Entry) (t : Tree) → same_path p e.0 ≡ true
@@ -83,7 +80,7 @@ written_tree : (p : Path) (t : Tree) → IsStrictlySortedBy (λ a b. path_cmp a.
 unfolding dump IsStrictlySortedBy
 written_tree p [] rising = refl
 written_tree p (e ∷ t) rising =
-    flat_map-append (bytes_at p) (entry_commands e.0 e.1) (dump t)
+    flat_map-append (bytes_at p) (entry_steps e.0 e.1) (dump t)
     ∙ ap (λ (xs : List ℕ). xs ++ flat_map (bytes_at p) (dump t)) (written_entry p e.0 e.1)
     ∙ ap (λ (xs : List ℕ). cond (same_path p e.0) (contents_of (Some e.1.node)) [] ++ xs) (written_tree p t rising.1)
     ∙ by_test (same_path p e.0) refl
@@ -143,31 +140,31 @@ stands_pieces p q b bytes [] s some = cc
 stands_pieces p q b bytes (r ∷ rs) s some = stays_file p q 1 rs s
 
 stands_node : (p q : Path) (node : Node) (s : Standing)
-    → fold (standing_by p) s (node_commands q node) ≡ cond (same_path p q) (standing_of (Some node)) s
-unfolding file_commands
+    → fold (standing_by p) s (node_steps q node) ≡ cond (same_path p q) (standing_of (Some node)) s
+unfolding file_steps
 stands_node p q Directory s = refl
 stands_node p q (File []) s = refl
 stands_node p q (File (b ∷ bytes)) s =
     stands_pieces p q b bytes (runs dump_piece (b ∷ bytes)) s (flat_map-runs dump_piece (b ∷ bytes) (omega arith))
 
 stands_attributes : (p q : Path) (attributes : Attributes) (s : Standing)
-    → fold (standing_by p) s (attribute_commands q attributes) ≡ s
-unfolding attribute_commands
+    → fold (standing_by p) s (attribute_steps q attributes) ≡ s
+unfolding attribute_steps
 stands_attributes p q [] s = refl
 stands_attributes p q (a ∷ attributes) s = stands_attributes p q attributes s
 
 stands_entry : (p q : Path) (e : Entry) (s : Standing)
-    → fold (standing_by p) s (entry_commands q e) ≡ cond (same_path p q) (standing_of (Some e.node)) s
+    → fold (standing_by p) s (entry_steps q e) ≡ cond (same_path p q) (standing_of (Some e.node)) s
 stands_entry p q e s =
-    fold-append (standing_by p) s (node_commands q e.node) (attribute_commands q e.attributes)
-    ∙ stands_attributes p q e.attributes (fold (standing_by p) s (node_commands q e.node)) ∙ stands_node p q e.node s
+    fold-append (standing_by p) s (node_steps q e.node) (attribute_steps q e.attributes)
+    ∙ stands_attributes p q e.attributes (fold (standing_by p) s (node_steps q e.node)) ∙ stands_node p q e.node s
 
 stands_tree : (p : Path) (t : Tree) (s : Standing) → IsStrictlySortedBy (λ a b. path_cmp a.0 b.0) t
     → fold (standing_by p) s (dump t) ≡ stands s (find path_cmp p t)
 unfolding dump IsStrictlySortedBy
 stands_tree p [] s rising = refl
 stands_tree p (e ∷ t) s rising =
-    fold-append (standing_by p) s (entry_commands e.0 e.1) (dump t)
+    fold-append (standing_by p) s (entry_steps e.0 e.1) (dump t)
     ∙ ap (λ (x : Standing). fold (standing_by p) x (dump t)) (stands_entry p e.0 e.1 s)
     ∙ stands_tree p t (cond (same_path p e.0) (standing_of (Some e.1.node)) s) rising.1
     ∙ by_test (same_path p e.0) refl
@@ -195,7 +192,7 @@ standing_told t (n ∷ p) tree = stands_found (n ∷ p) t standings.Nothing tree
 -- ---- what a taker did
 
 module _ {W : Type 0} (sink_of : W → SinkState) where
-  -- no command was taken
+  -- no step was taken
   pub took_none : (taker : ContentTaker W) → TookContents sink_of taker taker []
   unfolding written_at standing_after
   took_none taker = record {
@@ -206,31 +203,31 @@ module _ {W : Type 0} (sink_of : W → SinkState) where
     written = λ _. sym (append-nil (sink_of taker.sink).written);
   }
 
-  -- one more command was taken
-  took_more : {T E : Type 0} (first old new : ContentTaker W) (commands : List Command) (c : Command) (value : T)
-      → TookContents sink_of first old commands → TakesOne {E = E} sink_of old new c (Ok value)
-      → TookContents sink_of first new (commands ++ c ∷ [])
+  -- one more step was taken
+  took_more : {T E : Type 0} (first old new : ContentTaker W) (steps : List DumpStep) (c : DumpStep) (value : T)
+      → TookContents sink_of first old steps → TakesOne {E = E} sink_of old new c (Ok value)
+      → TookContents sink_of first new (steps ++ c ∷ [])
   unfolding written_at standing_after
-  took_more first old new commands c value took one = record {
+  took_more first old new steps c value took one = record {
     path = one.path ∙ took.path;
     standing = one.standing ∙ ap (λ (p : Path). standing_by p old.standing c) took.path
         ∙ ap (λ (s : Standing). standing_by first.path s c) took.standing
-        ∙ sym (fold-append (standing_by first.path) first.standing commands (c ∷ []));
+        ∙ sym (fold-append (standing_by first.path) first.standing steps (c ∷ []));
     observable = one.observable ∙ took.observable;
     faults = one.faults ∙ took.faults;
     written = λ observable. (one.observed (subst IsTrue (sym took.observable) observable)).appended
         ∙ ap (λ (p : Path). (sink_of old.sink).written ++ bytes_at p c) took.path
         ∙ ap (λ (xs : List ℕ). xs ++ bytes_at first.path c) (took.written observable)
-        ∙ append_assoc (sink_of first.sink).written (written_at first.path commands) (bytes_at first.path c)
+        ∙ append_assoc (sink_of first.sink).written (written_at first.path steps) (bytes_at first.path c)
         ∙ ap (λ (xs : List ℕ). (sink_of first.sink).written ++ xs)
-        (ap (λ (xs : List ℕ). written_at first.path commands ++ xs) (sym (append-nil (bytes_at first.path c)))
-        ∙ sym (flat_map-append (bytes_at first.path) commands (c ∷ [])));
+        (ap (λ (xs : List ℕ). written_at first.path steps ++ xs) (sym (append-nil (bytes_at first.path c)))
+        ∙ sym (flat_map-append (bytes_at first.path) steps (c ∷ [])));
   }
 
-  -- one more command was taken, or the sink failed
-  pub took_one : {T E : Type 0} (first old new : ContentTaker W) (commands : List Command) (c : Command)
-      (result : Result T E) → TookContents sink_of first old commands → TakesOne sink_of old new c result
-      → OnOk result (TookContents sink_of first new (commands ++ c ∷ []))
-  took_one {E = E} first old new commands c (Ok value) took one =
-      took_more {E = E} first old new commands c value took one
-  took_one first old new commands c (Err fault) took one = tt
+  -- one more step was taken, or the sink failed
+  pub took_one : {T E : Type 0} (first old new : ContentTaker W) (steps : List DumpStep) (c : DumpStep)
+      (result : Result T E) → TookContents sink_of first old steps → TakesOne sink_of old new c result
+      → OnOk result (TookContents sink_of first new (steps ++ c ∷ []))
+  took_one {E = E} first old new steps c (Ok value) took one =
+      took_more {E = E} first old new steps c value took one
+  took_one first old new steps c (Err fault) took one = tt

@@ -14,12 +14,12 @@ use Rattle.store_model.specs.Lists.{runs, run_at, run_count, numbers_from, same_
 use Rattle.store_model.specs.Paths.{Path, Name, name_cmp, path_cmp, same_path}
 use Rattle.store_model.specs.Trees.{Tree, Node, Entry, Attributes, IsTree}
 use Rattle.store_model.specs.Trees.Node.{Directory, File}
-use Rattle.store_model.specs.Commands.Command.{Write}
+use Rattle.tree_listing.specs.Dumps.DumpStep.{Write}
 use Rattle.store_model.proofs.ListsLemmas.{rising_from_is_sorted, all_weaker, length-runs}
 use Rattle.store_model.proofs.PathsLemmasPlaces.{name_cmp_total, same_name_from_tie}
 use Rattle.store_model.proofs.TreesLemmasFewer.{find_below_all}
 use Rattle.store_model.proofs.TreesLemmasPaths.{tie_from_test, same_path-itself, same_path-from_equal}
-use Rattle.tree_listing.specs.Dumps.{dump, dump_piece, file_commands, node_commands, attribute_commands, entry_commands}
+use Rattle.tree_listing.specs.Dumps.{dump, dump_piece, file_steps, node_steps, attribute_steps, entry_steps}
 use Rattle.tree_pairs.specs.Kinds.{kind_of}
 use Rattle.script_lines.specs.Parsing.{long_of}
 use Rattle.tree_pairs.specs.declared.kind.Kind.TheVariants as kinds
@@ -87,8 +87,8 @@ keep_first kept p (r ∷ rs) other some =
     ∙ keep_pieces kept p 1 (dump_piece * 0 + length r) rs
 
 keep_node : (kept : Kept) (p : Path) (node : Node) → is_last kept.last p ≡ false
-    → fold keep kept (node_commands p node) ≡ begun kept (bare_entry p (kind_of node))
-unfolding file_commands
+    → fold keep kept (node_steps p node) ≡ begun kept (bare_entry p (kind_of node))
+unfolding file_steps
 keep_node kept p Directory other = refl
 keep_node kept p (File []) other =
     ap (λ (t : Bool). cond t (changed kept (with_length 0)) (begun kept (bare_entry p (kinds.File 0)))) other
@@ -109,13 +109,13 @@ path_stays e name bytes = by_tests (same_bytes name (codes "mode")) (same_bytes 
     by_tests false false = refl
 
 keep_attributes : (kept : Kept) (p : Path) (e : ListedEntry) (attributes : Attributes) → e.path ≡ p
-    → fold keep (begun kept e) (attribute_commands p attributes)
+    → fold keep (begun kept e) (attribute_steps p attributes)
     ≡ begun kept (fold (λ listed a. with_attribute listed a.0 a.1) e attributes)
-unfolding attribute_commands
+unfolding attribute_steps
 keep_attributes kept p e [] here = refl
 keep_attributes kept p e (a ∷ attributes) here =
     ap (λ (t : Bool). fold keep (cond t (changed (begun kept e) (λ l. with_attribute l a.0 a.1)) (begun kept e))
-    (attribute_commands p attributes)) (same_path-from_equal e.path p here)
+    (attribute_steps p attributes)) (same_path-from_equal e.path p here)
     ∙ keep_attributes kept p (with_attribute e a.0 a.1) attributes (path_stays e a.0 a.1 ∙ here)
 
 -- ---- what the attributes tell
@@ -205,10 +205,10 @@ entry_told p e sorted =
     by_found (Some m) (Some t) = refl
 
 keep_entry : (kept : Kept) (p : Path) (e : Entry) → IsTrue (is_sorted name_cmp e.attributes)
-    → is_last kept.last p ≡ false → fold keep kept (entry_commands p e) ≡ begun kept (listed_entry p e)
+    → is_last kept.last p ≡ false → fold keep kept (entry_steps p e) ≡ begun kept (listed_entry p e)
 keep_entry kept p e sorted other =
-    fold-append keep kept (node_commands p e.node) (attribute_commands p e.attributes)
-    ∙ ap (λ (k : Kept). fold keep k (attribute_commands p e.attributes)) (keep_node kept p e.node other)
+    fold-append keep kept (node_steps p e.node) (attribute_steps p e.attributes)
+    ∙ ap (λ (k : Kept). fold keep k (attribute_steps p e.attributes)) (keep_node kept p e.node other)
     ∙ keep_attributes kept p (bare_entry p (kind_of e.node)) e.attributes refl
     ∙ ap (begun kept) (entry_told p e sorted)
 
@@ -229,7 +229,7 @@ keep_tree (e ∷ t) kept rising sorted others =
     let behind : AllByRecursion (λ f. same_path listed.path f.0 ≡ false) t =
     all_weaker (λ (f : Path × Entry). path_cmp e.0 f.0 ≡ Less) (λ f. same_path listed.path f.0 ≡ false)
     (λ f less. ap (λ (q : Path). same_path q f.0) (listed_path e.0 e.1) ∙ ap is_eq less) t rising.0 in
-    ap entries_of (fold-append keep kept (entry_commands e.0 e.1) (dump t)
+    ap entries_of (fold-append keep kept (entry_steps e.0 e.1) (dump t)
     ∙ ap (λ (k : Kept). fold keep k (dump t)) (keep_entry kept e.0 e.1 sorted.0 others.0))
     ∙ keep_tree t (begun kept listed) rising.1 sorted.1 behind
     ∙ append_assoc (entries_of kept) (listed ∷ []) (map (λ e. listed_entry e.0 e.1) t)

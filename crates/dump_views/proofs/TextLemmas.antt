@@ -11,15 +11,6 @@ use Rattle.dump_views.specs.declared.entry.ListedEntry.{ListedEntry}
 use Rattle.dump_views.specs.Texts.{heading, entry_line, group_text, behind_text, has_times, is_folder, listing_text}
 use Rattle.dump_views.specs.Groups.{AreGrouped}
 
--- no text, in no put
-pub puts_none : {E : Type 0} (a : SinkState) → a.faults < 2 ^ 64 → IsPut {T = Unit {0}} {E = E} a a [] (Ok tt)
-puts_none a few = record {
-  observable = refl;
-  faults = refl;
-  last_fault = few;
-  observed = λ observable. record { appended = sym (append-nil a.written); cut_off = tt };
-}
-
 -- a text, and more behind it that stands in a whole before the rest of it
 pub puts_in_whole : {T U E F : Type 0} (a b c : SinkState) (text more rest whole : List ℕ) (value : T) (fault : E)
     (told : F) → IsPut {E = F} a b text (Ok value) → IsPut {T = Unit {0}} b c more (Err fault)

@@ -1,35 +1,36 @@
--- What the commands of a dump say of one path.
+-- What the steps of a dump say of one path.
 use Rattle.std.specs.Prelude.{◌≡◌, ℕ, List, [], ◌++◌, fold, Option, Some, None, Result, if◌then◌else◌}
 use Rattle.std.specs.List.{flat_map}
 use Rattle.store_model.specs.Paths.{Path, same_path}
 use Rattle.store_model.specs.Trees.{Node}
 use Rattle.store_model.specs.Trees.Node.{Directory, File}
-use Rattle.store_model.specs.Commands.{Command}
-use Rattle.store_model.specs.Commands.Command.{Make, Write}
+use Rattle.tree_listing.specs.Dumps.{DumpStep}
+use Rattle.tree_listing.specs.Dumps.DumpStep.{Make, Write, Set}
 use Rattle.store_base.specs.Counts.{faults_after}
 use Rattle.script_lines.specs.SinkState.{SinkState, IsObservable, PutsBytes}
 use Rattle.dump_views.specs.declared.content.Standing.{Standing}
 use Rattle.dump_views.specs.declared.content.Standing.TheVariants as standings
 use Rattle.dump_views.specs.declared.content.ContentTaker.{ContentTaker}
 
--- the bytes that a command writes at a path
-abbrev pub bytes_at : Path → Command → List ℕ
+-- the bytes that a step writes at a path
+abbrev pub bytes_at : Path → DumpStep → List ℕ
+bytes_at p (Make q) = []
 bytes_at p (Write q at bytes) = if same_path p q then bytes else []
-bytes_at p _ = []
+bytes_at p (Set q name bytes) = []
 
--- the bytes that commands write at a path, one after another
-unfoldable pub written_at : Path → List Command → List ℕ
-written_at p commands = flat_map (bytes_at p) commands
+-- the bytes that steps write at a path, one after another
+unfoldable pub written_at : Path → List DumpStep → List ℕ
+written_at p steps = flat_map (bytes_at p) steps
 
--- what stands at a path once a command was carried out
-abbrev pub standing_by : Path → Standing → Command → Standing
+-- what stands at a path behind a step
+abbrev pub standing_by : Path → Standing → DumpStep → Standing
 standing_by p before (Make q) = if same_path p q then standings.Directory else before
 standing_by p before (Write q at bytes) = if same_path p q then standings.File else before
-standing_by p before _ = before
+standing_by p before (Set q name bytes) = before
 
--- the same, for commands one after another
-unfoldable pub standing_after : Path → Standing → List Command → Standing
-standing_after p before commands = fold (standing_by p) before commands
+-- the same, for steps one after another
+unfoldable pub standing_after : Path → Standing → List DumpStep → Standing
+standing_after p before steps = fold (standing_by p) before steps
 
 -- what a tree has at a path
 abbrev pub standing_of : Option Node → Standing
@@ -37,19 +38,19 @@ standing_of None = standings.Nothing
 standing_of (Some Directory) = standings.Directory
 standing_of (Some (File bytes)) = standings.File
 
--- From one moment to a later one the bytes that these commands write at the path were put into the sink, and nothing
+-- From one moment to a later one the bytes that these steps write at the path were put into the sink, and nothing
 -- else.
 pub record TookContents {W : Type 0} (sink_of : W → SinkState) (first now : ContentTaker W)
-    (commands : List Command) : Type 0 where
+    (steps : List DumpStep) : Type 0 where
   pub path : now.path ≡ first.path
-  pub standing : now.standing ≡ standing_after first.path first.standing commands
+  pub standing : now.standing ≡ standing_after first.path first.standing steps
   pub observable : (sink_of now.sink).is_observable ≡ (sink_of first.sink).is_observable
   pub faults : (sink_of now.sink).faults ≡ (sink_of first.sink).faults
   pub written : IsObservable (sink_of first.sink)
-      → (sink_of now.sink).written ≡ (sink_of first.sink).written ++ written_at first.path commands
+      → (sink_of now.sink).written ≡ (sink_of first.sink).written ++ written_at first.path steps
 
--- A command was taken, or the sink failed: then a prefix of the command's bytes was put.
-pub record TakesOne {W T E : Type 0} (sink_of : W → SinkState) (old new : ContentTaker W) (c : Command)
+-- A step was taken, or the sink failed: then a prefix of the step's bytes was put.
+pub record TakesOne {W T E : Type 0} (sink_of : W → SinkState) (old new : ContentTaker W) (c : DumpStep)
     (result : Result T E) : Type 0 where
   pub path : new.path ≡ old.path
   pub standing : new.standing ≡ standing_by old.path old.standing c

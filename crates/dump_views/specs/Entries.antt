@@ -1,12 +1,12 @@
--- What a listing keeps of the commands of a dump.
+-- What a listing keeps of the steps of a dump.
 use Rattle.std.specs.Prelude.{◌≡◌, ℕ, ◌+◌, ◌^◌, ◌≤◌, Bool, true, false, List, [], ◌++◌, length, fold}
 use Rattle.std.specs.Prelude.{Option, Some, None, option_map, option_to_list, if◌then◌else◌, codes}
 use Rattle.std.specs.FinMap.{find}
 use Rattle.store_model.specs.Lists.{same_bytes}
 use Rattle.store_model.specs.Paths.{Path, Name, name_cmp, same_path}
 use Rattle.store_model.specs.Trees.{Entry}
-use Rattle.store_model.specs.Commands.{Command}
-use Rattle.store_model.specs.Commands.Command.{Make, Write, SetAttribute}
+use Rattle.tree_listing.specs.Dumps.{DumpStep}
+use Rattle.tree_listing.specs.Dumps.DumpStep.{Make, Write, Set}
 use Rattle.script_lines.specs.Parsing.{long_of}
 use Rattle.tree_pairs.specs.Kinds.{kind_of}
 use Rattle.tree_pairs.specs.declared.kind.Kind.{Kind}
@@ -27,7 +27,7 @@ with_attribute e name bytes =
     if same_bytes name (codes "mode") then record e { is_executable = same_bytes bytes (codes "x") }
     else (if same_bytes name (codes "mtime") then record e { seconds = long_of bytes } else e)
 
--- what is kept: the entries that are whole, and the one that the next command may add to
+-- what is kept: the entries that are whole, and the one that the next step may add to
 pub record Kept : Type 0 where
   pub whole : List ListedEntry
   pub last : Option ListedEntry
@@ -57,14 +57,13 @@ changed kept change = record kept { last = option_map change kept.last }
 abbrev pub with_length : ℕ → ListedEntry → ListedEntry
 with_length len e = record e { kind = kinds.File len }
 
--- what is kept once a command was carried out
-abbrev pub keep : Kept → Command → Kept
+-- what is kept behind a step
+abbrev pub keep : Kept → DumpStep → Kept
 keep kept (Make p) = begun kept (bare_entry p kinds.Directory)
 keep kept (Write p at bytes) = if is_last kept.last p then changed kept
     (with_length (at + length bytes)) else begun kept (bare_entry p (kinds.File (at + length bytes)))
-keep kept (SetAttribute p name bytes) =
+keep kept (Set p name bytes) =
     if is_last kept.last p then changed kept (λ e. with_attribute e name bytes) else kept
-keep kept _ = kept
 
 abbrev pub nothing_kept : Kept
 nothing_kept = record { whole = []; last = None }
@@ -73,12 +72,12 @@ nothing_kept = record { whole = []; last = None }
 abbrev pub kept_of : TreeLister → Kept
 kept_of lister = record { whole = lister.whole.items; last = lister.last }
 
--- From one moment to a later one what these commands tell was kept.
-pub record TookEntries (first now : TreeLister) (commands : List Command) : Type 0 where
-  pub kept : kept_of now ≡ fold keep (kept_of first) commands
+-- From one moment to a later one what these steps tell was kept.
+pub record TookEntries (first now : TreeLister) (steps : List DumpStep) : Type 0 where
+  pub kept : kept_of now ≡ fold keep (kept_of first) steps
 
--- Why a command was not taken: a write ends behind the last byte that a number of 32 bits counts, or memory ran out.
-abbrev pub IsRefused : Command → TakerFault → Type 0
+-- Why a step was not taken: a write ends behind the last byte that a number of 32 bits counts, or memory ran out.
+abbrev pub IsRefused : DumpStep → TakerFault → Type 0
 IsRefused (Write p at bytes) faults.Failed = 2 ^ 32 ≤ at + length bytes
 IsRefused c faults.Failed = ⊥
 IsRefused c faults.NoMemory = Unit {0}

@@ -2,17 +2,17 @@
 
 ghost use Rattle.std.specs.Prelude.{◌≡◌, [], IfErr};
 ghost use Rattle.store_model.specs.Trees.{empty_tree, node_at};
-ghost use Rattle.store_model.specs.Commands.Command.{Make, Write};
+ghost use Rattle.tree_listing.specs.Dumps.DumpStep.{Make, Write};
 ghost use Rattle.dump_streams.specs.Takers.{IsTaken};
 ghost use Rattle.dump_streams.specs.declared.taker.TakerFault.TheVariants as faults;
-ghost use Rattle.script_lines.specs.Parsing.{command_of};
 ghost use Rattle.dump_views.specs.declared.content.ContentTaker.{ContentTaker};
 ghost use Rattle.dump_views.specs.Contents.{TakesOne, TookContents, standing_by, standing_of};
 
 use crate::same::is_same_path;
 use dump_streams::{Taker, TakerFault};
 use path_keys::Path;
-use script_lines::{Command, Sink, SinkFault};
+use script_lines::{Sink, SinkFault};
+use tree_listing::{DumpStep, Step};
 
 /// What stands at a path.
 #[derive(Clone, Copy, Debug, PartialEq, Eq)]
@@ -25,7 +25,7 @@ pub enum Standing {
     File,
 }
 
-/// Finds one file in a dump. It puts the bytes that the commands write at one path into a sink, and remembers what
+/// Finds one file in a dump. It puts the bytes that the steps write at one path into a sink, and remembers what
 /// stands there. So at the end of a dump it put the bytes of the file at that path, and nothing where there is no
 /// file.
 #[derive(Drop)]
@@ -74,7 +74,7 @@ impl<W: Sink> ContentTaker<W> {
         sink
     }
 
-    /// Takes the command that makes a folder.
+    /// Takes the step that makes a folder.
     fn make(&mut self, path: &Path)
         ensures { self.new ≡ record self.old {
           standing =
@@ -86,7 +86,7 @@ impl<W: Sink> ContentTaker<W> {
         }
     }
 
-    /// Takes the command that writes bytes into a file. After an error the first of them may have been put.
+    /// Takes the step that writes bytes into a file. After an error the first of them may have been put.
     fn write(&mut self, path: &Path, at: u32, bytes: &[u8]) -> Result<(), TakerFault>
         ensures taken { TakesOne W.state self.old self.new (Write path.now at bytes.now) result }
         ensures fault { IfErr result (λ fault. fault ≡ faults.Failed) }
@@ -102,18 +102,18 @@ impl<W: Sink> ContentTaker<W> {
         }
     }
 
-    /// Takes a command.
-    fn take_one(&mut self, command: &Command) -> Result<(), TakerFault>
-        ensures taken { TakesOne W.state self.old self.new (command_of command.now) result }
+    /// Takes a step.
+    fn take_one(&mut self, step: &DumpStep) -> Result<(), TakerFault>
+        ensures taken { TakesOne W.state self.old self.new step.now result }
         ensures fault { IfErr result (λ fault. fault ≡ faults.Failed) }
     {
-        match command {
-            Command::Make(path) => {
+        match step.parts() {
+            Step::Make(path) => {
                 self.make(path);
                 Ok(())
             }
-            Command::Write(path, at, bytes) => self.write(path, *at, bytes.as_slice()),
-            _ => Ok(()),
+            Step::Write(path, at, bytes) => self.write(path, at, bytes.as_slice()),
+            Step::Set(_, _, _) => Ok(()),
         }
     }
 }
@@ -121,14 +121,14 @@ impl<W: Sink> ContentTaker<W> {
 impl<W: Sink> Taker for ContentTaker<W> {
     ghost took = { TookContents W.state };
 
-    /// `Failed`: the sink failed. The first bytes of the command may have been put.
-    fn take(&mut self, command: &Command) -> Result<(), TakerFault>
+    /// `Failed`: the sink failed. The first bytes of the step may have been put.
+    fn take(&mut self, step: &DumpStep) -> Result<(), TakerFault>
         ensures contract { (first : ContentTaker W)
             → IsTaken (TookContents W.state first self.old) (TookContents W.state first self.new)
-            (command_of command.now) result }
-        ensures taken { TakesOne W.state self.old self.new (command_of command.now) result }
+            step.now result }
+        ensures taken { TakesOne W.state self.old self.new step.now result }
         ensures fault { IfErr result (λ fault. fault ≡ faults.Failed) }
     {
-        self.take_one(command)
+        self.take_one(step)
     }
 }

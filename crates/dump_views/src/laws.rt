@@ -7,7 +7,7 @@ ghost use Rattle.tree_listing.specs.Dumps.{dump};
 ghost use Rattle.dump_views.specs.Contents.{written_at, standing_after, standing_of};
 ghost use Rattle.dump_views.specs.Entries.{entries_of, keep, listed_entry, nothing_kept};
 
-/// The commands of the dump of a tree write at a path just the bytes of the file that stands there, in their order, and
+/// The steps of the dump of a tree write at a path just the bytes of the file that stands there, in their order, and
 /// nothing where no file stands; and they tell what stands there.
 pub fn a_dump_writes_each_file()
     ensures written { (t : Tree) (p : Path) → IsTree t → written_at p (dump t) ≡ contents t p }

@@ -1,6 +1,6 @@
 //! Views of a dump: the bytes of one file of it, and what stands in each of its folders.
 //!
-//! Start at `ContentTaker` and `TreeLister`. Both are takers: they take the commands of a dump one after another,
+//! Start at `ContentTaker` and `TreeLister`. Both are takers: they take the steps of a dump one after another,
 //! wherever these come from.
 #![tactic(auto)]
 

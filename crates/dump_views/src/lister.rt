@@ -1,10 +1,9 @@
 //! What stands in each folder of a dump.
 
 ghost use Rattle.std.specs.Prelude.{◌≡◌, [], IfErr, IfOk, OnErr, OnOk};
-ghost use Rattle.store_model.specs.Commands.Command.{Make, Write, SetAttribute};
+ghost use Rattle.tree_listing.specs.Dumps.DumpStep.{Make, Write, Set};
 ghost use Rattle.dump_streams.specs.Takers.{IsTaken};
 ghost use Rattle.dump_streams.specs.declared.taker.TakerFault.TheVariants as faults;
-ghost use Rattle.script_lines.specs.Parsing.{command_of};
 ghost use Rattle.dump_views.specs.Texts.{PutsListing, listing_text};
 ghost use Rattle.dump_views.specs.declared.lister.TreeLister.{TreeLister};
 ghost use Rattle.dump_views.specs.Entries.{IsRefused, LastAt, TookEntries, begun, entries_of, keep, kept_of};
@@ -15,18 +14,19 @@ use crate::groups::{ListFault, write_listing};
 use crate::same::is_same_path;
 use dump_streams::{Taker, TakerFault};
 use path_keys::{AttrName, Path};
-use script_lines::{Command, Sink};
+use script_lines::Sink;
 use std::alloc::Global;
 use store_base::NoMemory;
+use tree_listing::{DumpStep, Step};
 use tree_pairs::Kind;
 
 /// Keeps what a listing tells of each path of a dump: what stands there, how long it is, and its attributes `mode` and
 /// `mtime`.
 #[derive(Drop)]
 pub struct TreeLister {
-    /// The entries to which no command adds any more.
+    /// The entries to which no step adds any more.
     whole: Vec<ListedEntry>,
-    /// The entry to which the next command may add.
+    /// The entry to which the next step may add.
     last: Option<ListedEntry>,
 }
 
@@ -42,7 +42,7 @@ impl TreeLister {
         }
     }
 
-    /// Gives what was kept, in the order of the commands: of a dump, in the order of paths.
+    /// Gives what was kept, in the order of the steps: of a dump, in the order of paths.
     pub fn into_entries(self) -> Result<Vec<ListedEntry>, NoMemory>
         ensures { IfOk result (λ entries. entries.items ≡ entries_of (kept_of self)) }
     {
@@ -53,7 +53,7 @@ impl TreeLister {
         Ok(whole)
     }
 
-    /// Writes the listing of what was kept, in the order of the commands, as `write_listing`.
+    /// Writes the listing of what was kept, in the order of the steps, as `write_listing`.
     pub fn write_list<W: Sink>(self, alloc: Global, sink: &mut W) -> Result<(), ListFault>
         ensures { PutsListing (W.state sink.old) (W.state sink.new)
             (listing_text (entries_of (kept_of self))) result }
@@ -117,7 +117,7 @@ impl TreeLister {
     /// Notes an attribute that a path is given.
     fn set(&mut self, path: &Path, name: &AttrName, bytes: &[u8])
         ensures { kept_of self.new ≡ keep (kept_of self.old)
-            (SetAttribute path.now name.now bytes.now) }
+            (Set path.now name.now bytes.now) }
     {
         if let Some(last) = self.last_at(path) {
             self.last = Some(last.with_attribute(name, bytes));
@@ -130,21 +130,20 @@ impl Taker for TreeLister {
 
     /// `NoMemory`: there was no room for one entry more. `Failed`: a file has 4,294,967,296 bytes or more, which no
     /// dump has. After an error the same is kept as before.
-    fn take(&mut self, command: &Command) -> Result<(), TakerFault>
+    fn take(&mut self, step: &DumpStep) -> Result<(), TakerFault>
         ensures contract { (first : TreeLister)
             → IsTaken (TookEntries first self.old) (TookEntries first self.new)
-            (command_of command.now) result }
+            step.now result }
         ensures unchanged { OnErr result (kept_of self.new ≡ kept_of self.old) }
-        ensures fault { IfErr result (IsRefused (command_of command.now)) }
+        ensures fault { IfErr result (IsRefused step.now) }
     {
-        match command {
-            Command::Make(path) => self.begin(ListedEntry::new(*path, Kind::Directory)),
-            Command::Write(path, at, bytes) => self.write(path, *at, bytes.as_slice()),
-            Command::Set(path, name, bytes) => {
+        match step.parts() {
+            Step::Make(path) => self.begin(ListedEntry::new(*path, Kind::Directory)),
+            Step::Write(path, at, bytes) => self.write(path, at, bytes.as_slice()),
+            Step::Set(path, name, bytes) => {
                 self.set(path, name, bytes.as_slice());
                 Ok(())
             }
-            _ => Ok(()),
         }
     }
 }

@@ -9,10 +9,11 @@ use crate::wanted::Wanted;
 use crate::writing::{Writing, set_time};
 use dump_streams::{Taker, TakerFault};
 use path_keys::{AttrName, Path};
-use script_lines::{Command, Sink};
+use script_lines::Sink;
 use std::fs::{self, File};
 use std::io::{self, Error, ErrorKind};
 use thiserror::Error as ErrorText;
+use tree_listing::{DumpStep, Step};
 
 /// The most seconds since 1970 that the system can set.
 const MAX_SECONDS: u64 = i64::MAX as u64;
@@ -40,7 +41,7 @@ struct Made {
     seconds: Option<u64>,
 }
 
-/// Makes a folder from the commands of a dump. It makes each file and folder where nothing stands, and follows no
+/// Makes a folder from the steps of a dump. It makes each file and folder where nothing stands, and follows no
 /// link. The umask says who may read them. A message says what failed.
 #[derive(Drop)]
 pub struct StdBuilder<W: Sink> {
@@ -360,14 +361,13 @@ impl<W: Sink + Drop> StdBuilder<W> {
 }
 
 impl<W: Sink + Drop> Taker for StdBuilder<W> {
-    ghost took = { λ first now commands. ⊤ };
+    ghost took = { λ first now steps. ⊤ };
 
-    fn take(&mut self, command: &Command) -> Result<(), TakerFault> {
-        match command {
-            Command::Make(path) => self.make(path),
-            Command::Write(path, at, bytes) => self.write(path, *at, bytes.as_slice()),
-            Command::Set(path, name, bytes) => self.set(path, name, bytes.as_slice()),
-            _ => Err(TakerFault::Failed),
+    fn take(&mut self, step: &DumpStep) -> Result<(), TakerFault> {
+        match step.parts() {
+            Step::Make(path) => self.make(path),
+            Step::Write(path, at, bytes) => self.write(path, at, bytes.as_slice()),
+            Step::Set(path, name, bytes) => self.set(path, name, bytes.as_slice()),
         }
     }
 }

@@ -6,8 +6,9 @@ use crate::messages::Messages;
 use crate::places::Places;
 use dump_streams::{Taker, TakerFault};
 use path_keys::Path;
-use script_lines::{Command, Sink};
+use script_lines::Sink;
 use std::alloc::Global;
+use tree_listing::{DumpStep, Step};
 
 /// Looks at the paths of a listing, and makes nothing. It names each one that is no path on the host, as the builder
 /// does.
@@ -48,12 +49,12 @@ impl<W: Sink + Drop> NameTaker<W> {
 }
 
 impl<W: Sink + Drop> Taker for NameTaker<W> {
-    ghost took = { λ first now commands. ⊤ };
+    ghost took = { λ first now steps. ⊤ };
 
-    fn take(&mut self, command: &Command) -> Result<(), TakerFault> {
-        match command {
-            Command::Make(path) | Command::Write(path, _, _) => self.look(path),
-            _ => Ok(()),
+    fn take(&mut self, step: &DumpStep) -> Result<(), TakerFault> {
+        match step.parts() {
+            Step::Make(path) | Step::Write(path, _, _) => self.look(path),
+            Step::Set(_, _, _) => Ok(()),
         }
     }
 }

@@ -5,9 +5,9 @@ use Rattle.std.specs.Prelude.{IfErr, IsErrAnd}
 use Rattle.std.specs.Fmt.{decimal}
 use Rattle.std.specs.List.{Contains, slice_get}
 use Rattle.std.proofs.lemmas.List.Elements.{Contains-append_right}
-use Rattle.store_model.specs.Commands.{Command}
+use Rattle.tree_listing.specs.Dumps.{DumpStep}
 use Rattle.store_model.specs.Trees.{Tree}
-use Rattle.tree_listing.specs.Reading.{AddsCommand}
+use Rattle.tree_listing.specs.Reading.{AddsStep}
 use Rattle.tree_listing.specs.declared.reader.ListingReader.{ListingReader}
 use Rattle.dump_streams.specs.Streams.{IsNext}
 use Rattle.dump_streams.specs.declared.fault.StreamFault.{StreamFault}
@@ -27,7 +27,7 @@ pub err_of : {T E : Type 0} (result : Result T E) (cause : E) (P : E → Type 0)
 err_of (Ok x) cause P told holds = tt
 err_of (Err e) cause P told holds = subst P (sym told) holds
 
-pub next_failed : (old new done : Tree → Type 0) (failed_by : Tree → StreamFault → Type 0) (c : Command)
+pub next_failed : (old new done : Tree → Type 0) (failed_by : Tree → StreamFault → Type 0) (c : DumpStep)
     (result : Result Bool StreamFault) (cause : StreamFault) → IsErrAnd result (λ e. e ≡ cause)
     → ((t : Tree) → old t → failed_by t cause)
     → IsNext old new done failed_by c result
@@ -77,22 +77,22 @@ module _ {F : Type 0} (state_of : F → FolderState) where
   read_kind old found at t place was =
       (subst (λ (p : Place). AreCome p (take old.at old.found.items) was.came) place was.come).2
 
-  -- the reader refused the command
-  pub asks_too_much : (old new : FolderStream F) (t : Tree) (found : Found) (c : Command) (reader : ListingReader)
-      → CameOf state_of old t → AddsCommand old.reader reader c false
+  -- the reader refused the step
+  pub asks_too_much : (old new : FolderStream F) (t : Tree) (found : Found) (c : DumpStep) (reader : ListingReader)
+      → CameOf state_of old t → AddsStep old.reader reader c false
       → found_at new.place new.at new.found.items ≡ Some found → AsksFor found c
       → AsksTooMuch new t
   asks_too_much old new t found c reader was adds here asks = record {
     found = found;
     here = here;
-    command = c;
+    step = c;
     asks = asks;
     breaks_off = λ p two. adds.refused t p (was.read p two);
   }
 
   -- and so the stream ends
-  pub ends_so : (old new : FolderStream F) (t : Tree) (found : Found) (c : Command) (reader : ListingReader)
-      (fault : StreamFault) → fault ≡ faults.NoDump → CameOf state_of old t → AddsCommand old.reader reader c false
+  pub ends_so : (old new : FolderStream F) (t : Tree) (found : Found) (c : DumpStep) (reader : ListingReader)
+      (fault : StreamFault) → fault ≡ faults.NoDump → CameOf state_of old t → AddsStep old.reader reader c false
       → found_at new.place new.at new.found.items ≡ Some found → AsksFor found c → EndsBy new t fault
   ends_so old new t found c reader fault told was adds here asks =
       subst (λ (f : StreamFault). EndsBy new t f) (sym told) (asks_too_much old new t found c reader was adds here asks)

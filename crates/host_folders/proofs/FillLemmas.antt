@@ -41,9 +41,6 @@ fill_begins old buffer = record {
 some_tells : (count room : ℕ) → (count ≡ 0 → ⊥) → tells_end count room ≡ false
 some_tells count room some = ap (λ b. b && nat_lt 0 room) (le-ltb count 1 (omega (arith, some)))
 
-none_tells : (room : ℕ) → 0 < room → tells_end 0 room ≡ true
-none_tells room some = lt-ltb 0 room some
-
 -- a read that gave some bytes
 comes_more : (old now new : FolderState) (bytes more : List ℕ) (is_ended : Bool) → is_ended ≡ false
     → HasCome old now bytes → ReadsFile now new more is_ended → HasCome old new (bytes ++ more)

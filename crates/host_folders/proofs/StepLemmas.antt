@@ -1,4 +1,4 @@
--- What a command adds to what came.
+-- What a step adds to what came.
 use Rattle.std.proofs.Common.{◌≡◌, ℕ, ◌+◌, ◌-◌, ◌^◌, ◌<◌, ◌≤◌, min, Bool, true, false, nat_lt, if◌then◌else◌, IsTrue}
 use Rattle.std.proofs.Common.{List, [], ◌∷◌, ◌++◌, length, map, take, vec_len, codes, Option, Some, Result, Ok, ◌⊎◌}
 use Rattle.std.proofs.Common.{inl, inr, refl, sym, ap, ap₂, subst, ◌∙◌, arith}
@@ -7,16 +7,16 @@ use Rattle.std.proofs.lemmas.List.{append-nil, append_assoc, length-append, leng
 use Rattle.std.proofs.lemmas.List.{take_all}
 use Rattle.store_model.specs.declared.version.Version.TheVariants.{Two}
 use Rattle.store_model.specs.declared.draw_kind.DrawKind.TheVariants as draws
-use Rattle.store_model.specs.Commands.{Command}
-use Rattle.store_model.specs.Commands.Command.{Make, Write, SetAttribute}
+use Rattle.tree_listing.specs.Dumps.{DumpStep}
+use Rattle.tree_listing.specs.Dumps.DumpStep.{Make, Write, Set}
 use Rattle.store_model.specs.Parameters.{Parameters}
 use Rattle.store_model.specs.Paths.{Path, Name}
-use Rattle.store_model.specs.Steps.{next_tree}
+use Rattle.tree_listing.specs.Dumps.{after_step}
 use Rattle.store_model.specs.Trees.{Tree, Node, Entry, Attributes, IsTree, empty_tree}
 use Rattle.store_model.specs.Trees.Node.{Directory, File}
 use Rattle.tree_pairs.specs.declared.kind.Kind.TheVariants as kinds
 use Rattle.tree_listing.specs.Dumps.{dump_piece}
-use Rattle.tree_listing.specs.Reading.{HasRead, AddsCommand, GoesOn}
+use Rattle.tree_listing.specs.Reading.{HasRead, AddsStep, GoesOn}
 use Rattle.tree_listing.specs.declared.reader.ListingReader.{ListingReader}
 use Rattle.tree_listing.proofs.DumpFronts.{next_of_goes_on}
 use Rattle.tree_listing.proofs.NextTrees.{IsNext, IsFirstWrite, IsLaterWrite, IsLaterName, named_entry, tree_of_make}
@@ -39,9 +39,9 @@ use Rattle.host_folders.proofs.EntryLemmas.{entries_length}
 some_parameters : Parameters
 some_parameters = record { slots = 1; height = 1; kind = draws.Sha256; seed = []; version = Two }
 
--- a command that the reader of a stream took
-pub record IsTakenBy (reader : ListingReader) (t : Tree) (c : Command) : Type 0 where
-  pub read : (p : Parameters) → p.version ≡ Two → HasRead reader (next_tree t c) p
+-- a step that the reader of a stream took
+pub record IsTakenBy (reader : ListingReader) (t : Tree) (c : DumpStep) : Type 0 where
+  pub read : (p : Parameters) → p.version ≡ Two → HasRead reader (after_step t c) p
   pub version : reader.version ≡ Two
   pub extends : Extends t c
   pub is_tree : IsTree t
@@ -100,11 +100,11 @@ read_more first old now before path bytes more was_ended is_ended reads piece = 
       ∙ append_assoc first.read before ((path, bytes ++ more, is_ended) ∷ []);
 }
 
--- ---- the trees that commands lead to
+-- ---- the trees that steps lead to
 
 -- the first bytes of a file
 first_tree : (t : Tree) (path : Path) (bytes : List ℕ) → IsFirstWrite t path 0 bytes ⊎ IsLaterWrite t path 0 bytes
-    → next_tree t (Write path 0 bytes) ≡ t ++ (path, named_entry (File bytes) []) ∷ []
+    → after_step t (Write path 0 bytes) ≡ t ++ (path, named_entry (File bytes) []) ∷ []
 first_tree t path bytes (inl first) = tree_of_first t path bytes first.next
 first_tree t path bytes (inr later) =
     let at = later.at_is in
@@ -115,7 +115,7 @@ first_tree t path bytes (inr later) =
 later_tree : (t front : Tree) (path last : Path) (at : ℕ) (first bytes : List ℕ) → IsTree t → 0 < at
     → IsFirstWrite t path at bytes ⊎ IsLaterWrite t path at bytes
     → t ≡ front ++ (last, named_entry (File first) []) ∷ []
-    → next_tree t (Write path at bytes) ≡ front ++ (last, named_entry (File (first ++ bytes)) []) ∷ []
+    → after_step t (Write path at bytes) ≡ front ++ (last, named_entry (File (first ++ bytes)) []) ∷ []
 later_tree t front path last at first bytes tree further (inl write) split =
     let start = write.at_is in
     absurd (omega (arith, start, further))
@@ -134,7 +134,7 @@ later_tree t front path last at first bytes tree further (inr later) split =
 name_tree : (t front : Tree) (p : Parameters) (path last : Path) (name : Name) (bytes : List ℕ) (node : Node)
     (attributes : Attributes) → IsTree t → IsLaterName t p path name bytes
     → t ≡ front ++ (last, named_entry node attributes) ∷ []
-    → next_tree t (SetAttribute path name bytes) ≡ front
+    → after_step t (Set path name bytes) ≡ front
     ++ (last, named_entry node (attributes ++ (name, bytes) ∷ [])) ∷ []
 name_tree t front p path last name bytes node attributes tree later split =
     let same = same_from_push later.before front (path, named_entry later.node later.attributes)
@@ -150,7 +150,7 @@ name_tree t front p path last name bytes node attributes tree later split =
 
 -- ---- answers of a stream
 
-pub next_given : (old new done : Tree → Type 0) (failed_by : Tree → StreamFault → Type 0) (c : Command)
+pub next_given : (old new done : Tree → Type 0) (failed_by : Tree → StreamFault → Type 0) (c : DumpStep)
     → Gives {E = StreamFault} old new c (Ok tt) → IsNextOf old new done failed_by c (Ok true)
 next_given old new done failed_by c gives = record {
   came = gives.came;
@@ -159,7 +159,7 @@ next_given old new done failed_by c gives = record {
   failed = λ t was. tt;
 }
 
-pub next_whole : (old new done : Tree → Type 0) (failed_by : Tree → StreamFault → Type 0) (c : Command)
+pub next_whole : (old new done : Tree → Type 0) (failed_by : Tree → StreamFault → Type 0) (c : DumpStep)
     → ((t : Tree) → old t → done t) → IsNextOf old new done failed_by c (Ok false)
 next_whole old new done failed_by c whole = record {
   came = λ t was. tt;
@@ -168,7 +168,7 @@ next_whole old new done failed_by c whole = record {
   failed = λ t was. tt;
 }
 
-pub next_behind : (old mid new done : Tree → Type 0) (failed_by : Tree → StreamFault → Type 0) (c : Command)
+pub next_behind : (old mid new done : Tree → Type 0) (failed_by : Tree → StreamFault → Type 0) (c : DumpStep)
     (result : Result Bool StreamFault) → ((t : Tree) → old t → mid t) → IsNextOf mid new done failed_by c result
     → IsNextOf old new done failed_by c result
 next_behind old mid new done failed_by c result passes next = record {
@@ -179,8 +179,8 @@ next_behind old mid new done failed_by c result passes next = record {
 }
 
 module _ {F : Type 0} (state_of : F → FolderState) where
-  pub taken_by : (old : FolderStream F) (reader : ListingReader) (t : Tree) (c : Command) → CameOf state_of old t
-      → AddsCommand old.reader reader c true → IsTakenBy reader t c
+  pub taken_by : (old : FolderStream F) (reader : ListingReader) (t : Tree) (c : DumpStep) → CameOf state_of old t
+      → AddsStep old.reader reader c true → IsTakenBy reader t c
   unfolding some_parameters
   taken_by old reader t c was adds =
       let has = was.read some_parameters refl in
@@ -273,14 +273,14 @@ module _ {F : Type 0} (state_of : F → FolderState) where
 
   -- a folder is made
   pub gives_folder : {E : Type 0} (old : FolderStream F) (found : Found) (reader : ListingReader) → IsBegun old found
-      → found.kind ≡ kinds.Directory → AddsCommand old.reader reader (Make found.path) true
+      → found.kind ≡ kinds.Directory → AddsStep old.reader reader (Make found.path) true
       → Gives {E = E} (CameOf state_of old)
       (CameOf state_of (record old { at = old.at + 1; place = places.Mode found; reader = reader }))
       (Make found.path) (Ok tt)
   gives_folder old found reader begins kind adds = record {
     came = λ t was.
         let taken = taken_by old reader t (Make found.path) was adds in
-        let leads : next_tree t (Make found.path) ≡ t ++ (found.path, named_entry Directory []) ∷ [] =
+        let leads : after_step t (Make found.path) ≡ t ++ (found.path, named_entry Directory []) ∷ [] =
         tree_of_make t found.path taken.next in
         record {
           read = taken.read;
@@ -316,11 +316,11 @@ module _ {F : Type 0} (state_of : F → FolderState) where
   }
 
   -- a file is opened, and its first piece is written
-  pub gives_file : {E G : Type 0} (old : FolderStream F) (found : Found) (len : ℕ) (opened now : F) (c : Command)
+  pub gives_file : {E G : Type 0} (old : FolderStream F) (found : Found) (len : ℕ) (opened now : F) (c : DumpStep)
       (count : ℕ) (reader : ListingReader) → IsBegun old found → found.kind ≡ kinds.File len
       → IsOpened {E = G} (state_of old.folder) (state_of opened) found.path (Ok tt)
       → (state_of now).is_observable ≡ (state_of opened).is_observable
-      → IsPiece (state_of opened) (state_of now) found.path 0 c count → AddsCommand old.reader reader c true
+      → IsPiece (state_of opened) (state_of now) found.path 0 c count → AddsStep old.reader reader c true
       → Gives {E = E} (CameOf state_of old)
       (CameOf state_of (record old {
         folder = now;
@@ -334,9 +334,9 @@ module _ {F : Type 0} (state_of : F → FolderState) where
         let taken = taken_by old reader t c was adds in
         let bytes = piece.bytes in
         let next : IsFirstWrite t found.path 0 bytes ⊎ IsLaterWrite t found.path 0 bytes =
-        subst (λ (d : Command). IsNext t taken.parameters d) piece.command_is taken.next in
-        let leads : next_tree t c ≡ t ++ (found.path, named_entry (File bytes) []) ∷ [] =
-        ap (next_tree t) piece.command_is ∙ first_tree t found.path bytes next in
+        subst (λ (d : DumpStep). IsNext t taken.parameters d) piece.step_is taken.next in
+        let leads : after_step t c ≡ t ++ (found.path, named_entry (File bytes) []) ∷ [] =
+        ap (after_step t) piece.step_is ∙ first_tree t found.path bytes next in
         let whole = nat_lt count dump_piece in
         record {
           read = taken.read;
@@ -419,7 +419,7 @@ module _ {F : Type 0} (state_of : F → FolderState) where
       }
 
   -- the file was at its end
-  pub passes_file : (old : FolderStream F) (t : Tree) (found : Found) (at : ℕ) (now : F) (c : Command) (count : ℕ)
+  pub passes_file : (old : FolderStream F) (t : Tree) (found : Found) (at : ℕ) (now : F) (c : DumpStep) (count : ℕ)
       → old.place ≡ places.Piece found at → (state_of now).is_observable ≡ (state_of old.folder).is_observable
       → IsPiece (state_of old.folder) (state_of now) found.path at c count → count ≡ 0 → CameOf state_of old t
       → CameOf state_of (record old { folder = now; place = places.Mode found }) t
@@ -458,10 +458,10 @@ module _ {F : Type 0} (state_of : F → FolderState) where
       }
 
   -- a piece more of a file is written
-  pub gives_piece : {E : Type 0} (old : FolderStream F) (found : Found) (at : ℕ) (now : F) (c : Command) (count : ℕ)
+  pub gives_piece : {E : Type 0} (old : FolderStream F) (found : Found) (at : ℕ) (now : F) (c : DumpStep) (count : ℕ)
       (reader : ListingReader) → old.place ≡ places.Piece found at
       → (state_of now).is_observable ≡ (state_of old.folder).is_observable
-      → IsPiece (state_of old.folder) (state_of now) found.path at c count → AddsCommand old.reader reader c true
+      → IsPiece (state_of old.folder) (state_of now) found.path at c count → AddsStep old.reader reader c true
       → Gives {E = E} (CameOf state_of old)
       (CameOf state_of (record old { folder = now; place = place_behind found at count; reader = reader })) c
       (Ok tt)
@@ -476,9 +476,9 @@ module _ {F : Type 0} (state_of : F → FolderState) where
         let further : 0 < at =
         (subst (λ (p : Place). AreCome p (take old.at old.found.items) was.came) place was.come).1 in
         let next : IsFirstWrite t found.path at bytes ⊎ IsLaterWrite t found.path at bytes =
-        subst (λ (d : Command). IsNext t taken.parameters d) piece.command_is taken.next in
-        let leads : next_tree t c ≡ ends.front ++ (found.path, named_entry (File (ends.bytes ++ bytes)) []) ∷ [] =
-        ap (next_tree t) piece.command_is ∙ later_tree t ends.front found.path found.path at ends.bytes bytes
+        subst (λ (d : DumpStep). IsNext t taken.parameters d) piece.step_is taken.next in
+        let leads : after_step t c ≡ ends.front ++ (found.path, named_entry (File (ends.bytes ++ bytes)) []) ∷ [] =
+        ap (after_step t) piece.step_is ∙ later_tree t ends.front found.path found.path at ends.bytes bytes
         taken.is_tree further next ends.tree in
         record {
           read = taken.read;
@@ -524,17 +524,17 @@ module _ {F : Type 0} (state_of : F → FolderState) where
       → AreCome behind (take old.at old.found.items) came)
       → ((files : List (Path × List ℕ)) (answers : List (Path × List ℕ × Bool)) → AreAnswers old.place files answers
       → AreAnswers behind files answers)
-      → AddsCommand old.reader reader (SetAttribute found.path name bytes) true
+      → AddsStep old.reader reader (Set found.path name bytes) true
       → Gives {E = E} (CameOf state_of old) (CameOf state_of (record old { place = behind; reader = reader }))
-      (SetAttribute found.path name bytes) (Ok tt)
+      (Set found.path name bytes) (Ok tt)
   gives_name old found so_far more behind name bytes reader path same_path same_kind attributes before after
       answers adds = record {
         came = λ t was.
-            let taken = taken_by old reader t (SetAttribute found.path name bytes) was adds in
+            let taken = taken_by old reader t (Set found.path name bytes) was adds in
             let come = before was.came was.come in
             let ends = ends_with come.0 was.files t so_far
             (subst (λ (fs : List Found). HasFiles fs was.files t) come.2 was.entries) in
-            let leads : next_tree t (SetAttribute found.path name bytes)
+            let leads : after_step t (Set found.path name bytes)
             ≡ ends.front ++ (so_far.path, named_entry ends.node (found_attributes more)) ∷ [] =
             name_tree t ends.front taken.parameters found.path so_far.path name bytes
             ends.node (found_attributes so_far)
@@ -558,16 +558,16 @@ module _ {F : Type 0} (state_of : F → FolderState) where
                     are = answers was.files tells.answers tells.are;
                   };
             };
-        extends = λ t was. (taken_by old reader t (SetAttribute found.path name bytes) was adds).extends;
+        extends = λ t was. (taken_by old reader t (Set found.path name bytes) was adds).extends;
       }
 
   -- that an entry may be executed
   pub gives_mode : {E : Type 0} (old : FolderStream F) (found : Found) (reader : ListingReader)
       → old.place ≡ places.Mode found → found.is_executable ≡ true
-      → AddsCommand old.reader reader (SetAttribute found.path (codes "mode") (0x78 ∷ [])) true
+      → AddsStep old.reader reader (Set found.path (codes "mode") (0x78 ∷ [])) true
       → Gives {E = E} (CameOf state_of old)
       (CameOf state_of (record old { place = places.Mtime found; reader = reader }))
-      (SetAttribute found.path (codes "mode") (0x78 ∷ [])) (Ok tt)
+      (Set found.path (codes "mode") (0x78 ∷ [])) (Ok tt)
   gives_mode old found reader place executable adds =
       gives_name old found (bare_found found) (timeless_found found) (places.Mtime found) (codes "mode")
       (0x78 ∷ []) reader refl refl refl (ap (λ b. mode_attributes b ++ []) executable)
@@ -577,9 +577,9 @@ module _ {F : Type 0} (state_of : F → FolderState) where
   -- when it was changed
   pub gives_mtime : {E : Type 0} (old : FolderStream F) (found : Found) (seconds : ℕ) (reader : ListingReader)
       → old.place ≡ places.Mtime found → found.seconds ≡ Some seconds
-      → AddsCommand old.reader reader (SetAttribute found.path (codes "mtime") (decimal seconds)) true
+      → AddsStep old.reader reader (Set found.path (codes "mtime") (decimal seconds)) true
       → Gives {E = E} (CameOf state_of old) (CameOf state_of (record old { place = places.Start; reader = reader }))
-      (SetAttribute found.path (codes "mtime") (decimal seconds)) (Ok tt)
+      (Set found.path (codes "mtime") (decimal seconds)) (Ok tt)
   gives_mtime old found seconds reader place some adds =
       gives_name old found (timeless_found found) found places.Start (codes "mtime")
       (decimal seconds) reader refl refl refl

@@ -6,8 +6,8 @@ use Rattle.store_model.specs.declared.version.Version.TheVariants.{Two}
 use Rattle.store_model.specs.Parameters.{Parameters}
 use Rattle.store_model.specs.Paths.{Path}
 use Rattle.store_model.specs.Trees.{Tree, IsTree}
-use Rattle.store_model.specs.Commands.{Command}
-use Rattle.store_model.specs.Commands.Command.{Make, Write, SetAttribute}
+use Rattle.tree_listing.specs.Dumps.{DumpStep}
+use Rattle.tree_listing.specs.Dumps.DumpStep.{Make, Write, Set}
 use Rattle.tree_pairs.specs.declared.kind.Kind.{Kind}
 use Rattle.tree_pairs.specs.declared.kind.Kind.TheVariants as kinds
 use Rattle.tree_listing.specs.Reading.{HasRead, BreaksOff}
@@ -44,12 +44,11 @@ pub record IsPacked {F : Type 0} (state_of : F → FolderState) (stream : Folder
 abbrev pub IsFile : Kind → Type 0
 IsFile kind = (len : ℕ) × (kind ≡ kinds.File len)
 
--- the commands that the entry of what was found asks for
-abbrev pub AsksFor : Found → Command → Type 0
+-- the steps that the entry of what was found asks for
+abbrev pub AsksFor : Found → DumpStep → Type 0
 AsksFor found (Make path) = (path ≡ found.path) × (found.kind ≡ kinds.Directory)
 AsksFor found (Write path at bytes) = (path ≡ found.path) × IsFile found.kind
-AsksFor found (SetAttribute path name bytes) = (path ≡ found.path) × Contains (found_attributes found) (name, bytes)
-AsksFor found _ = ⊥
+AsksFor found (Set path name bytes) = (path ≡ found.path) × Contains (found_attributes found) (name, bytes)
 
 -- the entry at which a stream is
 abbrev pub found_at : Place → ℕ → List Found → Option Found
@@ -58,15 +57,15 @@ found_at (places.Piece last offset) at found = Some last
 found_at (places.Mode last) at found = Some last
 found_at (places.Mtime last) at found = Some last
 
--- the entry at which the stream is asks for a command with which no dump goes on
+-- the entry at which the stream is asks for a step with which no dump goes on
 pub record AsksTooMuch {F : Type 0} (stream : FolderStream F) (t : Tree) : Type 0 where
   pub found : Found
   pub here : found_at stream.place stream.at stream.found.items ≡ Some found
-  pub command : Command
-  pub asks : AsksFor found command
-  pub breaks_off : (p : Parameters) → p.version ≡ Two → BreaksOff t command p
+  pub step : DumpStep
+  pub asks : AsksFor found step
+  pub breaks_off : (p : Parameters) → p.version ≡ Two → BreaksOff t step p
 
--- Why the stream ends after the commands of the dump of a tree. Nothing more is told of what failed in the folder.
+-- Why the stream ends after the steps of the dump of a tree. Nothing more is told of what failed in the folder.
 abbrev pub EndsBy : {F : Type 0} → FolderStream F → Tree → StreamFault → Type 0
 EndsBy stream t faults.NoDump = AsksTooMuch stream t
 EndsBy stream t faults.Unreadable = ⊤

@@ -3,9 +3,9 @@ use Rattle.std.specs.Prelude.{◌≡◌, ℕ, ◌+◌, ◌^◌, ◌-◌, List, l
 use Rattle.std.specs.Prelude.{Option, Some, None}
 use Rattle.store_model.specs.Paths.{Path}
 use Rattle.store_model.specs.Trees.{Tree}
-use Rattle.store_model.specs.Commands.{Command}
-use Rattle.store_model.specs.Commands.Command.{Write}
-use Rattle.store_model.specs.Steps.{next_tree}
+use Rattle.tree_listing.specs.Dumps.{DumpStep}
+use Rattle.tree_listing.specs.Dumps.DumpStep.{Write}
+use Rattle.tree_listing.specs.Dumps.{after_step}
 use Rattle.tree_listing.specs.Dumps.{dump_piece}
 use Rattle.dump_streams.specs.Streams.{Extends}
 use Rattle.host_folders.specs.FolderState.{FolderState, IsObservable, ReadsFile}
@@ -14,20 +14,20 @@ use Rattle.host_folders.specs.declared.found.Found.{Found}
 use Rattle.host_folders.specs.declared.stream.Place.{Place}
 use Rattle.host_folders.specs.declared.stream.Place.TheVariants as places
 
--- a command came, and the dump goes on with it
-pub record Gives {E : Type 0} (old new : Tree → Type 0) (c : Command) (result : Result (Unit {0}) E) : Type 0 where
-  pub came : (t : Tree) → old t → OnOk result (new (next_tree t c))
+-- a step came, and the dump goes on with it
+pub record Gives {E : Type 0} (old new : Tree → Type 0) (c : DumpStep) (result : Result (Unit {0}) E) : Type 0 where
+  pub came : (t : Tree) → old t → OnOk result (new (after_step t c))
   pub extends : (t : Tree) → old t → OnOk result (Extends t c)
 
--- the command writes the next piece of the file that was opened last, of so many bytes: a full one, or what is left
+-- the step writes the next piece of the file that was opened last, of so many bytes: a full one, or what is left
 -- of the file
-pub record IsPiece (old new : FolderState) (path : Path) (at : ℕ) (c : Command) (count : ℕ) : Type 0 where
+pub record IsPiece (old new : FolderState) (path : Path) (at : ℕ) (c : DumpStep) (count : ℕ) : Type 0 where
   pub bytes : List ℕ
-  pub command_is : c ≡ Write path at bytes
+  pub step_is : c ≡ Write path at bytes
   pub count_is : count ≡ length bytes
   pub told : IsObservable old → ReadsFile old new bytes (nat_lt count dump_piece)
 
-pub record ReadsPiece {E : Type 0} (old new : FolderState) (path : Path) (at : ℕ) (c : Command)
+pub record ReadsPiece {E : Type 0} (old new : FolderState) (path : Path) (at : ℕ) (c : DumpStep)
     (result : Result ℕ E) : Type 0 where
   pub observable : new.is_observable ≡ old.is_observable
   pub piece : IfOk result (IsPiece old new path at c)

@@ -1,4 +1,4 @@
-//! Folders of the host, as trees: what a folder tells, and the commands of the dump of the tree that its answers
+//! Folders of the host, as trees: what a folder tells, and the steps of the dump of the tree that its answers
 //! give. Start at `Folder` and `pack_folder`.
 //!
 //! `find_all` lists folder after folder, and `FolderStream` reads each file once, piece after piece. So no file is

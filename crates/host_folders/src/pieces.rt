@@ -1,31 +1,28 @@
 //! The pieces of a file.
 
 ghost use Rattle.std.specs.Prelude.{◌<◌, length};
-ghost use Rattle.script_lines.specs.Parsing.{command_of};
 ghost use Rattle.host_folders.specs.FolderState.{IsFilled};
 ghost use Rattle.host_folders.specs.Steps.{ReadsPiece};
 
 use crate::fault::FolderFault;
 use crate::folder::Folder;
 use path_keys::Path;
-use script_lines::Command;
-use store_base::Bytes;
-use tree_listing::DUMP_PIECE;
+use tree_listing::{DUMP_PIECE, DumpStep};
 
-/// Reads the next piece of the file that is open, and puts into `into` the command that writes it at this offset of
+/// Reads the next piece of the file that is open, and puts into `into` the step that writes it at this offset of
 /// this path. It answers how many bytes the piece has: 2,048, or fewer at the end of the file.
 pub(crate) fn read_piece<F: Folder>(
     folder: &mut F,
     path: &Path,
     at: u32,
-    into: &mut Command,
+    into: &mut DumpStep,
 ) -> Result<usize, FolderFault>
     ensures { ReadsPiece (F.state folder.old) (F.state folder.new) path.now at
-        (command_of into.new) result }
+        into.new result }
 {
     let mut piece = [0; DUMP_PIECE as usize];
     let count = fill(folder, &mut piece)?;
-    *into = Command::Write(*path, at, Bytes::new(&piece[..count]));
+    into.write(*path, at, &piece[..count]);
     Ok(count)
 }
 

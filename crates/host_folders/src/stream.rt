@@ -1,11 +1,10 @@
-//! The commands of the dump of a folder.
+//! The steps of the dump of a folder.
 
 ghost use Rattle.std.specs.Prelude.{◌≡◌, ◌<◌, ◌+◌, ◌++◌, ◌∷◌, [], take, length, true, false, vec_len, OnOk, IfErr};
 ghost use Rattle.std.specs.Prelude.{IsTrue};
 ghost use Rattle.store_model.specs.Trees.{Tree, empty_tree};
 ghost use Rattle.store_model.specs.Paths.{is_attribute_name};
-ghost use Rattle.script_lines.specs.Parsing.{command_of};
-ghost use Rattle.tree_listing.specs.Reading.{AddsCommand};
+ghost use Rattle.tree_listing.specs.Reading.{AddsStep};
 ghost use Rattle.dump_streams.specs.Streams.{IsNext};
 ghost use Rattle.host_folders.specs.Packed.{CameOf, IsFile, IsPacked, IsOfSame, EndsBy};
 ghost use Rattle.host_folders.specs.Steps.{path_at, Gives};
@@ -16,10 +15,10 @@ use crate::found::Found;
 use crate::pieces::read_piece;
 use dump_streams::{DumpStream, StreamFault};
 use path_keys::{AttrName, Path};
-use script_lines::{Command, Text, reveal};
+use script_lines::Text;
 use std::snapshot::Snapshot;
-use store_base::{Bytes, Version};
-use tree_listing::{DUMP_PIECE, ListingReader};
+use store_base::Version;
+use tree_listing::{DUMP_PIECE, DumpStep, ListingReader};
 use tree_pairs::Kind;
 
 /// What comes next.
@@ -35,7 +34,7 @@ enum Place {
     Mtime(Found),
 }
 
-/// The commands of the dump of the tree that a folder's answers give: what was found in it, and what its files hold
+/// The steps of the dump of the tree that a folder's answers give: what was found in it, and what its files hold
 /// when they are read.
 #[derive(Drop)]
 pub struct FolderStream<F: Folder> {
@@ -44,7 +43,7 @@ pub struct FolderStream<F: Folder> {
     /// How many of what was found were begun.
     at: usize,
     place: Place,
-    /// Which command may be the next.
+    /// Which step may be the next.
     reader: ListingReader,
     /// The folder before the first file was opened.
     first: Snapshot<F>,
@@ -112,11 +111,11 @@ impl<F: Folder> FolderStream<F> {
     }
 
     /// Begins the next entry, if there is one.
-    fn begin(&mut self, into: &mut Command) -> Result<bool, StreamFault>
+    fn begin(&mut self, into: &mut DumpStep) -> Result<bool, StreamFault>
         requires { self.old.place ≡ Place.Start }
         ensures next { IsNext (CameOf F.state self.old) (CameOf F.state self.new)
             (IsPacked F.state self.new)
-            (EndsBy self.new) (command_of into.new) result }
+            (EndsBy self.new) into.new result }
         ensures same { IsOfSame self.old self.new }
     {
         if self.at >= self.found.len() {
@@ -131,18 +130,18 @@ impl<F: Folder> FolderStream<F> {
     }
 
     /// Makes a folder, the next entry.
-    fn begin_folder(&mut self, found: &Found, into: &mut Command) -> Result<(), StreamFault>
+    fn begin_folder(&mut self, found: &Found, into: &mut DumpStep) -> Result<(), StreamFault>
         requires start { self.old.place ≡ Place.Start }
         requires kind { found.now.kind ≡ Kind.Directory }
         requires more { self.old.at < vec_len self.old.found }
         requires here { take (self.old.at + 1) self.old.found.items
             ≡ take self.old.at self.old.found.items ++ found.now ∷ [] }
         ensures gives { Gives (CameOf F.state self.old) (CameOf F.state self.new)
-            (command_of into.new) result }
+            into.new result }
         ensures failed { (t : Tree) → CameOf F.state self.old t → IfErr result (EndsBy self.new t) }
         ensures same { IsOfSame self.old self.new }
     {
-        *into = Command::Make(found.path);
+        into.make(found.path);
         self.add(into)?;
         self.at += 1;
         self.place = Place::Mode(*found);
@@ -150,14 +149,14 @@ impl<F: Folder> FolderStream<F> {
     }
 
     /// Opens a file, the next entry, and writes its first piece.
-    fn begin_file(&mut self, found: &Found, into: &mut Command) -> Result<(), StreamFault>
+    fn begin_file(&mut self, found: &Found, into: &mut DumpStep) -> Result<(), StreamFault>
         requires start { self.old.place ≡ Place.Start }
         requires kind { IsFile found.now.kind }
         requires more { self.old.at < vec_len self.old.found }
         requires here { take (self.old.at + 1) self.old.found.items
             ≡ take self.old.at self.old.found.items ++ found.now ∷ [] }
         ensures gives { Gives (CameOf F.state self.old) (CameOf F.state self.new)
-            (command_of into.new) result }
+            into.new result }
         ensures failed { (t : Tree) → CameOf F.state self.old t → IfErr result (EndsBy self.new t) }
         ensures same { IsOfSame self.old self.new }
     {
@@ -170,11 +169,11 @@ impl<F: Folder> FolderStream<F> {
     }
 
     /// Writes the piece of a file that begins at an offset, if one is there, and else what comes behind the file.
-    fn piece(&mut self, found: &Found, at: u32, into: &mut Command) -> Result<bool, StreamFault>
+    fn piece(&mut self, found: &Found, at: u32, into: &mut DumpStep) -> Result<bool, StreamFault>
         requires { self.old.place ≡ Place.Piece found.now at }
         ensures next { IsNext (CameOf F.state self.old) (CameOf F.state self.new)
             (IsPacked F.state self.new)
-            (EndsBy self.new) (command_of into.new) result }
+            (EndsBy self.new) into.new result }
         ensures same { IsOfSame self.old self.new }
     {
         let count = read_piece(&mut self.folder, &found.path, at, into)?;
@@ -188,28 +187,28 @@ impl<F: Folder> FolderStream<F> {
     }
 
     /// Gives the attribute that says that an entry may be executed, if it is to say so, and else what comes behind it.
-    fn mode(&mut self, found: &Found, into: &mut Command) -> Result<bool, StreamFault>
+    fn mode(&mut self, found: &Found, into: &mut DumpStep) -> Result<bool, StreamFault>
         requires { self.old.place ≡ Place.Mode found.now }
         ensures next { IsNext (CameOf F.state self.old) (CameOf F.state self.new)
             (IsPacked F.state self.new)
-            (EndsBy self.new) (command_of into.new) result }
+            (EndsBy self.new) into.new result }
         ensures same { IsOfSame self.old self.new }
     {
         self.place = Place::Mtime(*found);
         if !found.is_executable {
             return self.mtime(found, into);
         }
-        *into = Command::Set(found.path, attribute_name(b"mode"), Bytes::new(b"x"));
+        into.set(found.path, attribute_name(b"mode"), b"x");
         self.add(into)?;
         Ok(true)
     }
 
     /// Gives the attribute that says when an entry was changed, if it is to say so, and else what comes behind it.
-    fn mtime(&mut self, found: &Found, into: &mut Command) -> Result<bool, StreamFault>
+    fn mtime(&mut self, found: &Found, into: &mut DumpStep) -> Result<bool, StreamFault>
         requires { self.old.place ≡ Place.Mtime found.now }
         ensures next { IsNext (CameOf F.state self.old) (CameOf F.state self.new)
             (IsPacked F.state self.new)
-            (EndsBy self.new) (command_of into.new) result }
+            (EndsBy self.new) into.new result }
         ensures same { IsOfSame self.old self.new }
     {
         let Some(seconds) = found.seconds else {
@@ -218,27 +217,22 @@ impl<F: Folder> FolderStream<F> {
         };
         let mut digits = Text::new();
         digits.push_long(seconds);
-        *into = Command::Set(
-            found.path,
-            attribute_name(b"mtime"),
-            Bytes::new(digits.as_slice()),
-        );
+        into.set(found.path, attribute_name(b"mtime"), digits.as_slice());
         self.add(into)?;
         self.place = Place::Start;
         Ok(true)
     }
 
-    /// Takes a command, if some dump goes on with it.
-    fn add(&mut self, command: &Command) -> Result<(), StreamFault>
+    /// Takes a step, if some dump goes on with it.
+    fn add(&mut self, step: &DumpStep) -> Result<(), StreamFault>
         ensures added { OnOk result
-            (AddsCommand self.old.reader self.new.reader (command_of command.now) true) }
+            (AddsStep self.old.reader self.new.reader step.now true) }
         ensures refused { IfErr result
-            (λ fault. AddsCommand self.old.reader self.new.reader (command_of command.now) false) }
+            (λ fault. AddsStep self.old.reader self.new.reader step.now false) }
         ensures fault { IfErr result (λ fault. fault ≡ StreamFault.NoDump) }
         ensures same { self.new ≡ record self.old { reader = self.new.reader } }
     {
-        reveal(command);
-        if self.reader.add(command) {
+        if self.reader.add(step) {
             Ok(())
         } else {
             Err(StreamFault::NoDump)
@@ -257,7 +251,7 @@ impl<F: Folder> DumpStream for FolderStream<F> {
 
     /// `NoDump`: no dump goes on with what the entry at `path` asks for. `Unreadable`, `NoMemory`: the folder
     /// answered so.
-    fn next(&mut self, into: &mut Command) -> Result<bool, StreamFault> {
+    fn next(&mut self, into: &mut DumpStep) -> Result<bool, StreamFault> {
         match self.place {
             Place::Start => self.begin(into),
             Place::Piece(found, at) => self.piece(&found, at, into),

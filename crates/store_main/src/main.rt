@@ -8,9 +8,7 @@
 //! the library's.
 #![tactic(auto)]
 
-use command_line::Request;
 use disk_model::FileDisk;
-use dump_streams::GatheredSink;
 use script_lines::{StdSink, StdSource};
 use std::alloc::Global;
 use std::fs::File;
@@ -134,32 +132,6 @@ fn call_top(rt: &HostRuntime, words: &Words, disk: FileDisk) -> Status {
     status
 }
 
-/// Carries out a dump. Nobody waits for one of its lines, so they go out in large pieces: whoever reads them from a
-/// pipe is not woken for each.
-fn call_dump(rt: &HostRuntime, words: &Words, disk: FileDisk) -> Status {
-    let Ok(sink) = GatheredSink::new(rt.alloc(), StdSink::new(rt.stdout())) else {
-        return Status::NoMemory;
-    };
-    let source = StdSource::new(rt.stdin());
-    let Outcome {
-        status,
-        mut sink,
-        ..
-    } = top(rt.alloc(), words, disk, source, sink);
-    match (sink.flush(), status) {
-        (Err(_), Status::Done) => Status::SinkFault,
-        (_, status) => status,
-    }
-}
-
-/// Carries out the words on the disk.
-fn call(rt: &HostRuntime, words: &Words, disk: FileDisk) -> Status {
-    match words.request() {
-        Ok(Some(Request::Dump)) => call_dump(rt, words, disk),
-        _ => call_top(rt, words, disk),
-    }
-}
-
 /// The status that the program ends with where the words are for one file, that of the image.
 fn image_code(rt: &HostRuntime, image: &str, words: &Words) -> u8 {
     let FileRequest { wanted, access } = match wanted_file(words) {
@@ -172,7 +144,7 @@ fn image_code(rt: &HostRuntime, image: &str, words: &Words) -> u8 {
         Wanted::Fresh(len) => open_or_make(rt, image, len),
     };
     match opened.and_then(disk_of) {
-        Ok(disk) => call(rt, words, disk).code(),
+        Ok(disk) => call_top(rt, words, disk).code(),
         Err(_) => NO_FILE,
     }
 }

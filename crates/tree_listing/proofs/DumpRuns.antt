@@ -13,9 +13,9 @@ use Rattle.store_model.specs.Trees.{Tree, empty_tree}
 use Rattle.store_model.specs.Pairs.{Pair, pairs}
 use Rattle.store_model.specs.Draws.{draw_of}
 use Rattle.store_model.specs.Pages.{page_count, pages, IsTreeUnder, Fits}
-use Rattle.store_model.specs.Commands.{Command, IsCommand, Reply, command_text, line}
+use Rattle.store_model.specs.Commands.{Command, IsCommand, Reply}
 use Rattle.store_model.specs.Commands.Reply.{Acknowledged, Refused}
-use Rattle.store_model.specs.Steps.{Step, next_tree, reply_of, may_fill, step, step_by}
+use Rattle.store_model.specs.Steps.{Step, reply_of, may_fill, step, step_by}
 use Rattle.store_model.specs.Grammar.{parse}
 use Rattle.store_model.specs.Scripts.{line_limit, script_limit, lines, reading, answer, answer_by, answers_by, state_by}
 use Rattle.store_model.specs.Scripts.{replies_by, tree_by, replies, tree_after}
@@ -25,7 +25,8 @@ use Rattle.store_model.proofs.TreesLemmasFewer.{pages_of_thinned}
 use Rattle.store_model.proofs.TreesLemmasSteps.{step_by_refusal}
 use Rattle.store_model.proofs.TreesLemmasFits.{IsTree-empty, Fits-empty, Fits-tree_after}
 use Rattle.model_laws.proofs.CommandsLemmasTexts.{reading-command_text, no_line_end, some_text}
-use Rattle.tree_listing.specs.Dumps.{dump, dump_text, commands_text, IsListing}
+use Rattle.tree_listing.specs.Dumps.{DumpStep, command_of_step, after_step, dump, dump_text, step_text, step_line}
+use Rattle.tree_listing.specs.Dumps.{steps_text, readings, IsListing}
 use Rattle.tree_listing.specs.Laws.{RunsListing}
 use Rattle.tree_listing.proofs.Chains.{Chain, dump_chain}
 use Rattle.tree_listing.proofs.DumpFronts.{empty_under}
@@ -48,20 +49,20 @@ added old new text adds =
       length-map new (λ (pair : Pair). pair.0),
     )
 
-chain_text : (cs : List Command) (u t : Tree) (p : Parameters) → IsTreeUnder u p → Chain u cs t p
-    → length (commands_text cs) + pair_text * length (pairs u p) ≤ pair_text * length (pairs t p)
-unfolding commands_text
+chain_text : (cs : List DumpStep) (u t : Tree) (p : Parameters) → IsTreeUnder u p → Chain u cs t p
+    → length (steps_text cs) + pair_text * length (pairs u p) ≤ pair_text * length (pairs t p)
+unfolding steps_text
 chain_text [] u t p under chain = let same = ap (λ (v : Tree). length (pairs v p)) chain in omega (arith, same)
 chain_text (c ∷ cs) u t p under chain =
-    let text = command_text c in
-    let rest = chain_text cs (next_tree u c) t p (goes_on u c p under chain.0).under chain.1 in
+    let text = step_text c in
+    let rest = chain_text cs (after_step u c) t p (goes_on u c p under chain.0).under chain.1 in
     let step = step_of_next u c p under chain.0 in
     omega (
       arith,
       rest,
-      added (pairs u p) (pairs (next_tree u c) p) text step.adds,
-      length-append (line text)
-          (commands_text cs),
+      added (pairs u p) (pairs (after_step u c) p) text step.adds,
+      length-append (step_line c)
+          (steps_text cs),
       length-append text (10 ∷ []),
     )
 
@@ -76,36 +77,36 @@ dump_is_short t p are under fits =
 
 -- ---- a dump is a listing
 
--- a command that is read back from its line
-abbrev IsReadBack : Command → Type 0
-IsReadBack c = IsCommand c × (length (command_text c) ≤ line_limit)
+-- a step that is read back from its line
+abbrev IsReadBack : DumpStep → Type 0
+IsReadBack c = IsCommand (command_of_step c) × (length (step_text c) ≤ line_limit)
 
-chain_read : (cs : List Command) (u t : Tree) (p : Parameters) → IsTreeUnder u p → Chain u cs t p
+chain_read : (cs : List DumpStep) (u t : Tree) (p : Parameters) → IsTreeUnder u p → Chain u cs t p
     → AllByRecursion IsReadBack cs
 chain_read [] u t p under chain = tt
 chain_read (c ∷ cs) u t p under chain =
     let step = step_of_next u c p under chain.0 in
-    ((step.command, step.short), chain_read cs (next_tree u c) t p (goes_on u c p under chain.0).under chain.1)
+    ((step.command, step.short), chain_read cs (after_step u c) t p (goes_on u c p under chain.0).under chain.1)
 
 -- the lines of their text are their texts
-lines_of : (cs : List Command) → AllByRecursion IsReadBack cs → lines (commands_text cs) ≡ map command_text cs
-unfolding lines commands_text
+lines_of : (cs : List DumpStep) → AllByRecursion IsReadBack cs → lines (steps_text cs) ≡ map step_text cs
+unfolding lines steps_text
 lines_of [] are = refl
 lines_of (c ∷ cs) are =
-    let text = command_text c in
-    ap lines (append_assoc text (10 ∷ []) (commands_text cs))
+    let text = step_text c in
+    ap lines (append_assoc text (10 ∷ []) (steps_text cs))
     ∙ ap (filter (λ text. nat_lt 0 (length text)))
-    (slice_split_at (λ b. b == 10) text 10 (commands_text cs) (no_line_end c are.0.0) refl)
-    ∙ ap (λ b. cond b (text ∷ lines (commands_text cs)) (lines (commands_text cs)))
-    (lt-ltb 0 (length text) (some_text c))
+    (slice_split_at (λ b. b == 10) text 10 (steps_text cs) (no_line_end (command_of_step c) are.0.0) refl)
+    ∙ ap (λ b. cond b (text ∷ lines (steps_text cs)) (lines (steps_text cs)))
+    (lt-ltb 0 (length text) (some_text (command_of_step c)))
     ∙ ap (λ (texts : List (List ℕ)). text ∷ texts) (lines_of cs are.1)
 
-read_back : (cs : List Command) → AllByRecursion IsReadBack cs → map reading (map command_text cs) ≡ map Ok cs
+read_back : (cs : List DumpStep) → AllByRecursion IsReadBack cs → map reading (map step_text cs) ≡ readings cs
 read_back [] are = refl
 read_back (c ∷ cs) are =
-    ap (λ (first : Result Command Refusal). first ∷ map reading (map command_text cs))
-    (reading-command_text c are.0.0 are.0.1)
-    ∙ ap (λ (rest : List (Result Command Refusal)). Ok c ∷ rest) (read_back cs are.1)
+    ap (λ (first : Result Command Refusal). first ∷ map reading (map step_text cs))
+    (reading-command_text (command_of_step c) are.0.0 are.0.1)
+    ∙ ap (λ (rest : List (Result Command Refusal)). Ok (command_of_step c) ∷ rest) (read_back cs are.1)
 
 pub dump_is_listing : (t : Tree) (p : Parameters) → IsTreeUnder t p → IsListing t (dump_text t)
 dump_is_listing t p under =
@@ -118,19 +119,19 @@ thinned_front : (xs more : List (List ℕ)) → IsThinned xs (xs ++ more)
 thinned_front xs more = subst (λ (ys : List (List ℕ)). IsThinned ys (xs ++ more)) (append-nil xs)
     (thinned_append xs [] xs more (thinned_self xs) (thinned_nil more))
 
-pages_added : (u : Tree) (c : Command) (p : Parameters) → IsDumpStep u c p
-    → page_count u p ≤ page_count (next_tree u c) p
+pages_added : (u : Tree) (c : DumpStep) (p : Parameters) → IsDumpStep u c p
+    → page_count u p ≤ page_count (after_step u c) p
 unfolding pages
 pages_added u c p step =
     let adds = step.adds in
-    pages_of_thinned (draw_of p) (pairs u p) (pairs (next_tree u c) p)
+    pages_of_thinned (draw_of p) (pairs u p) (pairs (after_step u c) p)
     (subst (IsThinned (keys_of (pairs u p))) (sym adds.keys_are) (thinned_front (keys_of (pairs u p)) adds.more))
 
-chain_pages : (cs : List Command) (u t : Tree) (p : Parameters) → IsTreeUnder u p → Chain u cs t p
+chain_pages : (cs : List DumpStep) (u t : Tree) (p : Parameters) → IsTreeUnder u p → Chain u cs t p
     → page_count u p ≤ page_count t p
 chain_pages [] u t p under chain = let same = ap (λ (v : Tree). page_count v p) chain in omega (arith, same)
 chain_pages (c ∷ cs) u t p under chain =
-    let rest = chain_pages cs (next_tree u c) t p (goes_on u c p under chain.0).under chain.1 in
+    let rest = chain_pages cs (after_step u c) t p (goes_on u c p under chain.0).under chain.1 in
     omega (arith, rest, pages_added u c p (step_of_next u c p under chain.0))
 
 -- ---- what `run` answers
@@ -139,11 +140,12 @@ both_false : (a : Bool) → (a && false) ≡ false
 both_false true = refl
 both_false false = refl
 
--- the step of a command of a dump, where the next tree has room
-step_is : (u : Tree) (c : Command) (p : Parameters) → IsDumpStep u c p → page_count (next_tree u c) p ≤ p.slots
-    → step u c p ≡ record { reply = Acknowledged; tree = next_tree u c }
-step_is u c p is room =
-    let next = next_tree u c in
+-- what a step of a dump is answered, where the next tree has room
+step_is : (u : Tree) (s : DumpStep) (p : Parameters) → IsDumpStep u s p → page_count (after_step u s) p ≤ p.slots
+    → step u (command_of_step s) p ≡ record { reply = Acknowledged; tree = after_step u s }
+step_is u s p is room =
+    let c = command_of_step s in
+    let next = after_step u s in
     let full : Step = record { reply = Refused (refusals.Full (page_count next p) p.slots); tree = u } in
     step_by_refusal u c p is.version ∙ ap (step_by u c p) is.allowed
     ∙ ap (λ b. cond (may_fill c && b) full (record { reply = reply_of u c p; tree = next }))
@@ -162,7 +164,7 @@ answer_of_reading u text c p e = by_test (nat_lt line_limit (length text)) (pars
     by_test true r e = cc
     by_test false r e = ap (λ (r : Result Command Refusal). answer_by u r p) e
 
-run_chain : (cs : List Command) (texts : List (List ℕ)) (u t : Tree) (p : Parameters) → map reading texts ≡ map Ok cs
+run_chain : (cs : List DumpStep) (texts : List (List ℕ)) (u t : Tree) (p : Parameters) → map reading texts ≡ readings cs
     → IsTreeUnder u p → Chain u cs t p → page_count t p ≤ p.slots
     → AllByRecursion (λ reply. reply ≡ Acknowledged) (replies u texts p) × (tree_after u texts p ≡ t)
 unfolding replies replies_by answers_by tree_after tree_by state_by
@@ -170,16 +172,16 @@ run_chain [] [] u t p e under chain room = (tt, chain)
 run_chain [] (text ∷ texts) u t p e under chain room = cc
 run_chain (c ∷ cs) [] u t p e under chain room = cc
 run_chain (c ∷ cs) (text ∷ texts) u t p e under chain room =
-    let first : reading text ≡ Ok c = cc in
-    let others : map reading texts ≡ map Ok cs = cc in
-    let next = next_tree u c in
+    let first : reading text ≡ Ok (command_of_step c) = cc in
+    let others : map reading texts ≡ readings cs = cc in
+    let next = after_step u c in
     let is = step_of_next u c p under chain.0 in
     let later = (goes_on u c p under chain.0).under in
     let fits : page_count next p ≤ p.slots = omega (arith, chain_pages cs next t p later chain.1, room) in
     let rest = run_chain cs texts next t p others later chain.1 room in
     subst (λ (s : Step). AllByRecursion (λ reply. reply ≡ Acknowledged) (s.reply ∷ replies s.tree texts p)
     × (tree_after s.tree texts p ≡ t))
-    (sym (answer_of_reading u text c p first ∙ step_is u c p is fits)) ((refl, rest.0), rest.1)
+    (sym (answer_of_reading u text (command_of_step c) p first ∙ step_is u c p is fits)) ((refl, rest.0), rest.1)
 
 -- each line of a listing is carried out
 pub listing_runs : (t : Tree) (p : Parameters) (script : List ℕ) → IsTreeUnder t p → Fits t p → IsListing t script

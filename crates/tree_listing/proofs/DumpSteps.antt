@@ -1,4 +1,4 @@
--- A command that may stand next in a dump: it is read back from its line, no condition refuses it, and it adds pairs.
+-- A step that may stand next in a dump: it is read back from its line, no condition refuses it, and it adds pairs.
 use Rattle.std.proofs.Common.{◌≡◌, ℕ, suc, ◌+◌, ◌*◌, ◌<◌, ◌≤◌, ◌^◌, List, [], ◌∷◌, ◌++◌, length, Bool, true, false, not}
 use Rattle.std.proofs.Common.{cond, codes, IsTrue, inl, inr, Option, Some, None, is_some, nat_lt, nat_le, refl, sym, ap}
 use Rattle.std.proofs.Common.{subst, ◌∙◌, arith, append_assoc, length-append, leb-true}
@@ -19,11 +19,9 @@ use Rattle.store_model.specs.Trees.Node.{Directory, File}
 use Rattle.store_model.specs.Pairs.{Pair, is_inline, inline_limit, has_attributes, file_pairs, node_pairs}
 use Rattle.store_model.specs.Pairs.{attribute_value, pairs}
 use Rattle.store_model.specs.Pages.{IsTreeUnder}
-use Rattle.store_model.specs.Commands.{Command, IsCommand, command_text, content_text}
-use Rattle.store_model.specs.Commands.Command.{Make, Write, Cut, Rename, Remove, Prune, ListChildren, Read, Space}
-use Rattle.store_model.specs.Commands.Command.{Digest, SetAttribute, UnsetAttribute, GetAttribute, ListAttributes}
+use Rattle.store_model.specs.Commands.{IsCommand, command_text, content_text}
 use Rattle.store_model.specs.Commands.Reply.{Acknowledged}
-use Rattle.store_model.specs.Steps.{Condition, conditions, first_refusal, refusal_of, next_tree, reply_of}
+use Rattle.store_model.specs.Steps.{Condition, conditions, first_refusal, refusal_of, reply_of}
 use Rattle.store_model.specs.Steps.{is_on_attributes, lacks_version}
 use Rattle.store_model.specs.Scripts.{line_limit}
 use Rattle.store_model.proofs.ListsLemmas.{second_true, all_back}
@@ -37,7 +35,8 @@ use Rattle.tree_reader.specs.Fronts.{block_pairs}
 use Rattle.tree_reader.proofs.NextLemmas.{find_last, find_at_last, stands_next}
 use Rattle.tree_reader.proofs.BlockLemmas.{blocks-append, pairs_behind}
 use Rattle.tree_reader.proofs.FrontLemmas.{length-block_pairs, bare_pairs_more, attribute_pairs_more}
-use Rattle.tree_listing.specs.Dumps.{dump_piece}
+use Rattle.tree_listing.specs.Dumps.{DumpStep, command_of_step, after_step, dump_piece, step_text}
+use Rattle.tree_listing.specs.Dumps.DumpStep.{Make, Write, Set}
 use Rattle.tree_listing.proofs.NextTrees.{IsNext, named_entry, tree_of_make, tree_of_first, tree_of_later, tree_of_name}
 
 -- ---- how long the lines are
@@ -57,12 +56,12 @@ short_number n small = length-decimal-le 10 n (omega arith) (omega arith) (omega
 length_with_field : (front text : List ℕ) → length (front ++ codes " " ++ text) ≡ length front + 1 + length text
 length_with_field front text = omega (arith, length-append (front ++ codes " ") text, length-append front (codes " "))
 
-short_make : (x : Path) → IsTrue (is_path x) → is_root x ≡ false → length (command_text (Make x)) ≤ 125
+short_make : (x : Path) → IsTrue (is_path x) → is_root x ≡ false → length (step_text (Make x)) ≤ 125
 unfolding command_text
 short_make x valid other = omega (arith, length-append (codes "make ") (path_text x), short_path x valid other)
 
 short_write : (x : Path) (at : ℕ) (bytes : List ℕ) → IsTrue (is_path x) → is_root x ≡ false → at < 2 ^ 32
-    → length (command_text (Write x at bytes)) ≤ 139 + 2 * length bytes
+    → length (step_text (Write x at bytes)) ≤ 139 + 2 * length bytes
 unfolding command_text
 short_write x at bytes valid other small =
     let front = codes "write " ++ path_text x in
@@ -77,7 +76,7 @@ short_write x at bytes valid other small =
     )
 
 short_set : (x : Path) (a : Name) (bytes : List ℕ) → IsTrue (is_path x) → is_root x ≡ false → length a ≤ 32
-    → length (command_text (SetAttribute x a bytes)) ≤ 159 + 2 * length bytes
+    → length (step_text (Set x a bytes)) ≤ 159 + 2 * length bytes
 unfolding command_text
 short_set x a bytes valid other small =
     let front = codes "set " ++ path_text x in
@@ -92,7 +91,7 @@ short_set x a bytes valid other small =
       short_content bytes,
     )
 
--- ---- what a command of a dump is like, behind those before it
+-- ---- what a step of a dump is like, behind those before it
 
 -- the new pairs have the keys of the old ones and more behind them, enough for a text with LF behind it
 pub record AddsPairs (old new : List Pair) (text : List ℕ) : Type 0 where
@@ -100,13 +99,13 @@ pub record AddsPairs (old new : List Pair) (text : List ℕ) : Type 0 where
   pub keys_are : keys_of new ≡ keys_of old ++ more
   pub enough : length text + 1 ≤ pair_text * length more
 
-pub record IsDumpStep (t : Tree) (c : Command) (p : Parameters) : Type 0 where
-  pub command : IsCommand c
-  pub short : length (command_text c) ≤ line_limit
-  pub adds : AddsPairs (pairs t p) (pairs (next_tree t c) p) (command_text c)
-  pub version : lacks_version c p ≡ false
-  pub allowed : refusal_of t c ≡ None
-  pub acknowledged : reply_of t c p ≡ Acknowledged
+pub record IsDumpStep (t : Tree) (s : DumpStep) (p : Parameters) : Type 0 where
+  pub command : IsCommand (command_of_step s)
+  pub short : length (step_text s) ≤ line_limit
+  pub adds : AddsPairs (pairs t p) (pairs (after_step t s) p) (step_text s)
+  pub version : lacks_version (command_of_step s) p ≡ false
+  pub allowed : refusal_of t (command_of_step s) ≡ None
+  pub acknowledged : reply_of t (command_of_step s) p ≡ Acknowledged
 
 -- where each condition fails, there is no refusal
 no_refusal : (cs : List Condition) → AllFail cs → first_refusal cs ≡ None
@@ -133,11 +132,11 @@ make_step t x p next =
     record {
       command = next.valid;
       short = omega (arith, short);
-      adds = adds_behind (pairs t p) (pairs (next_tree t (Make x)) p) (node_pairs x Directory p) (command_text (Make x))
+      adds = adds_behind (pairs t p) (pairs (after_step t (Make x)) p) (node_pairs x Directory p) (step_text (Make x))
           (ap (λ (u : Tree). pairs u p) (tree_of_make t x next) ∙ bare_pairs_more t x Directory p)
           (omega (arith, short));
       version = refl;
-      allowed = no_refusal (conditions t (Make x))
+      allowed = no_refusal (conditions t (command_of_step (Make x)))
           (next.below_root, (ap not next.parent_directory, (ap is_some absent, tt)));
       acknowledged = refl;
     }
@@ -164,13 +163,13 @@ first_step t x bytes p next short valid =
     record {
       command = (next.valid, omega arith, valid);
       short = omega (arith, size, short);
-      adds = adds_behind (pairs t p) (pairs (next_tree t (Write x 0 bytes)) p) (node_pairs x (File bytes) p)
-          (command_text (Write x 0 bytes))
+      adds = adds_behind (pairs t p) (pairs (after_step t (Write x 0 bytes)) p) (node_pairs x (File bytes) p)
+          (step_text (Write x 0 bytes))
           (ap (λ (u : Tree). pairs u p) (tree_of_first t x bytes next) ∙ bare_pairs_more t x (File bytes) p)
-          (pairs_enough (is_inline p.version (length bytes)) x bytes (length (command_text (Write x 0 bytes)))
+          (pairs_enough (is_inline p.version (length bytes)) x bytes (length (step_text (Write x 0 bytes)))
           (inline_short p.version (length bytes)) size);
       version = refl;
-      allowed = no_refusal (conditions t (Write x 0 bytes)) (
+      allowed = no_refusal (conditions t (command_of_step (Write x 0 bytes))) (
         ap not next.parent_directory,
         (
           ap is_directory_node absent,
@@ -266,11 +265,11 @@ later_step before x content run pieces p tree full some short fits valid =
     record {
       command = (next.valid, omega (arith, fits), valid);
       short = omega (arith, size, short);
-      adds = subst (λ (u : Tree). AddsPairs (pairs t p) (pairs u p) (command_text c))
+      adds = subst (λ (u : Tree). AddsPairs (pairs t p) (pairs u p) (step_text c))
           (sym (tree_of_later before x content run next))
-          (later_pairs before x content run (command_text c) pieces p full some short size);
+          (later_pairs before x content run (step_text c) pieces p full some short size);
       version = refl;
-      allowed = no_refusal (conditions t c) (
+      allowed = no_refusal (conditions t (command_of_step c)) (
         ap not entry.parent_directory,
         (
           ap is_directory_node there,
@@ -289,11 +288,11 @@ later_step before x content run pieces p tree full some short fits valid =
 name_step : (before : Tree) (x : Path) (node : Node) (attributes : Attributes) (name : Name) (bytes : List ℕ)
     (p : Parameters) → IsTree (before ++ (x, named_entry node attributes) ∷ []) → IsTrue (has_attributes p.version)
     → AreAttributes x (attributes ++ (name, bytes) ∷ [])
-    → IsDumpStep (before ++ (x, named_entry node attributes) ∷ []) (SetAttribute x name bytes) p
+    → IsDumpStep (before ++ (x, named_entry node attributes) ∷ []) (Set x name bytes) p
 unfolding is_on_attributes conditions reply_of
 name_step before x node attributes name bytes p tree version are =
     let t : Tree = before ++ (x, named_entry node attributes) ∷ [] in
-    let c = SetAttribute x name bytes in
+    let c = Set x name bytes in
     let next = stands_next before [] x (named_entry node attributes) tree in
     let is : IsAttribute x (name, bytes) = (all_back (IsAttribute x) attributes ((name, bytes) ∷ []) are.each).0 in
     let there : node_at t x ≡ Some node = node_at-find t x next.below_root
@@ -304,12 +303,12 @@ name_step before x node attributes name bytes p tree version are =
     record {
       command = (next.valid, is.name, is.bytes);
       short = omega (arith, size, is.short);
-      adds = adds_behind (pairs t p) (pairs (next_tree t c) p)
-          ((attribute_key x name, attribute_value bytes) ∷ []) (command_text c)
+      adds = adds_behind (pairs t p) (pairs (after_step t c) p)
+          ((attribute_key x name, attribute_value bytes) ∷ []) (step_text c)
           (ap (λ (u : Tree). pairs u p) (tree_of_name before x node attributes name bytes next are)
           ∙ attribute_pairs_more before x node attributes name bytes p) (omega (arith, size, is.short));
       version = ap not version;
-      allowed = no_refusal (conditions t c) (
+      allowed = no_refusal (conditions t (command_of_step c)) (
         next.below_root,
         (
           ap (λ (found : Option Node). not (is_some found)) there,
@@ -319,9 +318,9 @@ name_step before x node attributes name bytes p tree version are =
       acknowledged = refl;
     }
 
--- ---- each command of a dump
+-- ---- each step of a dump
 
-pub step_of_next : (t : Tree) (c : Command) (p : Parameters) → IsTreeUnder t p → IsNext t p c → IsDumpStep t c p
+pub step_of_next : (t : Tree) (c : DumpStep) (p : Parameters) → IsTreeUnder t p → IsNext t p c → IsDumpStep t c p
 step_of_next t (Make x) p under next = make_step t x p next
 step_of_next t (Write x at bytes) p under (inl first) =
     subst (λ i. IsDumpStep t (Write x i bytes) p) (sym first.at_is)
@@ -331,18 +330,7 @@ step_of_next t (Write x at bytes) p under (inr later) =
     (subst (λ (u : Tree). IsDumpStep u (Write x (length later.content) bytes) p) (sym later.entries_are)
     (later_step later.before x later.content bytes later.pieces p
     (subst IsTree later.entries_are under.is_tree) later.full later.some later.short later.fits later.valid))
-step_of_next t (SetAttribute x name bytes) p under later =
-    subst (λ (u : Tree). IsDumpStep u (SetAttribute x name bytes) p) (sym later.entries_are)
+step_of_next t (Set x name bytes) p under later =
+    subst (λ (u : Tree). IsDumpStep u (Set x name bytes) p) (sym later.entries_are)
     (name_step later.before x later.node later.attributes name bytes p
     (subst IsTree later.entries_are under.is_tree) later.version later.are)
-step_of_next t (Cut x len) p under next = absurd next
-step_of_next t (Rename x y) p under next = absurd next
-step_of_next t (Remove x) p under next = absurd next
-step_of_next t (Prune x) p under next = absurd next
-step_of_next t (ListChildren x) p under next = absurd next
-step_of_next t (Read x at len) p under next = absurd next
-step_of_next t Space p under next = absurd next
-step_of_next t Digest p under next = absurd next
-step_of_next t (UnsetAttribute x name) p under next = absurd next
-step_of_next t (GetAttribute x name) p under next = absurd next
-step_of_next t (ListAttributes x) p under next = absurd next

@@ -1,4 +1,4 @@
--- The pairs that a command of a dump adds are those that the next tree has more.
+-- The pairs that a step of a dump adds are those that the next tree has more.
 use Rattle.std.specs.Result.{OnOk}
 use Rattle.std.proofs.Common.{Result, Ok, Err, ◌≡◌, ℕ, suc, ◌+◌, ◌*◌, ◌/◌, ◌<◌, ◌≤◌, List, [], ◌∷◌, ◌++◌, min, length}
 use Rattle.std.proofs.Common.{take, drop, Bool, false, refl, sym, ap, ap₂, subst, ◌∙◌, arith}

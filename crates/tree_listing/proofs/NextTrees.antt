@@ -1,4 +1,4 @@
--- Which command may stand next behind the dump of a tree, and the tree that it leads to.
+-- Which step may stand next behind the dump of a tree, and the tree that it leads to.
 use Rattle.std.proofs.Common.{◌≡◌, ℕ, suc, ◌+◌, ◌*◌, ◌<◌, ◌≤◌, List, [], ◌∷◌, ◌++◌, length, false, IsTrue, ◌⊎◌, inl}
 use Rattle.std.proofs.Common.{inr, Option, refl, sym, ap, ap₂, subst, ◌∙◌, arith, Ordering, Less, Greater}
 use Rattle.std.specs.Ordering.{ordering_reverse}
@@ -9,9 +9,6 @@ use Rattle.std.specs.List.{flat_map, AllByRecursion}
 use Rattle.std.proofs.lemmas.Bool.{false≢true}
 use Rattle.std.proofs.lemmas.List.{append-nil, append_assoc, length-append, map-append, take_all, drop_all}
 use Rattle.std.proofs.lemmas.List.Concat.{flat_map-append}
-use Rattle.store_model.specs.Commands.{Command}
-use Rattle.store_model.specs.Commands.Command.{Make, Write, Cut, Rename, Remove, Prune, ListChildren, Read, Space}
-use Rattle.store_model.specs.Commands.Command.{Digest, SetAttribute, UnsetAttribute, GetAttribute, ListAttributes}
 use Rattle.store_model.specs.Lists.{IsBytes, overwrite}
 use Rattle.store_model.specs.Parameters.{Parameters}
 use Rattle.store_model.specs.Paths.{Path, Name, name_cmp, path_cmp}
@@ -29,13 +26,15 @@ use Rattle.store_model.proofs.TreesLemmas.{node_at-find, IsTree-with_node}
 use Rattle.store_model.proofs.TreesLemmasPaths.{path_cmp_total}
 use Rattle.tree_reader.specs.Seen.{MayStandNext, bare_entry}
 use Rattle.tree_reader.proofs.NextLemmas.{find_last, find_at_last, bare_tree_more, tree_again, all_below, stands_next}
-use Rattle.tree_listing.specs.Dumps.{dump_piece, file_commands, node_commands, attribute_commands, entry_commands, dump}
+use Rattle.tree_listing.specs.Dumps.{DumpStep, after_step, dump_piece, file_steps, node_steps, attribute_steps}
+use Rattle.tree_listing.specs.Dumps.{entry_steps, dump}
+use Rattle.tree_listing.specs.Dumps.DumpStep.{Make, Write, Set}
 use Rattle.tree_listing.specs.Reading.{GoesOn}
 use Rattle.tree_listing.proofs.PieceLemmas.{one_piece, pieces_more}
 
--- ---- which command may stand next
+-- ---- which step may stand next
 
--- the first command that writes a file
+-- the first step that writes a file
 pub record IsFirstWrite (t : Tree) (path : Path) (at : ℕ) (bytes : List ℕ) : Type 0 where
   pub next : MayStandNext t path
   pub at_is : at ≡ 0
@@ -68,22 +67,11 @@ pub record IsLaterName (t : Tree) (p : Parameters) (path : Path) (name : Name) (
   pub entries_are : t ≡ before ++ (path, named_entry node attributes) ∷ []
   pub are : AreAttributes path (attributes ++ (name, bytes) ∷ [])
 
--- The command may stand next behind the dump of the tree.
-abbrev pub IsNext : Tree → Parameters → Command → Type 0
+-- The step may stand next behind the dump of the tree.
+abbrev pub IsNext : Tree → Parameters → DumpStep → Type 0
 IsNext t p (Make path) = MayStandNext t path
 IsNext t p (Write path at bytes) = IsFirstWrite t path at bytes ⊎ IsLaterWrite t path at bytes
-IsNext t p (SetAttribute path name bytes) = IsLaterName t p path name bytes
-IsNext t p (Cut path len) = ⊥
-IsNext t p (Rename from to) = ⊥
-IsNext t p (Remove path) = ⊥
-IsNext t p (Prune path) = ⊥
-IsNext t p (ListChildren path) = ⊥
-IsNext t p (Read path at len) = ⊥
-IsNext t p Space = ⊥
-IsNext t p Digest = ⊥
-IsNext t p (UnsetAttribute path name) = ⊥
-IsNext t p (GetAttribute path name) = ⊥
-IsNext t p (ListAttributes path) = ⊥
+IsNext t p (Set path name bytes) = IsLaterName t p path name bytes
 
 -- ---- what is put behind all others
 
@@ -130,12 +118,13 @@ replaced before x old new next =
     (before ++ (x, bare_entry old) ∷ [])) (find_at_last x (bare_entry old) before next.behind)
     ∙ put_for_last path_cmp path_cmp_total x (bare_entry old) (bare_entry new) before next.behind
 
-pub tree_of_make : (t : Tree) (x : Path) → MayStandNext t x → next_tree t (Make x) ≡ t ++ (x, bare_entry Directory) ∷ []
+pub tree_of_make : (t : Tree) (x : Path) → MayStandNext t x
+    → after_step t (Make x) ≡ t ++ (x, bare_entry Directory) ∷ []
 unfolding next_tree
 tree_of_make t x next = placed t x Directory next
 
 pub tree_of_first : (t : Tree) (x : Path) (bytes : List ℕ) → MayStandNext t x
-    → next_tree t (Write x 0 bytes) ≡ t ++ (x, bare_entry (File bytes)) ∷ []
+    → after_step t (Write x 0 bytes) ≡ t ++ (x, bare_entry (File bytes)) ∷ []
 unfolding next_tree
 tree_of_first t x bytes next =
     ap (λ (found : Option Node). with_node t x (File (overwrite (contents_of found) 0 bytes)))
@@ -144,7 +133,7 @@ tree_of_first t x bytes next =
     ∙ placed t x (File bytes) next
 
 pub tree_of_later : (before : Tree) (x : Path) (content run : List ℕ) → MayStandNext before x
-    → next_tree (before ++ (x, bare_entry (File content)) ∷ []) (Write x (length content) run)
+    → after_step (before ++ (x, bare_entry (File content)) ∷ []) (Write x (length content) run)
     ≡ before ++ (x, bare_entry (File (content ++ run))) ∷ []
 unfolding next_tree
 tree_of_later before x content run next =
@@ -164,7 +153,7 @@ names_below path attributes attribute are =
 
 pub tree_of_name : (before : Tree) (x : Path) (node : Node) (attributes : Attributes) (name : Name) (bytes : List ℕ)
     → MayStandNext before x → AreAttributes x (attributes ++ (name, bytes) ∷ [])
-    → next_tree (before ++ (x, named_entry node attributes) ∷ []) (SetAttribute x name bytes)
+    → after_step (before ++ (x, named_entry node attributes) ∷ []) (Set x name bytes)
     ≡ before ++ (x, named_entry node (attributes ++ (name, bytes) ∷ [])) ∷ []
 unfolding next_tree
 tree_of_name before x node attributes name bytes next are =
@@ -176,30 +165,30 @@ tree_of_name before x node attributes name bytes next are =
     ∙ put_for_last path_cmp path_cmp_total x (named_entry node attributes)
     (named_entry node (attributes ++ (name, bytes) ∷ [])) before next.behind
 
--- ---- it is a tree again, and its dump has the command more
+-- ---- it is a tree again, and its dump has the step more
 
-dump_more : (t : Tree) (x : Path) (entry : Entry) → dump (t ++ (x, entry) ∷ []) ≡ dump t ++ entry_commands x entry
+dump_more : (t : Tree) (x : Path) (entry : Entry) → dump (t ++ (x, entry) ∷ []) ≡ dump t ++ entry_steps x entry
 unfolding dump
 dump_more t x entry =
-    flat_map-append (λ (e : Path × Entry). entry_commands e.0 e.1) t ((x, entry) ∷ [])
-    ∙ ap (λ (own : List Command). flat_map (λ (e : Path × Entry). entry_commands e.0 e.1) t ++ own)
-    (append-nil (entry_commands x entry))
+    flat_map-append (λ (e : Path × Entry). entry_steps e.0 e.1) t ((x, entry) ∷ [])
+    ∙ ap (λ (own : List DumpStep). flat_map (λ (e : Path × Entry). entry_steps e.0 e.1) t ++ own)
+    (append-nil (entry_steps x entry))
 
-bare_dump : (t : Tree) (x : Path) (node : Node) → dump (t ++ (x, bare_entry node) ∷ []) ≡ dump t ++ node_commands x node
-unfolding attribute_commands
+bare_dump : (t : Tree) (x : Path) (node : Node) → dump (t ++ (x, bare_entry node) ∷ []) ≡ dump t ++ node_steps x node
+unfolding attribute_steps
 bare_dump t x node = dump_more t x (bare_entry node)
-    ∙ ap (λ (own : List Command). dump t ++ own) (append-nil (node_commands x node))
+    ∙ ap (λ (own : List DumpStep). dump t ++ own) (append-nil (node_steps x node))
 
 -- a node more
-node_more : (t : Tree) (x : Path) (node : Node) (c : Command) (p : Parameters) → IsTreeUnder t p → MayStandNext t x
-    → IsNode node → next_tree t c ≡ t ++ (x, bare_entry node) ∷ [] → node_commands x node ≡ c ∷ [] → GoesOn t c p
-node_more t x node c p under next is leads commands = record {
+node_more : (t : Tree) (x : Path) (node : Node) (c : DumpStep) (p : Parameters) → IsTreeUnder t p → MayStandNext t x
+    → IsNode node → after_step t c ≡ t ++ (x, bare_entry node) ∷ [] → node_steps x node ≡ c ∷ [] → GoesOn t c p
+node_more t x node c p under next is leads steps = record {
   under = subst (λ (u : Tree). IsTreeUnder u p) (sym leads) (record {
     is_tree = bare_tree_more t x node under.is_tree next is;
     bare = λ lacks. all_append (λ (e : Path × Entry). e.1.attributes ≡ []) t ((x, bare_entry node) ∷ [])
         (under.bare lacks) (refl, tt);
   });
-  dump_is = ap dump leads ∙ bare_dump t x node ∙ ap (λ (own : List Command). dump t ++ own) commands;
+  dump_is = ap dump leads ∙ bare_dump t x node ∙ ap (λ (own : List DumpStep). dump t ++ own) steps;
 }
 
 -- a file of other bytes in the place of the last one
@@ -228,9 +217,9 @@ last_stands t before x entry tree split = stands_next before [] x entry (subst I
 
 -- the tree that a further write leads to
 pub later_leads : (t : Tree) (x : Path) (at : ℕ) (bytes : List ℕ) (later : IsLaterWrite t x at bytes) → IsTree t
-    → next_tree t (Write x at bytes) ≡ later.before ++ (x, bare_entry (File (later.content ++ bytes))) ∷ []
+    → after_step t (Write x at bytes) ≡ later.before ++ (x, bare_entry (File (later.content ++ bytes))) ∷ []
 later_leads t x at bytes later tree =
-    ap₂ (λ (u : Tree) (i : ℕ). next_tree u (Write x i bytes)) later.entries_are later.at_is
+    ap₂ (λ (u : Tree) (i : ℕ). after_step u (Write x i bytes)) later.entries_are later.at_is
     ∙ tree_of_later later.before x later.content bytes
     (last_stands t later.before x (bare_entry (File later.content)) tree later.entries_are)
 
@@ -246,9 +235,9 @@ piece_goes_on t x at bytes p under later =
     let entry = (all_back (IsEntry (later.before ++ (x, old) ∷ [])) later.before ((x, old) ∷ []) tree.entries).0 in
     let long = length-append later.content bytes in
     let leads = later_leads t x at bytes later under.is_tree in
-    let commands : file_commands x content ≡ file_commands x later.content ++ Write x at bytes ∷ [] =
+    let steps : file_steps x content ≡ file_steps x later.content ++ Write x at bytes ∷ [] =
     pieces_more x later.pieces later.content bytes later.full later.some later.short
-    ∙ ap (λ i. file_commands x later.content ++ Write x i bytes ∷ []) (sym later.at_is) in
+    ∙ ap (λ i. file_steps x later.content ++ Write x i bytes ∷ []) (sym later.at_is) in
     record {
       under = subst (λ (u : Tree). IsTreeUnder u p) (sym leads) (record {
         is_tree = file_again later.before x later.content content tree next
@@ -258,38 +247,38 @@ piece_goes_on t x at bytes p under later =
             (subst IsBare later.entries_are (under.bare lacks))) (refl, tt);
       });
       dump_is = ap dump leads ∙ bare_dump later.before x (File content)
-          ∙ ap (λ (own : List Command). dump later.before ++ own) commands
-          ∙ sym (append_assoc (dump later.before) (file_commands x later.content) (Write x at bytes ∷ []))
-          ∙ ap (λ (front : List Command). front ++ Write x at bytes ∷ [])
+          ∙ ap (λ (own : List DumpStep). dump later.before ++ own) steps
+          ∙ sym (append_assoc (dump later.before) (file_steps x later.content) (Write x at bytes ∷ []))
+          ∙ ap (λ (front : List DumpStep). front ++ Write x at bytes ∷ [])
           (sym (bare_dump later.before x (File later.content)) ∙ ap dump (sym later.entries_are));
     }
 
 -- the tree that an attribute leads to
 pub name_leads : (t : Tree) (p : Parameters) (x : Path) (name : Name) (bytes : List ℕ)
     (later : IsLaterName t p x name bytes) → IsTree t
-    → next_tree t (SetAttribute x name bytes) ≡ later.before
+    → after_step t (Set x name bytes) ≡ later.before
     ++ (x, named_entry later.node (later.attributes ++ (name, bytes) ∷ [])) ∷ []
 name_leads t p x name bytes later tree =
-    ap (λ (u : Tree). next_tree u (SetAttribute x name bytes)) later.entries_are
+    ap (λ (u : Tree). after_step u (Set x name bytes)) later.entries_are
     ∙ tree_of_name later.before x later.node later.attributes name bytes
     (last_stands t later.before x (named_entry later.node later.attributes) tree later.entries_are) later.are
 
 -- an attribute more
 name_goes_on : (t : Tree) (x : Path) (name : Name) (bytes : List ℕ) (p : Parameters) → IsTreeUnder t p
-    → IsLaterName t p x name bytes → GoesOn t (SetAttribute x name bytes) p
-unfolding attribute_commands
+    → IsLaterName t p x name bytes → GoesOn t (Set x name bytes) p
+unfolding attribute_steps
 name_goes_on t x name bytes p under later =
     let old : Entry = named_entry later.node later.attributes in
     let attributes : Attributes = later.attributes ++ (name, bytes) ∷ [] in
     let new : Entry = named_entry later.node attributes in
-    let c : Command = SetAttribute x name bytes in
-    let own : List Command = node_commands x later.node in
+    let c : DumpStep = Set x name bytes in
+    let own : List DumpStep = node_steps x later.node in
     let next = last_stands t later.before x old under.is_tree later.entries_are in
     let leads = name_leads t p x name bytes later under.is_tree in
-    let commands : entry_commands x new ≡ entry_commands x old ++ c ∷ [] =
-    ap (λ (names : List Command). own ++ names)
-    (map-append (λ (a : Name × List ℕ). SetAttribute x a.0 a.1) later.attributes ((name, bytes) ∷ []))
-    ∙ sym (append_assoc own (attribute_commands x later.attributes) (c ∷ [])) in
+    let steps : entry_steps x new ≡ entry_steps x old ++ c ∷ [] =
+    ap (λ (names : List DumpStep). own ++ names)
+    (map-append (λ (a : Name × List ℕ). Set x a.0 a.1) later.attributes ((name, bytes) ∷ []))
+    ∙ sym (append_assoc own (attribute_steps x later.attributes) (c ∷ [])) in
     record {
       under = subst (λ (u : Tree). IsTreeUnder u p) (sym leads) (record {
         is_tree = tree_again later.before x later.node later.attributes attributes
@@ -297,9 +286,9 @@ name_goes_on t x name bytes p under later =
         bare = λ lacks. absurd (false≢true (sym lacks ∙ later.version));
       });
       dump_is = ap dump leads ∙ dump_more later.before x new
-          ∙ ap (λ (all : List Command). dump later.before ++ all) commands
-          ∙ sym (append_assoc (dump later.before) (entry_commands x old) (c ∷ []))
-          ∙ ap (λ (front : List Command). front ++ c ∷ [])
+          ∙ ap (λ (all : List DumpStep). dump later.before ++ all) steps
+          ∙ sym (append_assoc (dump later.before) (entry_steps x old) (c ∷ []))
+          ∙ ap (λ (front : List DumpStep). front ++ c ∷ [])
           (sym (dump_more later.before x old) ∙ ap dump (sym later.entries_are));
     }
 
@@ -311,20 +300,9 @@ first_goes_on t x at bytes p under first =
     (node_more t x (File bytes) (Write x 0 bytes) p under first.next (omega (arith, short), first.valid)
     (tree_of_first t x bytes first.next) (one_piece x bytes short))
 
--- a command that may stand next goes on with the dump
-pub goes_on : (t : Tree) (c : Command) (p : Parameters) → IsTreeUnder t p → IsNext t p c → GoesOn t c p
+-- a step that may stand next goes on with the dump
+pub goes_on : (t : Tree) (c : DumpStep) (p : Parameters) → IsTreeUnder t p → IsNext t p c → GoesOn t c p
 goes_on t (Make x) p under next = node_more t x Directory (Make x) p under next tt (tree_of_make t x next) refl
 goes_on t (Write x at bytes) p under (inl first) = first_goes_on t x at bytes p under first
 goes_on t (Write x at bytes) p under (inr later) = piece_goes_on t x at bytes p under later
-goes_on t (SetAttribute x name bytes) p under later = name_goes_on t x name bytes p under later
-goes_on t (Cut x len) p under never = absurd never
-goes_on t (Rename x y) p under never = absurd never
-goes_on t (Remove x) p under never = absurd never
-goes_on t (Prune x) p under never = absurd never
-goes_on t (ListChildren x) p under never = absurd never
-goes_on t (Read x at len) p under never = absurd never
-goes_on t Space p under never = absurd never
-goes_on t Digest p under never = absurd never
-goes_on t (UnsetAttribute x name) p under never = absurd never
-goes_on t (GetAttribute x name) p under never = absurd never
-goes_on t (ListAttributes x) p under never = absurd never
+goes_on t (Set x name bytes) p under later = name_goes_on t x name bytes p under later

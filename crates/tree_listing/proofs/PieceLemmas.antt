@@ -1,15 +1,14 @@
--- The commands that write a file: one piece more is one command more.
+-- The steps that write a file: one piece more is one step more.
 use Rattle.std.proofs.Common.{◌≡◌, ℕ, zero, suc, ◌+◌, ◌*◌, ◌<◌, ◌≤◌, List, [], ◌∷◌, ◌++◌, map, length, take, drop, refl}
 use Rattle.std.proofs.Common.{sym, ap, ap₂, ◌∙◌, arith}
 use Rattle.std.specs.List.{enumerate_from}
 use Rattle.std.proofs.lemmas.List.{length-append, length-drop, map-append, take_all, take-append-le, drop-append-le}
 use Rattle.std.proofs.lemmas.List.{drop_at}
-use Rattle.store_model.specs.Commands.{Command}
-use Rattle.store_model.specs.Commands.Command.{Write}
 use Rattle.store_model.specs.Lists.{numbers_from, run_at, run_count, runs}
 use Rattle.store_model.specs.Paths.{Path}
 use Rattle.store_model.proofs.ListsLemmas.{length-runs}
-use Rattle.tree_listing.specs.Dumps.{dump_piece, file_commands}
+use Rattle.tree_listing.specs.Dumps.{DumpStep, dump_piece, file_steps}
+use Rattle.tree_listing.specs.Dumps.DumpStep.{Write}
 
 -- ---- pieces of bytes
 
@@ -59,17 +58,17 @@ one_run xs some few =
     ap (λ n. map (run_at dump_piece xs) (numbers_from 0 n)) one
     ∙ ap (λ (run : List ℕ). run ∷ []) (take_all dump_piece xs few)
 
--- ---- their commands
+-- ---- their steps
 
--- the command of a piece
-abbrev piece_command : Path → ℕ × List ℕ → Command
-piece_command path piece = Write path (dump_piece * piece.0) piece.1
+-- the step of a piece
+abbrev piece_step : Path → ℕ × List ℕ → DumpStep
+piece_step path piece = Write path (dump_piece * piece.0) piece.1
 
-commands_of_runs : (path : Path) (bytes : List ℕ) → 1 ≤ length bytes
-    → file_commands path bytes ≡ map (piece_command path) (enumerate_from 0 (runs dump_piece bytes))
-unfolding file_commands
-commands_of_runs path [] some = absurd (omega (arith, some))
-commands_of_runs path (b ∷ bytes) some = refl
+steps_of_runs : (path : Path) (bytes : List ℕ) → 1 ≤ length bytes
+    → file_steps path bytes ≡ map (piece_step path) (enumerate_from 0 (runs dump_piece bytes))
+unfolding file_steps
+steps_of_runs path [] some = absurd (omega (arith, some))
+steps_of_runs path (b ∷ bytes) some = refl
 
 enumerate_more : {X : Type 0} (n : ℕ) (xs : List X) (x : X)
     → enumerate_from n (xs ++ x ∷ []) ≡ enumerate_from n xs ++ (n + length xs, x) ∷ []
@@ -78,27 +77,27 @@ enumerate_more n (y ∷ xs) x = ap (λ es. (n, y) ∷ es)
     (enumerate_more (n + 1) xs x ∙ ap (λ m. enumerate_from (n + 1) xs ++ (m, x) ∷ [])
     (let e : n + 1 + length xs ≡ n + suc (length xs) = omega arith in e))
 
--- one piece or less is written by one command
+-- one piece or less is written by one step
 pub one_piece : (path : Path) (bytes : List ℕ) → length bytes ≤ dump_piece
-    → file_commands path bytes ≡ Write path 0 bytes ∷ []
-unfolding file_commands
+    → file_steps path bytes ≡ Write path 0 bytes ∷ []
+unfolding file_steps
 one_piece path [] short = refl
-one_piece path (b ∷ bytes) short = ap (λ (rs : List (List ℕ)). map (piece_command path) (enumerate_from 0 rs))
+one_piece path (b ∷ bytes) short = ap (λ (rs : List (List ℕ)). map (piece_step path) (enumerate_from 0 rs))
     (one_run (b ∷ bytes) (omega arith) short)
 
--- one piece more is one command more
+-- one piece more is one step more
 pub pieces_more : (path : Path) (k : ℕ) (xs run : List ℕ) → length xs ≡ dump_piece * suc k → 1 ≤ length run
-    → length run ≤ dump_piece → file_commands path (xs ++ run) ≡ file_commands path xs
+    → length run ≤ dump_piece → file_steps path (xs ++ run) ≡ file_steps path xs
     ++ Write path (length xs) run ∷ []
 pieces_more path k xs run full some few =
     let long = length-append xs run in
     let count : length (runs dump_piece xs) ≡ suc k =
     length-runs dump_piece xs ∙ (let e : run_count dump_piece (length xs) ≡ suc k = omega (arith, full) in e) in
     let at : dump_piece * (0 + length (runs dump_piece xs)) ≡ length xs = omega (arith, full, count) in
-    commands_of_runs path (xs ++ run) (omega (arith, long, some))
-    ∙ ap (λ rs. map (piece_command path) (enumerate_from 0 rs)) (runs_more (suc k) xs run full some few)
-    ∙ ap (map (piece_command path)) (enumerate_more 0 (runs dump_piece xs) run)
-    ∙ map-append (piece_command path) (enumerate_from 0 (runs dump_piece xs))
+    steps_of_runs path (xs ++ run) (omega (arith, long, some))
+    ∙ ap (λ rs. map (piece_step path) (enumerate_from 0 rs)) (runs_more (suc k) xs run full some few)
+    ∙ ap (map (piece_step path)) (enumerate_more 0 (runs dump_piece xs) run)
+    ∙ map-append (piece_step path) (enumerate_from 0 (runs dump_piece xs))
     ((0 + length (runs dump_piece xs), run) ∷ [])
-    ∙ ap₂ (λ (cs : List Command) (i : ℕ). cs ++ Write path i run ∷ [])
-    (sym (commands_of_runs path xs (omega (arith, full)))) at
+    ∙ ap₂ (λ (cs : List DumpStep) (i : ℕ). cs ++ Write path i run ∷ [])
+    (sym (steps_of_runs path xs (omega (arith, full)))) at

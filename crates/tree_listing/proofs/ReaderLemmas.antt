@@ -1,18 +1,15 @@
--- What a reader knows tells which command may stand next.
+-- What a reader knows tells which step may stand next.
 use Rattle.std.proofs.Common.{◌≡◌, ℕ, ◌+◌, ◌-◌, ◌/◌, ◌<◌, ◌≤◌, List, [], ◌∷◌, ◌++◌, length, Bool, true, false, IsTrue}
 use Rattle.std.proofs.Common.{inl, inr, Option, Some, None, refl, sym, ap, subst, ◌∙◌, arith}
 use Rattle.std.proofs.lemmas.Bool.{false≢true}
 use Rattle.std.proofs.lemmas.List.{length-append}
 use Rattle.std.proofs.lemmas.Option.{same_Some}
 use Rattle.store_model.specs.declared.version.Version.{Version}
-use Rattle.store_model.specs.Commands.{Command}
-use Rattle.store_model.specs.Commands.Command.{Make, Write, SetAttribute}
 use Rattle.store_model.specs.Lists.{IsBytes}
 use Rattle.store_model.specs.Parameters.{Parameters}
 use Rattle.store_model.specs.Paths.{Path, Name, is_path, is_root, is_attribute_name}
 use Rattle.store_model.specs.Pairs.{has_attributes}
 use Rattle.store_model.specs.Pages.{IsTreeUnder}
-use Rattle.store_model.specs.Steps.{next_tree}
 use Rattle.store_model.specs.Trees.{Tree, Node, Entry, Attributes, IsAttribute, AreAttributes, IsEntry, IsTree, node_at}
 use Rattle.store_model.specs.Trees.{attributes_of, attributes_at}
 use Rattle.store_model.specs.Trees.Node.{Directory, File}
@@ -24,18 +21,19 @@ use Rattle.tree_reader.specs.Seen.{IsLast, IsLastName, MayStandNext, bare_entry,
 use Rattle.tree_reader.proofs.AttributeLemmas.{last_is, last_entry, attributes_more, above_last}
 use Rattle.tree_reader.proofs.NextLemmas.{find_at_last, last_more, next_from_last, last_from_next}
 use Rattle.tree_listing.specs.declared.reader.ListingReader.{ListingReader}
-use Rattle.tree_listing.specs.Dumps.{dump_piece}
-use Rattle.tree_listing.specs.Reading.{HasRead, AddsCommand, AddsEntry, IsNextPath, IsNextPiece, IsNextName}
+use Rattle.tree_listing.specs.Dumps.{DumpStep, after_step, dump_piece}
+use Rattle.tree_listing.specs.Dumps.DumpStep.{Make, Write, Set}
+use Rattle.tree_listing.specs.Reading.{HasRead, AddsStep, AddsEntry, IsNextPath, IsNextPiece, IsNextName}
 use Rattle.tree_listing.proofs.Chains.{next_of_dump}
 use Rattle.tree_listing.proofs.NextTrees.{IsFirstWrite, IsLaterWrite, IsLaterName, IsNext, named_entry, tree_of_make}
 use Rattle.tree_listing.proofs.NextTrees.{tree_of_first, last_stands, later_leads, name_leads, goes_on}
 
 -- ---- what a call of a reader does
 
--- a command is taken
-taken : (old new : ListingReader) (c : Command) → new.version ≡ old.version
+-- a step is taken
+taken : (old new : ListingReader) (c : DumpStep) → new.version ≡ old.version
     → ((t : Tree) (p : Parameters) → HasRead old t p
-    → IsNext t p c × (IsTreeUnder (next_tree t c) p → HasRead new (next_tree t c) p)) → AddsCommand old new c true
+    → IsNext t p c × (IsTreeUnder (after_step t c) p → HasRead new (after_step t c) p)) → AddsStep old new c true
 taken old new c version is = record {
   read = λ t p has. let next = is t p has in next.1 (goes_on t c p has.under next.0).under;
   goes_on = λ t p has. goes_on t c p has.under (is t p has).0;
@@ -45,8 +43,8 @@ taken old new c version is = record {
 }
 
 -- and one is refused
-pub refused : (old : ListingReader) (c : Command) → ((t : Tree) (p : Parameters) → HasRead old t p → IsNext t p c → ⊥)
-    → AddsCommand old old c false
+pub refused : (old : ListingReader) (c : DumpStep) → ((t : Tree) (p : Parameters) → HasRead old t p → IsNext t p c → ⊥)
+    → AddsStep old old c false
 refused old c never = record {
   read = λ t p has. tt;
   goes_on = λ t p has. tt;
@@ -106,7 +104,7 @@ knows_last reader t before p path entry has split =
       below_root = is.below_root;
     }
 
--- ---- the first command of an entry
+-- ---- the first step of an entry
 
 entry_may : (reader : ListingReader) (t : Tree) (p : Parameters) (path : Path) → HasRead reader t p
     → IsTrue (is_path path) → IsNextPath reader path → MayStandNext t path
@@ -118,28 +116,28 @@ entry_told : (reader : ListingReader) (t : Tree) (p : Parameters) (path : Path) 
 entry_told reader t p path has next =
     (next.below_root, last_from_next t reader.last.path reader.last.kind path has.last next)
 
--- such a command makes the entry of a node
-record Begins (path : Path) (node : Node) (c : Command) : Type 0 where
+-- such a step makes the entry of a node
+record Begins (path : Path) (node : Node) (c : DumpStep) : Type 0 where
   may : (t : Tree) (p : Parameters) → MayStandNext t path → IsNext t p c
-  leads : (t : Tree) → MayStandNext t path → next_tree t c ≡ t ++ (path, bare_entry node) ∷ []
+  leads : (t : Tree) → MayStandNext t path → after_step t c ≡ t ++ (path, bare_entry node) ∷ []
   told : (t : Tree) (p : Parameters) → IsNext t p c → MayStandNext t path
 
-entry_adds : (old new : ListingReader) (path : Path) (node : Node) (c : Command) (result : Bool) → Begins path node c
-    → IsTrue (is_path path) → AddsEntry old new path (kind_of node) result → AddsCommand old new c result
+entry_adds : (old new : ListingReader) (path : Path) (node : Node) (c : DumpStep) (result : Bool) → Begins path node c
+    → IsTrue (is_path path) → AddsEntry old new path (kind_of node) result → AddsStep old new c result
 entry_adds old new path node c true begins valid adds =
-    subst (λ (reader : ListingReader). AddsCommand old reader c true) (sym adds.taken)
+    subst (λ (reader : ListingReader). AddsStep old reader c true) (sym adds.taken)
     (taken old _ c refl (λ t p has.
     let next = entry_may old t p path has valid (adds.next.0 refl) in (
       begins.may t p next,
       λ under. reads_last old.version None t path (bare_entry node)
-          (next_tree t c) p has.version_is under (begins.leads t next) next refl,
+          (after_step t c) p has.version_is under (begins.leads t next) next refl,
     )))
 entry_adds old new path node c false begins valid adds =
-    subst (λ (reader : ListingReader). AddsCommand old reader c false) (sym adds.unchanged)
+    subst (λ (reader : ListingReader). AddsStep old reader c false) (sym adds.unchanged)
     (refused old c (λ t p has is. false≢true (adds.next.1 (entry_told old t p path has (begins.told t p is)))))
 
 pub directory_adds : (old new : ListingReader) (path : Path) (result : Bool) → IsTrue (is_path path)
-    → AddsEntry old new path kinds.Directory result → AddsCommand old new (Make path) result
+    → AddsEntry old new path kinds.Directory result → AddsStep old new (Make path) result
 directory_adds old new path result valid adds =
     entry_adds old new path Directory (Make path) result (record {
       may = λ t p next. next;
@@ -155,7 +153,7 @@ first_told t p path bytes (inr later) = absurd (omega (arith, later.at_is, later
 
 pub file_adds : (old new : ListingReader) (path : Path) (bytes : List ℕ) (len : ℕ) (result : Bool)
     → IsTrue (is_path path) → IsBytes bytes → length bytes ≡ len → len ≤ dump_piece
-    → AddsEntry old new path (kinds.File len) result → AddsCommand old new (Write path 0 bytes) result
+    → AddsEntry old new path (kinds.File len) result → AddsStep old new (Write path 0 bytes) result
 file_adds old new path bytes len result valid are long short adds =
     entry_adds old new path (File bytes) (Write path 0 bytes) result (record {
       may = λ t p next. inl (record { next = next; at_is = refl; short = omega (arith, long, short); valid = are });
@@ -164,7 +162,7 @@ file_adds old new path bytes len result valid are long short adds =
     }) valid (subst (λ n. AddsEntry old new path (kinds.File n) result) (sym long) adds)
 
 pub long_refused : (old : ListingReader) (path : Path) (bytes : List ℕ) → dump_piece < length bytes
-    → AddsCommand old old (Write path 0 bytes) false
+    → AddsStep old old (Write path 0 bytes) false
 long_refused old path bytes long =
     refused old (Write path 0 bytes) (λ t p has is. let short = (first_told t p path bytes is).short
     in omega (arith, long, short))
@@ -234,7 +232,7 @@ piece_may reader t p path at bytes further valid has piece =
 
 pub piece_adds : (old : ListingReader) (path : Path) (at : ℕ) (bytes : List ℕ) (len : ℕ) → 0 < at → IsBytes bytes
     → length bytes ≡ len → IsNextPiece old path at bytes
-    → AddsCommand old (record {
+    → AddsStep old (record {
       version = old.version;
       last = record { path = old.last.path; kind = kinds.File (at + len) };
       attribute = old.attribute;
@@ -254,14 +252,14 @@ piece_adds old path at bytes len further valid long piece =
             last = record { path = last.0; kind = kinds.File last.1 };
             attribute = old.attribute;
           })
-          (next_tree t (Write path at bytes)) p) (λ i. (piece.path_is i, whole i))
+          (after_step t (Write path at bytes)) p) (λ i. (piece.path_is i, whole i))
           (reads_last old.version old.attribute later.before path (bare_entry (File content))
-          (next_tree t (Write path at bytes)) p has.version_is under
+          (after_step t (Write path at bytes)) p has.version_is under
           (later_leads t path at bytes later (has.under).is_tree) knows.next knows.names),
     ))
 
 pub piece_refused : (old : ListingReader) (path : Path) (at : ℕ) (bytes : List ℕ) → 0 < at
-    → (IsNextPiece old path at bytes → ⊥) → AddsCommand old old (Write path at bytes) false
+    → (IsNextPiece old path at bytes → ⊥) → AddsStep old old (Write path at bytes) false
 piece_refused old path at bytes further never = refused old (Write path at bytes) by_write
   where
     by_write : (t : Tree) (p : Parameters) → HasRead old t p → IsNext t p (Write path at bytes) → ⊥
@@ -314,10 +312,10 @@ name_may reader t p path name bytes named valid has next =
 
 pub name_adds : (old : ListingReader) (path : Path) (name : Name) (bytes : List ℕ) → IsTrue (is_attribute_name name)
     → IsBytes bytes → IsNextName old path name bytes
-    → AddsCommand old (record { version = old.version; last = old.last; attribute = Some name })
-    (SetAttribute path name bytes) true
+    → AddsStep old (record { version = old.version; last = old.last; attribute = Some name })
+    (Set path name bytes) true
 name_adds old path name bytes named valid next =
-    taken old _ (SetAttribute path name bytes) refl
+    taken old _ (Set path name bytes) refl
     (λ t p has.
     let later = name_may old t p path name bytes named valid has next in
     let more : Attributes = later.attributes ++ (name, bytes) ∷ [] in
@@ -330,13 +328,13 @@ name_adds old path name bytes named valid next =
             last = record { path = last.0; kind = last.1 };
             attribute = Some name;
           })
-          (next_tree t (SetAttribute path name bytes)) p) (λ i. (knows.path_is i, sym knows.kind_is i))
+          (after_step t (Set path name bytes)) p) (λ i. (knows.path_is i, sym knows.kind_is i))
           (reads_last old.version (Some name) later.before path (named_entry later.node more)
-          (next_tree t (SetAttribute path name bytes)) p has.version_is under
+          (after_step t (Set path name bytes)) p has.version_is under
           (name_leads t p path name bytes later (has.under).is_tree) knows.next (later.attributes, bytes, refl)),
     ))
 
 pub name_refused : (old : ListingReader) (path : Path) (name : Name) (bytes : List ℕ)
-    → (IsNextName old path name bytes → ⊥) → AddsCommand old old (SetAttribute path name bytes) false
+    → (IsNextName old path name bytes → ⊥) → AddsStep old old (Set path name bytes) false
 name_refused old path name bytes never =
-    refused old (SetAttribute path name bytes) (λ t p has is. never (name_told old t p path name bytes has is))
+    refused old (Set path name bytes) (λ t p has is. never (name_told old t p path name bytes has is))

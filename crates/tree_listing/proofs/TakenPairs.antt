@@ -1,26 +1,19 @@
--- Each command that goes on with a dump: its pairs are taken.
+-- Each step that goes on with a dump: its pairs are taken.
 use Rattle.std.specs.Result.{OnOk}
 use Rattle.std.proofs.Common.{Result, Ok, ◌≡◌, ℕ, ◌+◌, ◌*◌, List, [], ◌∷◌, ◌++◌, length, ◌⊎◌, inl, inr, refl, sym}
 use Rattle.std.proofs.Common.{subst, arith}
 use Rattle.store_base.specs.declared.fault.NoMemory.{NoMemory}
-use Rattle.store_model.specs.Commands.{Command}
-use Rattle.store_model.specs.Commands.Command.{Make, Write, SetAttribute}
 use Rattle.store_model.specs.Draws.{Draw, draw_of}
 use Rattle.store_model.specs.Pages.{IsTreeUnder}
 use Rattle.store_model.specs.Parameters.{Parameters}
 use Rattle.store_model.specs.Paths.{Path, Name, key}
 use Rattle.store_model.specs.Pairs.{directory_value, is_inline, file_pairs, node_pairs}
-use Rattle.store_model.specs.Steps.{next_tree}
 use Rattle.store_model.specs.Trees.{Tree, IsAttribute}
 use Rattle.store_model.specs.Trees.Node.{Directory, File}
 use Rattle.store_model.proofs.ListsLemmas.{all_back}
 use Rattle.tree_reader.specs.Seen.{MayStandNext, bare_entry}
-use Rattle.path_keys.specs.declared.paths.Path as paths
-use Rattle.path_keys.specs.declared.attributes.AttrName as attributes
-use Rattle.store_base.specs.declared.value.Bytes as values
-use Rattle.script_lines.specs.declared.command.Command as declared
-use Rattle.script_lines.specs.declared.command.Command.TheVariants as declarations
-use Rattle.script_lines.specs.Parsing.{command_of}
+use Rattle.tree_listing.specs.Dumps.{after_step}
+use Rattle.tree_listing.specs.Dumps.DumpStep.{Make, Write, Set}
 use Rattle.tree_listing.specs.declared.pairs.ListedPairs.{ListedPairs}
 use Rattle.tree_listing.specs.Listed.{HoldsListed, TakesPairs, AddsPairs, AddsPiece, AddsAttribute}
 use Rattle.tree_listing.proofs.DumpFronts.{next_of_goes_on}
@@ -41,7 +34,7 @@ unfolding node_pairs
 takes_directory old new path d value result draw params first value_is added = record {
   taken = λ t p held under goes.
       let next : MayStandNext t path = next_of_goes_on t (Make path) p under goes in
-      on_ok result (λ adds. held_of new (t ++ (path, bare_entry Directory) ∷ []) (next_tree t (Make path)) p
+      on_ok result (λ adds. held_of new (t ++ (path, bare_entry Directory) ∷ []) (after_step t (Make path)) p
       (sym (tree_of_make t path next))
       (holds_path old new t path Directory p d held draw params
       (subst (λ (v : List ℕ). AddsPairs d old.pairs ((key path 0, v) ∷ []) old new) value_is adds) first)) added;
@@ -51,10 +44,10 @@ takes_directory old new path d value result draw params first value_is added = r
 first_write : (old new : ListedPairs) (t : Tree) (path : Path) (bytes : List ℕ) (p : Parameters) (d : Draw)
     → d ≡ draw_of old.params → new.params ≡ old.params → new.first ≡ length old.pairs
     → AddsPairs d old.pairs (file_pairs (is_inline old.params.version (length bytes)) path bytes) old new
-    → HoldsListed old t p → MayStandNext t path → HoldsListed new (next_tree t (Write path 0 bytes)) p
+    → HoldsListed old t p → MayStandNext t path → HoldsListed new (after_step t (Write path 0 bytes)) p
 unfolding node_pairs
 first_write old new t path bytes p d draw params first adds held next =
-    held_of new (t ++ (path, bare_entry (File bytes)) ∷ []) (next_tree t (Write path 0 bytes)) p
+    held_of new (t ++ (path, bare_entry (File bytes)) ∷ []) (after_step t (Write path 0 bytes)) p
     (sym (tree_of_first t path bytes next))
     (holds_path old new t path (File bytes) p d held draw params
     (subst (λ (q : Parameters). AddsPairs d old.pairs (file_pairs (is_inline q.version (length bytes)) path bytes) old
@@ -81,7 +74,7 @@ takes_file old new path at bytes d result start draw params first added =
     by_kind : (t : Tree) (p : Parameters) → HoldsListed old t p
         → AddsPairs d old.pairs (file_pairs (is_inline old.params.version (length bytes)) path bytes) old new
         → IsFirstWrite t path 0 bytes ⊎ IsLaterWrite t path 0 bytes
-        → HoldsListed new (next_tree t (Write path 0 bytes)) p
+        → HoldsListed new (after_step t (Write path 0 bytes)) p
     by_kind t p held adds (inl write) = first_write old new t path bytes p d draw params first adds held write.next
     by_kind t p held adds (inr later) = absurd (no_later t path bytes later)
 
@@ -89,7 +82,7 @@ takes_file old new path at bytes d result start draw params first added =
 later_write : (old new : ListedPairs) (t : Tree) (path : Path) (at : ℕ) (bytes : List ℕ) (p : Parameters) (d : Draw)
     → d ≡ draw_of old.params → new.params ≡ old.params → new.first ≡ old.first
     → AddsPiece d path at bytes old new → HoldsListed old t p → IsTreeUnder t p → IsLaterWrite t path at bytes
-    → HoldsListed new (next_tree t (Write path at bytes)) p
+    → HoldsListed new (after_step t (Write path at bytes)) p
 later_write old new t path at bytes p d draw params first adds held under later =
     let before = later.before in
     let content = later.content in
@@ -100,7 +93,7 @@ later_write old new t path at bytes p d draw params first adds held under later 
     let piece : AddsPiece d path (length content) bytes old new =
     subst (λ n. AddsPiece d path n bytes old new) later.at_is adds in
     held_of new (before ++ (path, bare_entry (File (content ++ bytes))) ∷ [])
-    (next_tree t (Write path at bytes)) p (sym leads)
+    (after_step t (Write path at bytes)) p (sym leads)
     (holds_piece old new before path content bytes (8 * later.pieces + 7) p d
     (held_of old t was p later.entries_are held) draw params (omega (arith, full)) (piece fits) first)
 
@@ -115,7 +108,7 @@ takes_piece old new path at bytes d result further draw params first added = rec
   where
     by_kind : (t : Tree) (p : Parameters) → HoldsListed old t p → IsTreeUnder t p → AddsPiece d path at bytes old new
         → IsFirstWrite t path at bytes ⊎ IsLaterWrite t path at bytes
-        → HoldsListed new (next_tree t (Write path at bytes)) p
+        → HoldsListed new (after_step t (Write path at bytes)) p
     by_kind t p held under adds (inl write) = absurd (further write.at_is)
     by_kind t p held under adds (inr later) =
         later_write old new t path at bytes p d draw params first adds held under later
@@ -123,15 +116,15 @@ takes_piece old new path at bytes d result further draw params first added = rec
 -- an attribute
 pub takes_name : (old new : ListedPairs) (path : Path) (name : Name) (bytes : List ℕ) (d : Draw)
     (result : Result (Unit {0}) NoMemory) → d ≡ draw_of old.params → new.params ≡ old.params → new.first ≡ old.first
-    → OnOk result (AddsAttribute d path name bytes old new) → TakesPairs old new (SetAttribute path name bytes) result
+    → OnOk result (AddsAttribute d path name bytes old new) → TakesPairs old new (Set path name bytes) result
 takes_name old new path name bytes d result draw params first added = record {
   taken = λ t p held under goes. on_ok result
-      (λ adds. by_entry t p held under adds (next_of_goes_on t (SetAttribute path name bytes) p under goes)) added;
+      (λ adds. by_entry t p held under adds (next_of_goes_on t (Set path name bytes) p under goes)) added;
 }
   where
     by_entry : (t : Tree) (p : Parameters) → HoldsListed old t p → IsTreeUnder t p
         → AddsAttribute d path name bytes old new → IsLaterName t p path name bytes
-        → HoldsListed new (next_tree t (SetAttribute path name bytes)) p
+        → HoldsListed new (after_step t (Set path name bytes)) p
     by_entry t p held under adds later =
         let before = later.before in
         let was : Tree = before ++ (path, named_entry later.node later.attributes) ∷ [] in
@@ -141,45 +134,6 @@ takes_name old new path name bytes d result draw params first added = record {
         (all_back (IsAttribute path) later.attributes ((name, bytes) ∷ []) (later.are).each).0 in
         let leads = name_leads t p path name bytes later under.is_tree in
         held_of new (before ++ (path, named_entry later.node (later.attributes ++ (name, bytes) ∷ [])) ∷ [])
-        (next_tree t (SetAttribute path name bytes)) p (sym leads)
+        (after_step t (Set path name bytes)) p (sym leads)
         (holds_name old new before path later.node later.attributes name bytes p d
         (held_of old t was p later.entries_are held) draw params (adds next.below_root is) first)
-
--- no dump has such a command
-pub takes_none : (old : ListedPairs) (c : Command) (result : Result (Unit {0}) NoMemory)
-    → ((t : Tree) (p : Parameters) → IsNext t p c → ⊥) → TakesPairs old old c result
-takes_none old c result none = record {
-  taken = λ t p held under goes. absurd (none t p (next_of_goes_on t c p under goes));
-}
-
--- so it is with each but these three
-pub takes_other : (old : ListedPairs) (command : declared.Command)
-    → ((path : paths.Path) → command ≡ declarations.Make path → ⊥)
-    → ((path : paths.Path) (at : ℕ) (bytes : values.Bytes) → command ≡ declarations.Write path at bytes → ⊥)
-    → ((path : paths.Path) (name : attributes.AttrName) (bytes : values.Bytes)
-    → command ≡ declarations.Set path name bytes → ⊥) → TakesPairs old old (command_of command) (Ok tt)
-takes_other old (declarations.Make path) make write set = absurd (make path refl)
-takes_other old (declarations.Write path at bytes) make write set = absurd (write path at bytes refl)
-takes_other old (declarations.Set path name bytes) make write set = absurd (set path name bytes refl)
-takes_other old (declarations.Cut path len) make write set =
-    takes_none old (command_of (declarations.Cut path len)) (Ok tt) (λ t p never. never)
-takes_other old (declarations.Rename from to) make write set =
-    takes_none old (command_of (declarations.Rename from to)) (Ok tt) (λ t p never. never)
-takes_other old (declarations.Remove path) make write set =
-    takes_none old (command_of (declarations.Remove path)) (Ok tt) (λ t p never. never)
-takes_other old (declarations.Prune path) make write set =
-    takes_none old (command_of (declarations.Prune path)) (Ok tt) (λ t p never. never)
-takes_other old (declarations.List path) make write set =
-    takes_none old (command_of (declarations.List path)) (Ok tt) (λ t p never. never)
-takes_other old (declarations.Read path at len) make write set =
-    takes_none old (command_of (declarations.Read path at len)) (Ok tt) (λ t p never. never)
-takes_other old declarations.Space make write set =
-    takes_none old (command_of declarations.Space) (Ok tt) (λ t p never. never)
-takes_other old declarations.Digest make write set =
-    takes_none old (command_of declarations.Digest) (Ok tt) (λ t p never. never)
-takes_other old (declarations.Unset path name) make write set =
-    takes_none old (command_of (declarations.Unset path name)) (Ok tt) (λ t p never. never)
-takes_other old (declarations.Get path name) make write set =
-    takes_none old (command_of (declarations.Get path name)) (Ok tt) (λ t p never. never)
-takes_other old (declarations.Attrs path) make write set =
-    takes_none old (command_of (declarations.Attrs path)) (Ok tt) (λ t p never. never)

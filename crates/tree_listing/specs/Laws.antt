@@ -4,16 +4,15 @@ use Rattle.std.specs.List.{AllByRecursion}
 use Rattle.store_model.specs.Parameters.{Parameters}
 use Rattle.store_model.specs.Trees.{Tree, empty_tree}
 use Rattle.store_model.specs.Pages.{Fits, IsTreeUnder}
-use Rattle.store_model.specs.Commands.{Command}
 use Rattle.store_model.specs.Commands.Reply.{Acknowledged}
 use Rattle.store_model.specs.Scripts.{lines, replies, tree_after}
-use Rattle.tree_listing.specs.Dumps.{dump}
+use Rattle.tree_listing.specs.Dumps.{DumpStep, dump}
 
--- The commands are the dump of a tree that an image with these parameters may hold.
-pub record HasDump (commands : List Command) (p : Parameters) : Type 0 where
+-- The steps are the dump of a tree that an image with these parameters may hold.
+pub record HasDump (steps : List DumpStep) (p : Parameters) : Type 0 where
   pub tree : Tree
   pub under : IsTreeUnder tree p
-  pub dump_is : dump tree ≡ commands
+  pub dump_is : dump tree ≡ steps
 
 -- On the empty tree each line of the script is answered `ok`, each tree on the way fits, and the last one is this.
 pub record RunsListing (t : Tree) (p : Parameters) (script : List ℕ) : Type 0 where

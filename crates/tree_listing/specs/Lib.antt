@@ -1,4 +1,5 @@
 pub mod Dumps
+pub mod Steps
 pub mod Reading
 pub mod Listed
 pub mod Listings

@@ -10,11 +10,10 @@ use Rattle.store_model.specs.Paths.{Path, Name, is_root, key, attribute_key}
 use Rattle.store_model.specs.Draws.{Draw, draw_of}
 use Rattle.store_model.specs.Pairs.{Pair, file_block, file_value, attribute_value, pairs}
 use Rattle.store_model.specs.Pages.{page_count}
-use Rattle.store_model.specs.Commands.{Command}
-use Rattle.store_model.specs.Steps.{next_tree}
 use Rattle.store_model.specs.Pages.{IsTreeUnder}
 use Rattle.layout_scratch.specs.Counting.{HasCounted}
 use Rattle.layout_scratch.specs.Sorting.{sorted_limit}
+use Rattle.tree_listing.specs.Dumps.{DumpStep, after_step}
 use Rattle.tree_listing.specs.Reading.{GoesOn}
 use Rattle.tree_listing.specs.declared.pairs.ListedPairs.{ListedPairs}
 
@@ -35,10 +34,10 @@ pub record HoldsListed (listed : ListedPairs) (t : Tree) (p : Parameters) : Type
   pub kept : listed.counter.pages ≤ p.slots → listed.pairs ≡ pairs t p
   pub first : listed.counter.pages ≤ p.slots → IsFirstOfLast t p listed.first
 
--- the pairs of a command are taken that goes on with the dump of a tree
-pub record TakesPairs (old new : ListedPairs) (c : Command) (result : Result (Unit {0}) NoMemory) : Type 0 where
-  pub taken : (t : Tree) (p : Parameters) → HoldsListed old t p → IsTreeUnder t p → GoesOn t c p
-      → OnOk result (HoldsListed new (next_tree t c) p)
+-- the pairs of a step are taken that goes on with the dump of a tree
+pub record TakesPairs (old new : ListedPairs) (s : DumpStep) (result : Result (Unit {0}) NoMemory) : Type 0 where
+  pub taken : (t : Tree) (p : Parameters) → HoldsListed old t p → IsTreeUnder t p → GoesOn t s p
+      → OnOk result (HoldsListed new (after_step t s) p)
 
 -- these pairs stand behind those that there were, and are counted behind them
 pub record AddsPairs (d : Draw) (before added : List Pair) (old new : ListedPairs) : Type 0 where

@@ -1,41 +1,39 @@
--- What a reader of a listing knows, and what taking a command does.
+-- What a reader of a listing knows, and what taking a step does.
 use Rattle.std.specs.Prelude.{◌≡◌, ◌↔◌, ℕ, ◌+◌, ◌%◌, ◌<◌, ◌≤◌, length, List, [], ◌∷◌, ◌++◌, Bool, IsTrue, None, false}
 use Rattle.std.specs.Bool.{OnTrue, OnFalse}
 use Rattle.store_model.specs.Parameters.{Parameters}
 use Rattle.store_model.specs.Paths.{Path, Name, is_root, fits_attribute}
 use Rattle.store_model.specs.Trees.{Tree, attributes_at, file_limit, attribute_limit}
-use Rattle.store_model.specs.Commands.{Command}
-use Rattle.store_model.specs.Steps.{next_tree}
 use Rattle.store_model.specs.Pages.{IsTreeUnder}
 use Rattle.tree_pairs.specs.declared.kind.Kind.{Kind}
 use Rattle.tree_pairs.specs.declared.kind.Kind.TheVariants as kinds
-use Rattle.tree_listing.specs.Dumps.{dump, dump_piece}
+use Rattle.tree_listing.specs.Dumps.{DumpStep, after_step, dump, dump_piece}
 use Rattle.tree_reader.specs.Seen.{IsLast, IsLastName, MayFollow, MayBeNext}
 use Rattle.tree_listing.specs.declared.reader.ListingReader.{ListingReader}
 
--- The reader has taken the dump of the tree and no other command: it knows the last entry, and the name of its last
+-- The reader has taken the dump of the tree and no other step: it knows the last entry, and the name of its last
 -- attribute. A caller needs no more of this than that a new reader has taken that of the empty tree, and one that
--- took a command the dump with it.
+-- took a step the dump with it.
 pub record HasRead (reader : ListingReader) (t : Tree) (p : Parameters) : Type 0 where
   pub version_is : p.version ≡ reader.version
   pub under : IsTreeUnder t p
   pub last : IsLast reader.last.path reader.last.kind t
   pub last_name : IsLastName reader.attribute (attributes_at t reader.last.path)
 
--- the dump of the tree and one command more are the dump of the tree that the command leads to
-pub record GoesOn (t : Tree) (c : Command) (p : Parameters) : Type 0 where
-  pub under : IsTreeUnder (next_tree t c) p
-  pub dump_is : dump (next_tree t c) ≡ dump t ++ c ∷ []
+-- the dump of the tree and one step more are the dump of the tree that the step leads to
+pub record GoesOn (t : Tree) (s : DumpStep) (p : Parameters) : Type 0 where
+  pub under : IsTreeUnder (after_step t s) p
+  pub dump_is : dump (after_step t s) ≡ dump t ++ s ∷ []
 
--- no dump begins with that of the tree and the command
-abbrev pub BreaksOff : Tree → Command → Parameters → Type 0
-BreaksOff t c p = (u : Tree) (rest : List Command) → IsTreeUnder u p → dump u ≡ dump t ++ c ∷ rest → ⊥
+-- no dump begins with that of the tree and the step
+abbrev pub BreaksOff : Tree → DumpStep → Parameters → Type 0
+BreaksOff t s p = (u : Tree) (rest : List DumpStep) → IsTreeUnder u p → dump u ≡ dump t ++ s ∷ rest → ⊥
 
--- A command behind those that a reader has taken. It is taken where some tree's dump begins so, and just there.
-pub record AddsCommand (old new : ListingReader) (c : Command) (result : Bool) : Type 0 where
-  pub read : (t : Tree) (p : Parameters) → HasRead old t p → OnTrue result (HasRead new (next_tree t c) p)
-  pub goes_on : (t : Tree) (p : Parameters) → HasRead old t p → OnTrue result (GoesOn t c p)
-  pub refused : (t : Tree) (p : Parameters) → HasRead old t p → OnFalse result (BreaksOff t c p)
+-- A step behind those that a reader has taken. It is taken where some tree's dump begins so, and just there.
+pub record AddsStep (old new : ListingReader) (s : DumpStep) (result : Bool) : Type 0 where
+  pub read : (t : Tree) (p : Parameters) → HasRead old t p → OnTrue result (HasRead new (after_step t s) p)
+  pub goes_on : (t : Tree) (p : Parameters) → HasRead old t p → OnTrue result (GoesOn t s p)
+  pub refused : (t : Tree) (p : Parameters) → HasRead old t p → OnFalse result (BreaksOff t s p)
   pub unchanged : OnFalse result (new ≡ old)
   pub version : new.version ≡ old.version
 
@@ -43,7 +41,7 @@ pub record AddsCommand (old new : ListingReader) (c : Command) (result : Bool) :
 abbrev pub IsNextPath : ListingReader → Path → Type 0
 IsNextPath reader path = (is_root path ≡ false) × MayFollow reader.last.path reader.last.kind path
 
--- what a reader does at the first command of an entry: it takes the entry where it may stand next, and just there
+-- what a reader does at the first step of an entry: it takes the entry where it may stand next, and just there
 pub record AddsEntry (old new : ListingReader) (path : Path) (kind : Kind) (result : Bool) : Type 0 where
   pub next : IsTrue result ↔ IsNextPath old path
   pub taken : OnTrue result (new ≡ record {

@@ -1,22 +1,21 @@
-//! A listing, while its commands come.
+//! A listing, while its steps come.
 
 ghost use Rattle.std.specs.Prelude.{◌≡◌, []};
 ghost use Rattle.std.specs.Option.{option_map};
 ghost use Rattle.store_model.specs.Parameters.{Parameters};
 ghost use Rattle.store_model.specs.Trees.{Tree};
 ghost use Rattle.store_model.specs.Pages.{page_count};
-ghost use Rattle.script_lines.specs.Parsing.{command_of};
 ghost use Rattle.tree_listing.specs.Listed.{TellsPairs};
-ghost use Rattle.tree_listing.specs.Listings.{IsListed, TakesCommand};
+ghost use Rattle.tree_listing.specs.Listings.{IsListed, TakesStep};
 
 use crate::pairs::ListedPairs;
 use crate::reader::ListingReader;
+use crate::step::DumpStep;
 use node_pages::PairList;
-use script_lines::{Command, reveal};
 use std::alloc::Global;
 use store_base::{NoMemory, Params};
 
-/// The commands of a listing that came so far: they are the dump of a tree under the parameters of an image. What is
+/// The steps of a listing that came so far: they are the dump of a tree under the parameters of an image. What is
 /// kept of them are the pairs of that tree, unless it is too large for the image.
 #[derive(Drop)]
 pub struct Listing {
@@ -25,7 +24,7 @@ pub struct Listing {
 }
 
 impl Listing {
-    /// A listing to which no command came. It takes no memory.
+    /// A listing to which no step came. It takes no memory.
     pub fn new(alloc: Global, params: &Params) -> Self
         ensures { IsListed result [] params.now }
     {
@@ -35,18 +34,17 @@ impl Listing {
         }
     }
 
-    /// Takes the next command, and says whether some tree's dump begins with those that were taken and this one. If
+    /// Takes the next step, and says whether some tree's dump begins with those that were taken and this one. If
     /// not, nothing changed.
     /// `NoMemory`: memory ran out, or the tree would have more than 268,435,456 pairs. Ask nothing more of the
     /// listing then.
-    pub fn add(&mut self, command: &Command) -> Result<bool, NoMemory>
-        ensures { TakesCommand self.old self.new (command_of command.now) result }
+    pub fn add(&mut self, step: &DumpStep) -> Result<bool, NoMemory>
+        ensures { TakesStep self.old self.new step.now result }
     {
-        reveal(command);
-        if !self.reader.add(command) {
+        if !self.reader.add(step) {
             return Ok(false);
         }
-        self.listed.take(command)?;
+        self.listed.take(step)?;
         Ok(true)
     }
 

@@ -6,18 +6,17 @@ ghost use Rattle.store_model.specs.Parameters.{Parameters, height_limit};
 ghost use Rattle.store_model.specs.Trees.{Tree};
 ghost use Rattle.store_model.specs.Paths as paths;
 ghost use Rattle.store_model.specs.Pairs as model;
-ghost use Rattle.store_model.specs.Commands.Command.{Write};
 ghost use Rattle.store_model.specs.Draws.{draw_of};
 ghost use Rattle.store_model.specs.Pages.{page_count};
 ghost use Rattle.seeded_draw.specs.AnyDrawn.{any_draw};
-ghost use Rattle.script_lines.specs.Parsing.{command_of};
+ghost use Rattle.tree_listing.specs.Dumps.DumpStep.{Write};
 ghost use Rattle.tree_listing.specs.Listed.{HoldsListed, TakesPairs, AddsPairs, AddsPiece, AddsAttribute, TellsPairs};
 ghost use Rattle.tree_listing.specs.Listed.{blocks_from, with_length};
 
+use crate::step::{DumpStep, Step};
 use layout_scratch::PageCounter;
 use node_pages::PairList;
 use path_keys::{AttrName, Path, attr_key};
-use script_lines::Command;
 use seeded_draw::{AnyDraw, Front};
 use std::alloc::Global;
 use store_base::{Bytes, Key, NoMemory, Params, Value};
@@ -60,7 +59,7 @@ fn drawn_by(params: &Params) -> AnyDraw
 }
 
 impl ListedPairs {
-    /// The pairs of no command.
+    /// The pairs of no step.
     pub fn new(alloc: Global, params: &Params) -> Self
         ensures params { result.params ≡ params.now }
         ensures listed { HoldsListed result [] params.now }
@@ -74,15 +73,15 @@ impl ListedPairs {
         }
     }
 
-    /// Takes the pairs of a command that goes on with the dump.
+    /// Takes the pairs of a step that goes on with the dump.
     /// `NoMemory`: memory ran out, or there would be more than 268,435,456 pairs; what is kept is spoilt then.
-    pub fn take(&mut self, command: &Command) -> Result<(), NoMemory>
+    pub fn take(&mut self, step: &DumpStep) -> Result<(), NoMemory>
         ensures params { self.new.params ≡ self.old.params }
-        ensures taken { TakesPairs self.old self.new (command_of command.now) result }
+        ensures taken { TakesPairs self.old self.new step.now result }
         ensures emptied { OnOk result (self.new.params.slots < self.new.counter.pages
             → self.new.pairs ≡ []) }
     {
-        self.push_pairs(command)?;
+        self.push_pairs(step)?;
         self.let_go();
         Ok(())
     }
@@ -99,21 +98,20 @@ impl ListedPairs {
         }
     }
 
-    /// Adds the pairs of a command that goes on with the dump. Of one that is in no dump some may be added.
-    fn push_pairs(&mut self, command: &Command) -> Result<(), NoMemory>
+    /// Adds the pairs of a step that goes on with the dump.
+    fn push_pairs(&mut self, step: &DumpStep) -> Result<(), NoMemory>
         ensures params { self.new.params ≡ self.old.params }
-        ensures taken { TakesPairs self.old self.new (command_of command.now) result }
+        ensures taken { TakesPairs self.old self.new step.now result }
     {
         let draw = drawn_by(&self.params);
-        match command {
-            Command::Make(path) => self.push_first(&draw, path, directory_value()),
-            Command::Write(path, at, bytes) => self.push_bytes(&draw, path, *at, bytes),
-            Command::Set(path, name, bytes) => self.push_attribute(&draw, path, name, bytes),
-            _ => Ok(()),
+        match step.parts() {
+            Step::Make(path) => self.push_first(&draw, path, directory_value()),
+            Step::Write(path, at, bytes) => self.push_bytes(&draw, path, at, bytes),
+            Step::Set(path, name, bytes) => self.push_attribute(&draw, path, name, bytes),
         }
     }
 
-    /// Adds the pairs of a command that writes.
+    /// Adds the pairs of a step that writes.
     fn push_bytes(
         &mut self,
         draw: &AnyDraw,

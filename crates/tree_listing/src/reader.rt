@@ -1,15 +1,15 @@
-//! Which command may be the next of a dump.
+//! Which step may be the next of a dump.
 
 ghost use Rattle.std.specs.Prelude.{◌≡◌, ◌↔◌, ◌<◌, IsTrue};
 ghost use Rattle.store_model.specs.Commands.{IsCommand};
-ghost use Rattle.store_model.specs.Commands.Command.{Make, Write, SetAttribute};
 ghost use Rattle.store_model.specs.Parameters.{Parameters};
 ghost use Rattle.store_model.specs.Trees.{empty_tree};
-ghost use Rattle.script_lines.specs.Parsing.{command_of};
-ghost use Rattle.tree_listing.specs.Reading.{HasRead, AddsCommand, AddsEntry, IsNextPath, IsNextPiece, IsNextName};
+ghost use Rattle.tree_listing.specs.Dumps.{command_of_step};
+ghost use Rattle.tree_listing.specs.Dumps.DumpStep.{Make, Write, Set};
+ghost use Rattle.tree_listing.specs.Reading.{HasRead, AddsStep, AddsEntry, IsNextPath, IsNextPiece, IsNextName};
 
+use crate::step::{DumpStep, Step};
 use path_keys::{AttrName, Path, attr_key};
-use script_lines::Command;
 use store_base::Bytes;
 use store_model::Version;
 use tree_pairs::{ATTRIBUTE_LIMIT, FILE_LIMIT, Kind};
@@ -18,8 +18,8 @@ use tree_reader::{Entry, has_attributes, is_above};
 /// The most bytes that one line of a dump writes.
 pub const DUMP_PIECE: u32 = 2048;
 
-/// Reads the commands of a dump one after another. It knows the last entry and the name of its last attribute, and no
-/// tree: as long as all commands were taken, they are the dump of a tree, whose last entry this is.
+/// Reads the steps of a dump one after another. It knows the last entry and the name of its last attribute, and no
+/// tree: as long as all steps were taken, they are the dump of a tree, whose last entry this is.
 #[derive(Clone, Copy, Debug)]
 pub struct ListingReader {
     /// The version of the format under which the tree is to stand.
@@ -31,7 +31,7 @@ pub struct ListingReader {
 }
 
 impl ListingReader {
-    /// A reader under one version to which no command came.
+    /// A reader under one version to which no step came.
     pub fn new(version: Version) -> Self
         ensures version { result.version ≡ version }
         ensures read { (p : Parameters) → p.version ≡ version → HasRead result empty_tree p }
@@ -43,34 +43,32 @@ impl ListingReader {
         }
     }
 
-    /// Takes the next command, and says whether some tree's dump begins with those that were taken and this one,
-    /// under the reader's version. Then these are the whole dump of the tree that the command leads to. If not,
+    /// Takes the next step, and says whether some tree's dump begins with those that were taken and this one,
+    /// under the reader's version. Then these are the whole dump of the tree that the step leads to. If not,
     /// nothing changed.
-    pub fn add(&mut self, command: &Command) -> bool
-        requires { IsCommand (command_of command.now) }
-        ensures { AddsCommand self.old self.new (command_of command.now) result }
+    pub fn add(&mut self, step: &DumpStep) -> bool
+        ensures { AddsStep self.old self.new step.now result }
     {
-        match command {
-            Command::Make(path) => self.add_directory(path),
-            Command::Write(path, 0, bytes) => self.add_file(path, bytes),
-            Command::Write(path, at, bytes) => self.add_piece(path, *at, bytes),
-            Command::Set(path, name, bytes) => self.add_attribute(path, name, bytes),
-            _ => false,
+        match step.parts() {
+            Step::Make(path) => self.add_directory(path),
+            Step::Write(path, 0, bytes) => self.add_file(path, bytes),
+            Step::Write(path, at, bytes) => self.add_piece(path, at, bytes),
+            Step::Set(path, name, bytes) => self.add_attribute(path, name, bytes),
         }
     }
 
-    /// Takes the command that makes a directory.
+    /// Takes the step that makes a directory.
     fn add_directory(&mut self, path: &Path) -> bool
-        requires { IsCommand (Make path.now) }
-        ensures { AddsCommand self.old self.new (Make path.now) result }
+        requires { IsCommand (command_of_step (Make path.now)) }
+        ensures { AddsStep self.old self.new (Make path.now) result }
     {
         self.add_entry(path, Kind::Directory)
     }
 
-    /// Takes the first command that writes a file.
+    /// Takes the first step that writes a file.
     fn add_file(&mut self, path: &Path, bytes: &Bytes) -> bool
-        requires { IsCommand (Write path.now 0 bytes.now) }
-        ensures { AddsCommand self.old self.new (Write path.now 0 bytes.now) result }
+        requires { IsCommand (command_of_step (Write path.now 0 bytes.now)) }
+        ensures { AddsStep self.old self.new (Write path.now 0 bytes.now) result }
     {
         let len = bytes.as_slice().len() as u32;
         if len > DUMP_PIECE {
@@ -79,7 +77,7 @@ impl ListingReader {
         self.add_entry(path, Kind::File(len))
     }
 
-    /// Takes the first command of an entry, if one may stand at the path behind the last one.
+    /// Takes the first step of an entry, if one may stand at the path behind the last one.
     fn add_entry(&mut self, path: &Path, kind: Kind) -> bool
         ensures { AddsEntry self.old self.new path.now kind result }
     {
@@ -94,11 +92,11 @@ impl ListingReader {
         true
     }
 
-    /// Takes a command that writes a file further.
+    /// Takes a step that writes a file further.
     fn add_piece(&mut self, path: &Path, at: u32, bytes: &Bytes) -> bool
         requires further { 0 < at }
-        requires command { IsCommand (Write path.now at bytes.now) }
-        ensures { AddsCommand self.old self.new (Write path.now at bytes.now) result }
+        requires command { IsCommand (command_of_step (Write path.now at bytes.now)) }
+        ensures { AddsStep self.old self.new (Write path.now at bytes.now) result }
     {
         if !self.is_next_piece(path, at, bytes) {
             return false;
@@ -121,10 +119,10 @@ impl ListingReader {
             && at <= FILE_LIMIT - len
     }
 
-    /// Takes the command that gives a path an attribute.
+    /// Takes the step that gives a path an attribute.
     fn add_attribute(&mut self, path: &Path, name: &AttrName, bytes: &Bytes) -> bool
-        requires { IsCommand (SetAttribute path.now name.now bytes.now) }
-        ensures { AddsCommand self.old self.new (SetAttribute path.now name.now bytes.now) result }
+        requires { IsCommand (command_of_step (Set path.now name.now bytes.now)) }
+        ensures { AddsStep self.old self.new (Set path.now name.now bytes.now) result }
     {
         if !self.is_next_name(path, name, bytes) {
             return false;

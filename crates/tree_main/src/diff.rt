@@ -1,12 +1,11 @@
 //! `diff`: compares two listings.
 
-use crate::listing::{INPUT, Listing, ahead_of_input, is_passing, of_file, trouble_of};
+use crate::listing::{INPUT, Listing, ahead_of_input, is_passing, of_file, take_all, trouble_of};
 use crate::output::{Output, finish, output};
 use crate::trouble::{Trouble, spelled};
 use dump_diff::{
     AdditionTaker, CompareFault, Differences, compare, write_differences, write_removals,
 };
-use dump_streams::{DrainFault, drain_listing};
 
 /// Prints how two listings differ, or the script that leads from the tree of the first to that of the second, and
 /// says whether they are equal.
@@ -17,51 +16,72 @@ pub fn diff(rt: HostRuntime, first: &str, second: &str, is_script: bool) -> Resu
     if is_script {
         print_script(rt, first, second)
     } else {
-        print_marks(rt, first, second)
+        print_listings(rt, first, second)
     }
 }
 
 /// How the listings with these names differ.
 fn differences(
     rt: HostRuntime,
-    (first, one): (&str, Listing),
-    (second, other): (&str, Listing),
+    first: &str,
+    one: &mut Listing,
+    second: &str,
+    other: &mut Listing,
 ) -> Result<Differences, Trouble> {
-    let (mut one, mut other) = (one, other);
-    match compare(rt.alloc(), &mut one, &mut other) {
+    match compare(rt.alloc(), one, other) {
         Ok(found) => Ok(found),
-        Err(CompareFault::First(fault)) => Err(trouble_of(rt, first, &one, fault)),
-        Err(CompareFault::Second(fault)) => Err(trouble_of(rt, second, &other, fault)),
+        Err(CompareFault::First(fault)) => Err(trouble_of(rt, first, one, fault)),
+        Err(CompareFault::Second(fault)) => Err(trouble_of(rt, second, other, fault)),
         Err(CompareFault::NoMemory(_)) => Err(Trouble::NoMemory),
     }
 }
 
-/// Prints a line for each path at which the listings differ.
-fn print_marks(rt: HostRuntime, first: &str, second: &str) -> Result<bool, Trouble> {
-    let found = differences(
-        rt,
-        (first, of_file(rt, first)?),
-        (second, of_file(rt, second)?),
-    )?;
+/// Prints a line for each path at which two dumps differ.
+pub fn print_marks(rt: HostRuntime, found: &Differences) -> Result<(), Trouble> {
     let mut sink = output(rt)?;
-    if write_differences(&found, &mut sink).is_err() {
-        return Err(Trouble::Output);
+    match write_differences(found, &mut sink) {
+        Ok(()) => finish(&mut sink),
+        Err(_) => Err(Trouble::Output),
     }
-    finish(&mut sink)?;
+}
+
+/// How the listings in two files differ.
+fn listings_differ(rt: HostRuntime, first: &str, second: &str) -> Result<Differences, Trouble> {
+    let mut one = of_file(rt, first)?;
+    let mut other = of_file(rt, second)?;
+    differences(rt, first, &mut one, second, &mut other)
+}
+
+/// Prints a line for each path at which the listings differ.
+fn print_listings(rt: HostRuntime, first: &str, second: &str) -> Result<bool, Trouble> {
+    let found = listings_differ(rt, first, second)?;
+    print_marks(rt, &found)?;
     Ok(found.is_empty())
+}
+
+/// How the listings in two files differ, of which the second is read once more later.
+fn listings_lead(rt: HostRuntime, first: &str, second: &str) -> Result<Differences, Trouble> {
+    let mut ahead = ahead_of(rt, second)?;
+    let mut one = of_file(rt, first)?;
+    differences(rt, first, &mut one, second, &mut ahead)
 }
 
 /// Prints the script. The second listing is read twice.
 fn print_script(rt: HostRuntime, first: &str, second: &str) -> Result<bool, Trouble> {
-    let ahead = ahead_of(rt, second)?;
-    let found = differences(rt, (first, of_file(rt, first)?), (second, ahead))?;
+    let found = listings_lead(rt, first, second)?;
     let is_empty = found.is_empty();
-    let mut sink = output(rt)?;
-    if write_removals(&found, &mut sink).is_err() {
-        return Err(Trouble::Output);
-    }
-    print_additions(rt, second, found, sink)?;
+    let sink = print_removals(rt, &found)?;
+    print_additions(rt, second, AdditionTaker::new(found, sink))?;
     Ok(is_empty)
+}
+
+/// Prints the lines that take away, and gives the sink for those that follow.
+fn print_removals(rt: HostRuntime, found: &Differences) -> Result<Output, Trouble> {
+    let mut sink = output(rt)?;
+    match write_removals(found, &mut sink) {
+        Ok(()) => Ok(sink),
+        Err(_) => Err(Trouble::Output),
+    }
 }
 
 /// The second listing, which is read once more later.
@@ -82,14 +102,9 @@ fn ahead_of(rt: HostRuntime, second: &str) -> Result<Listing, Trouble> {
 fn print_additions(
     rt: HostRuntime,
     second: &str,
-    found: Differences,
-    sink: Output,
+    taker: AdditionTaker<Output>,
 ) -> Result<(), Trouble> {
-    let mut listing = of_file(rt, second)?;
-    let mut taker = AdditionTaker::new(found, sink);
-    match drain_listing(&mut listing, &mut taker) {
-        Ok(()) => finish(&mut taker.into_sink()),
-        Err(DrainFault::Taker(_)) => Err(Trouble::Output),
-        Err(DrainFault::Stream(fault)) => Err(trouble_of(rt, second, &listing, fault)),
-    }
+    let mut taker = taker;
+    take_all(rt, second, &mut taker)?;
+    finish(&mut taker.into_sink())
 }

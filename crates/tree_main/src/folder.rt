@@ -1,21 +1,24 @@
-//! A folder of the host, as the commands of its dump.
+//! A folder of the host, as the steps of its dump.
 
 use crate::progress::Watched;
 use crate::trouble::Trouble;
 use crate::words::Taken;
 use dump_streams::StreamFault;
 use host_files::{Messages, StdFolder};
-use host_folders::{FolderFault, FolderStream, find_all};
+use host_folders::{FolderFault, FolderStream, Found, find_all};
 use script_lines::StdSink;
 use std::io::Stderr;
 
-/// The commands of a folder's dump.
-pub type FolderDump = Watched<FolderStream<StdFolder<StdSink<Stderr>>>>;
+/// A folder, which names what cannot be packed on standard error.
+type Host = StdFolder<StdSink<Stderr>>;
+
+/// The steps of a folder's dump.
+pub type FolderDump = Watched<FolderStream<Host>>;
 
 /// A folder that was gone through.
 #[derive(Drop)]
 pub struct Packed {
-    /// The commands of its dump.
+    /// The steps of its dump.
     pub dump: FolderDump,
     /// Whether something was left out.
     pub lacks: bool,
@@ -26,23 +29,30 @@ pub fn go_through(rt: HostRuntime, folder: &str, taken: Taken) -> Result<Packed,
     let folder = String::from_str(rt.alloc(), folder)?;
     let sink = StdSink::new(rt.stderr());
     let mut folder = StdFolder::new(rt, folder, taken.wanted, taken.skips, sink);
-    let found = match find_all(rt.alloc(), &mut folder) {
+    let found = found_in(rt, &mut folder, taken.skips)?;
+    let lacks = folder.left_out() > 0;
+    Ok(Packed {
+        dump: Watched::new(rt, FolderStream::new(folder, found)),
+        lacks,
+    })
+}
+
+/// All that stands in a folder. Without `skips` it is a trouble that something cannot be packed.
+fn found_in(rt: HostRuntime, folder: &mut Host, skips: bool) -> Result<Vec<Found>, Trouble> {
+    let found = match find_all(rt.alloc(), folder) {
         Ok(found) => found,
         Err(FolderFault::NoMemory) => return Err(Trouble::NoMemory),
         Err(FolderFault::Unreadable) => return Err(Trouble::Said),
         Err(FolderFault::TooMany) => return Err(Trouble::TooMany),
     };
     let left_out = folder.left_out();
-    if left_out > 0 && !taken.skips {
+    if left_out > 0 && !skips {
         return Err(Trouble::CannotPack(left_out));
     }
-    Ok(Packed {
-        dump: Watched::new(rt, FolderStream::new(folder, found)),
-        lacks: left_out > 0,
-    })
+    Ok(found)
 }
 
-/// Why the commands of a folder's dump ended. What cannot be read was named already.
+/// Why the steps of a folder's dump ended. What cannot be read was named already.
 pub fn trouble_of(rt: HostRuntime, dump: &FolderDump, fault: StreamFault) -> Trouble {
     match fault {
         StreamFault::NoMemory => Trouble::NoMemory,

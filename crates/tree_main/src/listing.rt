@@ -1,7 +1,7 @@
 //! Where a listing comes from: standard input, or a file.
 
 use crate::trouble::{Trouble, copy, of_listing, spelled};
-use dump_streams::{ListingStream, StreamFault};
+use dump_streams::{DrainFault, ListingStream, StreamFault, Taker, TakerFault, drain_listing};
 use host_files::second_look;
 use script_lines::StdSource;
 use std::fs::{self, File};
@@ -32,7 +32,7 @@ impl Read for Reader {
     }
 }
 
-/// The commands of a listing.
+/// The steps of a listing.
 pub type Listing = ListingStream<StdSource<Reader>>;
 
 /// What a listing is called in a message.
@@ -44,7 +44,7 @@ fn called(rt: HostRuntime, name: &str) -> Result<String, Trouble> {
     }
 }
 
-/// The commands of the listing that a reader has.
+/// The steps of the listing that a reader has.
 fn listing_of(rt: HostRuntime, reader: Reader) -> Result<Listing, Trouble> {
     match ListingStream::new(rt.alloc(), StdSource::new(reader)) {
         Ok(listing) => Ok(listing),
@@ -82,10 +82,29 @@ pub fn of_file(rt: HostRuntime, name: &str) -> Result<Listing, Trouble> {
     }
 }
 
-/// Why the commands of a listing ended.
+/// Why the steps of a listing ended.
 pub fn trouble_of(rt: HostRuntime, name: &str, listing: &Listing, fault: StreamFault) -> Trouble {
     match called(rt, name) {
         Ok(called) => of_listing(called, listing.line(), fault),
         Err(trouble) => trouble,
+    }
+}
+
+/// Leads the listing in a file, or the one on standard input, into a taker, which fails where memory runs out or
+/// standard output cannot be written.
+pub fn take_all<T: Taker>(rt: HostRuntime, name: &str, taker: &mut T) -> Result<(), Trouble> {
+    let mut listing = of_file(rt, name)?;
+    match drain_listing(&mut listing, taker) {
+        Ok(()) => Ok(()),
+        Err(fault) => Err(of_taking(rt, name, &listing, fault)),
+    }
+}
+
+/// Why the steps of a listing were not all taken.
+fn of_taking(rt: HostRuntime, name: &str, listing: &Listing, fault: DrainFault) -> Trouble {
+    match fault {
+        DrainFault::Taker(TakerFault::NoMemory) => Trouble::NoMemory,
+        DrainFault::Taker(TakerFault::Failed) => Trouble::Output,
+        DrainFault::Stream(fault) => trouble_of(rt, name, listing, fault),
     }
 }

@@ -26,7 +26,7 @@ pub fn pack(rt: HostRuntime, folder: &str, taken: Taken) -> Result<bool, Trouble
     }
 }
 
-/// Prints the commands of a folder's dump.
+/// Prints the lines of a folder's dump.
 fn print_dump(rt: HostRuntime, dump: &mut FolderDump, sink: Output) -> Result<(), Trouble> {
     let (mut sink, drained) = write_dump(dump, sink);
     dump.finish();

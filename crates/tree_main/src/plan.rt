@@ -2,14 +2,13 @@
 
 ghost use Rattle.std.specs.Prelude.{List, ⊤};
 
-use crate::folder::{FolderDump, Packed, go_through, trouble_of};
+use crate::folder::{FolderDump, go_through, trouble_of};
 use crate::output::print;
 use crate::trouble::Trouble;
 use crate::words::{Shape, Taken, params_of};
 use dump_streams::{DrainFault, Taker, TakerFault, drain};
-use script_lines::Command;
 use store_base::{MAX_SLOTS, NoMemory, Params};
-use tree_listing::Listing;
+use tree_listing::{DumpStep, Listing};
 
 /// Counts the pages of the tree whose dump comes.
 #[derive(Drop)]
@@ -18,10 +17,10 @@ struct PageTaker {
 }
 
 impl Taker for PageTaker {
-    ghost took = { λ first now commands. ⊤ };
+    ghost took = { λ first now steps. ⊤ };
 
-    fn take(&mut self, command: &Command) -> Result<(), TakerFault> {
-        match self.listing.add(command) {
+    fn take(&mut self, step: &DumpStep) -> Result<(), TakerFault> {
+        match self.listing.add(step) {
             Ok(true) => Ok(()),
             Ok(false) => Err(TakerFault::Failed),
             Err(NoMemory) => Err(TakerFault::NoMemory),
@@ -40,13 +39,24 @@ pub fn plan(
     let Some(params) = params_of(shape) else {
         return Err(Trouble::NoShape);
     };
-    let Packed { mut dump, lacks } = go_through(rt, folder, taken)?;
-    let need = need_of(rt, &mut dump, &params)?;
+    let (need, lacks) = counted(rt, folder, taken, &params)?;
     if need > MAX_SLOTS {
         return Err(Trouble::FitsNone(need));
     }
     print_plan(rt, need, shape)?;
     Ok(!lacks)
+}
+
+/// How many slots a folder needs, and whether something was left out.
+fn counted(
+    rt: HostRuntime,
+    folder: &str,
+    taken: Taken,
+    params: &Params,
+) -> Result<(u32, bool), Trouble> {
+    let mut packed = go_through(rt, folder, taken)?;
+    let need = need_of(rt, &mut packed.dump, params)?;
+    Ok((need, packed.lacks))
 }
 
 /// Prints the plan of a folder that needs so many slots.

@@ -3,11 +3,11 @@
 ghost use Rattle.std.specs.Prelude.{List};
 
 use dump_streams::{DumpStream, StreamFault};
-use script_lines::Command;
 use std::io::IsTerminal;
 use std::time::{Duration, Instant};
+use tree_listing::{DumpStep, Step};
 
-/// How many commands come at least until the line is written anew.
+/// How many steps come at least until the line is written anew.
 const STEP: u32 = 256;
 
 /// How many milliseconds pass at least until it is written anew.
@@ -22,7 +22,7 @@ const CLEAR: &str = "\x1b[K";
 struct Watch {
     rt: HostRuntime,
     entries: u64,
-    /// How many commands come until the clock is looked at.
+    /// How many steps come until the clock is looked at.
     until: u32,
     /// When the line was written last; nothing where none is to be.
     written: Option<Instant>,
@@ -71,9 +71,9 @@ impl Watch {
         let _ = eprint!(self.rt; "{CLEAR}hstore-tree: {entries} entries\r");
     }
 
-    /// Counts a command.
-    fn count(&mut self, command: &Command) {
-        if begins_entry(command) {
+    /// Counts a step.
+    fn count(&mut self, step: &DumpStep) {
+        if begins_entry(step) {
             self.entries = self.entries.saturating_add(1);
         }
         if self.until > 0 {
@@ -108,13 +108,9 @@ impl<S> Watched<S> {
     }
 }
 
-/// Whether a command is the first of an entry.
-fn begins_entry(command: &Command) -> bool {
-    match command {
-        Command::Make(_) => true,
-        Command::Write(_, at, _) => *at == 0,
-        _ => false,
-    }
+/// Whether a step is the first of an entry.
+fn begins_entry(step: &DumpStep) -> bool {
+    matches!(step.parts(), Step::Make(_) | Step::Write(_, 0, _))
 }
 
 impl<S: DumpStream> DumpStream for Watched<S> {
@@ -126,7 +122,7 @@ impl<S: DumpStream> DumpStream for Watched<S> {
 
     ghost fails = { λ watched tree fault. S.fails watched.stream tree fault };
 
-    fn next(&mut self, into: &mut Command) -> Result<bool, StreamFault> {
+    fn next(&mut self, into: &mut DumpStep) -> Result<bool, StreamFault> {
         let is_there = self.stream.next(into)?;
         if is_there {
             self.watch.count(into);

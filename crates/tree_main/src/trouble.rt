@@ -109,7 +109,7 @@ pub fn spelled(rt: HostRuntime, name: &str) -> Result<String, Trouble> {
     Ok(format!(in rt.alloc(); "{}", Spelled(name))?)
 }
 
-/// Why the commands of the listing that is called so ended at a line.
+/// Why the steps of the listing that is called so ended at a line.
 pub fn of_listing(called: String, line: u64, fault: StreamFault) -> Trouble {
     match fault {
         StreamFault::NoMemory => Trouble::NoMemory,

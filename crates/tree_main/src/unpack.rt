@@ -15,14 +15,13 @@ type Builder = StdBuilder<StdSink<Stderr>>;
 /// Makes a folder of the listing on standard input, and says whether all of it was made. Where standard input is a
 /// file, the listing is looked through before.
 pub fn unpack(rt: HostRuntime, folder: &str, taken: Taken) -> Result<bool, Trouble> {
-    let name = String::from_str(rt.alloc(), folder)?;
     if let Some(listing) = ahead_of_input(rt)? {
-        look_through(rt, listing, name.clone()?, taken.skips)?;
+        look_through(rt, listing, folder, taken.skips)?;
     }
-    let listing = of_input(rt)?;
+    let name = String::from_str(rt.alloc(), folder)?;
     let sink = StdSink::new(rt.stderr());
     match StdBuilder::new(rt, name, taken.wanted, taken.skips, sink) {
-        Ok(mut builder) => make_all(rt, listing, &mut builder),
+        Ok(mut builder) => make_all(rt, &mut builder),
         Err(_) => Err(Trouble::Said),
     }
 }
@@ -32,13 +31,14 @@ pub fn unpack(rt: HostRuntime, folder: &str, taken: Taken) -> Result<bool, Troub
 fn look_through(
     rt: HostRuntime,
     listing: Listing,
-    folder: String,
+    folder: &str,
     skips: bool,
 ) -> Result<(), Trouble> {
     if skips {
         return lead(rt, listing, &mut NoTaker);
     }
-    let mut names = NameTaker::new(rt.alloc(), folder, StdSink::new(rt.stderr()));
+    let name = String::from_str(rt.alloc(), folder)?;
+    let mut names = NameTaker::new(rt.alloc(), name, StdSink::new(rt.stderr()));
     lead(rt, listing, &mut names)?;
     match names.left_out() {
         0 => Ok(()),
@@ -46,9 +46,9 @@ fn look_through(
     }
 }
 
-/// Makes what a listing says, or takes away what was made of it.
-fn make_all(rt: HostRuntime, listing: Listing, builder: &mut Builder) -> Result<bool, Trouble> {
-    if let Err(trouble) = make_and_finish(rt, listing, builder) {
+/// Makes what the listing on standard input says, or takes away what was made of it.
+fn make_all(rt: HostRuntime, builder: &mut Builder) -> Result<bool, Trouble> {
+    if let Err(trouble) = make_and_finish(rt, builder) {
         builder.take_away();
         return Err(trouble);
     }
@@ -56,13 +56,9 @@ fn make_all(rt: HostRuntime, listing: Listing, builder: &mut Builder) -> Result<
     Ok(builder.left_out() == 0)
 }
 
-/// Makes what a listing says.
-fn make_and_finish(
-    rt: HostRuntime,
-    listing: Listing,
-    builder: &mut Builder,
-) -> Result<(), Trouble> {
-    lead(rt, listing, builder)?;
+/// Makes what the listing on standard input says.
+fn make_and_finish(rt: HostRuntime, builder: &mut Builder) -> Result<(), Trouble> {
+    lead(rt, of_input(rt)?, builder)?;
     builder.finish().map_err(of_taker)
 }
 
@@ -78,7 +74,7 @@ fn lead<T: Taker>(rt: HostRuntime, listing: Listing, taker: &mut T) -> Result<()
     }
 }
 
-/// Why a command was not taken.
+/// Why a step was not taken.
 fn of_taker(fault: TakerFault) -> Trouble {
     match fault {
         TakerFault::NoMemory => Trouble::NoMemory,

@@ -1,8 +1,7 @@
 use Rattle.std.proofs.Common.{take}
 use Rattle.std.specs.List.{flat_map}
-use Rattle.tree_listing.specs.Dumps.{commands_text}
 use Rattle.dump_diff.specs.Differences.{marks_of}
-use Rattle.dump_diff.specs.Scripts.{AreRising, WroteText, cut_commands}
+use Rattle.dump_diff.specs.Scripts.{AreRising, WroteText, cut_commands, commands_text}
 use Rattle.dump_diff.proofs.script.write_cuts.Given as goal
 
 -- the lines of the paths so far were written

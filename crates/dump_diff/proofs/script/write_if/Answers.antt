@@ -1,9 +1,8 @@
 use Rattle.std.proofs.Common.{List, sym, ap, subst}
 use Rattle.store_model.specs.Commands.{Command}
-use Rattle.tree_listing.specs.Dumps.{commands_text}
 use Rattle.script_lines.specs.Parsing.{command_of}
 use Rattle.script_lines.specs.SinkState.{Puts}
-use Rattle.dump_diff.specs.Scripts.{WroteText, commands_in}
+use Rattle.dump_diff.specs.Scripts.{WroteText, commands_in, commands_text}
 use Rattle.dump_diff.proofs.Written.{puts_command, wrote_no_command}
 use Rattle.dump_diff.proofs.script.write_if.Goals as goal
 

@@ -2,13 +2,12 @@ use Rattle.std.proofs.Common.{List, Err, sym, subst}
 use Rattle.std.specs.List.{flat_map}
 use Rattle.std.proofs.lemmas.Result.{err_from_is_err_and}
 use Rattle.store_model.specs.Commands.{Command}
-use Rattle.tree_listing.specs.Dumps.{commands_text}
 use Rattle.script_lines.specs.SinkState.{Puts}
 use Rattle.script_lines.proofs.Putting.{Puts-then, Puts-cut}
 use Rattle.dump_diff.specs.declared.difference.AttributeDifference.{AttributeDifference}
 use Rattle.dump_diff.specs.Differences.{marks_of}
-use Rattle.dump_diff.specs.Scripts.{cut_commands, unset_commands}
-use Rattle.dump_diff.proofs.TakenAdditions.{text_append}
+use Rattle.dump_diff.specs.Scripts.{cut_commands, unset_commands, commands_text}
+use Rattle.dump_diff.proofs.Written.{text_append}
 use Rattle.dump_diff.proofs.script.write_removals.Goals as goal
 
 pub returns : goal.returns

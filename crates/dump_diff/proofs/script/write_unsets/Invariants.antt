@@ -1,7 +1,6 @@
 use Rattle.std.proofs.Common.{take}
 use Rattle.std.specs.List.{flat_map}
-use Rattle.tree_listing.specs.Dumps.{commands_text}
-use Rattle.dump_diff.specs.Scripts.{WroteText, unset_commands}
+use Rattle.dump_diff.specs.Scripts.{WroteText, unset_commands, commands_text}
 use Rattle.dump_diff.proofs.script.write_unsets.Given as goal
 
 -- the lines of the attributes so far were written

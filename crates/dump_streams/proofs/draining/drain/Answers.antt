@@ -1,9 +1,7 @@
 use Rattle.std.proofs.Common.{◌+◌, List, [], ◌∷◌, length, inl, inr, refl, sym, ap, subst, ◌∙◌, arith}
 use Rattle.std.proofs.lemmas.List.{length-append}
 use Rattle.store_model.specs.Trees.{empty_tree}
-use Rattle.store_model.specs.Commands.{Command}
-use Rattle.store_model.specs.Steps.{next_tree}
-use Rattle.script_lines.specs.Parsing.{command_of}
+use Rattle.tree_listing.specs.Dumps.{DumpStep, after_step}
 use Rattle.dump_streams.proofs.ListingSteps.{dump_none}
 use Rattle.dump_streams.specs.declared.draining.DrainFault.TheVariants as drains
 use Rattle.dump_streams.proofs.DrainSteps.{err_told}
@@ -15,7 +13,7 @@ loop-init g c = (
   λ came took. (
     empty_tree,
     came,
-    subst (λ (commands : List Command). g.T.Taker.took c.args.taker.now c.args.taker.now commands)
+    subst (λ (steps : List DumpStep). g.T.Taker.took c.args.taker.now c.args.taker.now steps)
         (sym dump_none) took,
     ap length dump_none,
   ),
@@ -37,7 +35,7 @@ returns-in_err-take-clause-drains g c came took =
     err_told c.from_residual-in_err-take.result (drains.Taker c.in_err-take.field-0.0) _ _
     c.from_residual-in_err-take.ensures.1 (record {
       tree = was.0;
-      command = command_of c.next.new.into;
+      step = c.next.new.into;
       came_is = next.came was.0 was.1;
       extends = next.extends was.0 was.1;
       before = c.loop.taker;
@@ -49,14 +47,14 @@ loop-preserved g c = (
   λ start kept. c.next.ensures.keeps start (c.loop.invariant.0 start kept),
   λ came took.
       let was = c.loop.invariant.1 came took in
-      let command = command_of c.next.new.into in
+      let step = c.next.new.into in
       let next = rw c.if-not-branch.false at c.in_ok-next.ensures.next in
       let extends = next.extends was.0 was.1 in (
-        next_tree was.0 command,
+        after_step was.0 step,
         next.came was.0 was.1,
-        subst (λ (commands : List Command). g.T.Taker.took c.args.taker.now c.take.new.self commands)
+        subst (λ (steps : List DumpStep). g.T.Taker.took c.args.taker.now c.take.new.self steps)
             (sym extends.dump_is) (c.in_ok-take.ensures c.args.taker.now _ was.2),
-        ap length extends.dump_is ∙ length-append _ (command ∷ []) ∙ ap (λ n. n + 1) was.3,
+        ap length extends.dump_is ∙ length-append _ (step ∷ []) ∙ ap (λ n. n + 1) was.3,
       ),
 )
 

@@ -3,7 +3,7 @@ use Rattle.store_model.specs.Trees.{Tree, empty_tree}
 use Rattle.tree_listing.specs.Dumps.{dump}
 use Rattle.dump_streams.proofs.draining.drain.Given as goal
 
--- the commands that came were taken, and were counted
+-- the steps that came were taken, and were counted
 abbrev pub invariant-loop : goal.invariant-loop
 invariant-loop g l =
     ((start : g.row.S.Denot) → g.S.DumpStream.keeps start l.fn.stream → g.S.DumpStream.keeps start l.stream)

@@ -1,6 +1,5 @@
 use Rattle.std.proofs.Common.{sym, subst}
-use Rattle.store_model.specs.Steps.{next_tree}
-use Rattle.script_lines.specs.Parsing.{command_of}
+use Rattle.tree_listing.specs.Dumps.{after_step}
 use Rattle.dump_diff.specs.declared.heads.Head.{Head}
 use Rattle.dump_diff.specs.Ahead.{IsAhead}
 use Rattle.dump_diff.proofs.Merging.{all_found}
@@ -15,7 +14,7 @@ returns-in_ok-take_first-in-Some-First-clause-more g c some =
     let taken = c.in_ok-take_first-in-Some-First.ensures in
     let ahead = (some.between).first in
     record {
-      one = next_tree some.one (command_of c.args.self.now.first.command);
+      one = after_step some.one c.args.self.now.first.step;
       other = some.other;
       between = record {
         first = taken.ahead some.one ahead;
@@ -31,7 +30,7 @@ returns-in_ok-take_second-in-Some-Second-clause-more g c some =
     let ahead = (some.between).second in
     record {
       one = some.one;
-      other = next_tree some.other (command_of c.args.self.now.second.command);
+      other = after_step some.other c.args.self.now.second.step;
       between = record {
         first = subst (λ (head : Head). IsAhead (g.A.DumpStream.came c.args.first.now)
             (g.A.DumpStream.whole c.args.first.now) head some.one) (sym taken.first) (some.between).first;

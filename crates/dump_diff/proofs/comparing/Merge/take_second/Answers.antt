@@ -1,16 +1,15 @@
 use Rattle.std.proofs.lemmas.Result.{on_ok_weaker}
-use Rattle.script_lines.specs.Parsing.{command_of}
-use Rattle.store_model.specs.Steps.{next_tree}
+use Rattle.tree_listing.specs.Dumps.{after_step}
 use Rattle.dump_diff.proofs.Merging.{on_ok_like, second_taken}
 use Rattle.dump_diff.proofs.comparing.Merge.take_second.Goals as goal
 
 pub returns-clause-merged : goal.returns-clause-merged
 returns-clause-merged g c t u ahead merged =
     let at = ahead.there c.requires.there in
-    let behind = merged.second_behind c.requires.there in
+    let behind = (merged.second c.requires.there).behind in
     let notes = c.in_ok-note.ensures.marks (merged.shown).rising behind.marked in
     let noted = c.in_ok-note.ensures.attributes (merged.shown).rising behind.marked in
     on_ok_like _ c.fetch.result c.map_err.result c.map_err.ensures.variant
     (on_ok_weaker c.fetch.result (λ later. second_taken c.args.self.now c.fetch.new.self c.note.new.self t u ahead
     c.requires.there c.requires.lower merged notes noted later)
-    (c.fetch.ensures.ahead (next_tree u (command_of c.args.self.now.second.command)) (at.extends).is_tree at.came_now))
+    (c.fetch.ensures.ahead (after_step u c.args.self.now.second.step) (at.extends).is_tree at.came_now))

@@ -4,8 +4,8 @@ use Rattle.dump_diff.proofs.TakenAdditions.{took_other, took_one, put_done, put_
 use Rattle.dump_diff.proofs.script.AdditionTakerTaker.take.Goals as goal
 
 pub returns-then-not-is_addition-clause-taken : goal.returns-then-not-is_addition-clause-taken
-returns-then-not-is_addition-clause-taken g c first commands took =
-    took_other g.W.Sink.state first c.args.self.now commands _
+returns-then-not-is_addition-clause-taken g c first steps took =
+    took_other g.W.Sink.state first c.args.self.now steps _
     c.is_addition.result c.if-not-is_addition.true c.is_addition.ensures took
 
 pub returns-then-not-is_addition-clause-put : goal.returns-then-not-is_addition-clause-put
@@ -13,11 +13,11 @@ returns-then-not-is_addition-clause-put g c rising is =
     absurd (false≢true (sym c.if-not-is_addition.true ∙ c.is_addition.ensures rising ∙ is))
 
 pub returns-in-Ok-clause-taken : goal.returns-in-Ok-clause-taken
-returns-in-Ok-clause-taken g c first commands took =
+returns-in-Ok-clause-taken g c first steps took =
     took_one g.W.Sink.state first c.args.self.now (record {
       found = c.args.self.now.found;
-      sink = c.write_command.new.sink;
-    }) commands _
+      sink = c.write_step.new.sink;
+    }) steps _
     c.is_addition.result c.if-not-is_addition.false c.is_addition.ensures refl took c.in-Ok.ensures
 
 pub returns-in-Ok-clause-passed : goal.returns-in-Ok-clause-passed

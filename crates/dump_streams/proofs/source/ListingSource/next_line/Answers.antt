@@ -1,6 +1,5 @@
 use Rattle.std.proofs.Common.{◌++◌, refl, ap, ◌∙◌}
-use Rattle.store_model.specs.Commands.{command_text, line}
-use Rattle.script_lines.specs.Parsing.{command_of}
+use Rattle.tree_listing.specs.Dumps.{step_line}
 use Rattle.dump_streams.specs.Rooms.{Room}
 use Rattle.dump_streams.proofs.SourceSteps.{ready_more}
 use Rattle.dump_streams.proofs.source.ListingSource.next_line.Goals as goal
@@ -12,4 +11,4 @@ returns-in-Ok-clause-ready g c bytes gave =
     ready_more g.S.DumpStream.came g.S.DumpStream.whole c.args.self.now _ bytes
     c.requires.going c.requires.none c.requires.going gave (next.came gave.tree came) (next.extends gave.tree came)
     ((c.in-Ok.ensures.observed refl).appended
-    ∙ ap (λ (r : Room). r.rest ++ line (command_text (command_of c.next.new.into))) c.clear.ensures)
+    ∙ ap (λ (r : Room). r.rest ++ step_line c.next.new.into) c.clear.ensures)

@@ -1,5 +1,4 @@
 use Rattle.std.proofs.Common.{arith}
-use Rattle.script_lines.specs.Parsing.{command_of}
 use Rattle.host_folders.specs.Packed.{CameOf, IsPacked, EndsBy}
 use Rattle.host_folders.proofs.StepLemmas.{came_whole, next_whole}
 use Rattle.host_folders.proofs.FaultLemmas.{next_failed}
@@ -10,7 +9,7 @@ returns-then-self-len-clause-next g c =
     let state = g.F.Folder.state in
     let stream = c.args.self.now in
     next_whole (CameOf state stream) (CameOf state stream) (IsPacked state stream) (EndsBy stream)
-    (command_of c.args.into.now) (λ t was. came_whole state stream t c.requires (omega arith) was)
+    c.args.into.now (λ t was. came_whole state stream t c.requires (omega arith) was)
 
 pub returns-in_err-begin_folder-in-Directory-clause-next : goal.returns-in_err-begin_folder-in-Directory-clause-next
 returns-in_err-begin_folder-in-Directory-clause-next g c =

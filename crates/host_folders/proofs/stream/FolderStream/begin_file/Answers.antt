@@ -1,6 +1,5 @@
 use Rattle.std.proofs.Common.{refl, ap, ◌∙◌, ◌+◌, Ok, sym, subst}
-use Rattle.store_model.specs.Commands.{Command}
-use Rattle.script_lines.specs.Parsing.{command_of}
+use Rattle.tree_listing.specs.Dumps.{DumpStep}
 use Rattle.host_folders.specs.Packed.{CameOf, EndsBy, AsksFor, found_at}
 use Rattle.host_folders.specs.Steps.{Gives}
 use Rattle.host_folders.specs.declared.stream.FolderStream.{FolderStream}
@@ -14,10 +13,10 @@ returns-clause-gives g c =
     let state = g.F.Folder.state in
     let old = c.args.self.now in
     let found = c.args.found.now in
-    let command = command_of c.read_piece.new.into in
+    let step = c.read_piece.new.into in
     subst (λ (stream : FolderStream g.row.F.Denot).
     Gives (CameOf state old)
-    (CameOf state (record stream { at = stream.at + 1; place = c.place_behind-self.result })) command (Ok tt))
+    (CameOf state (record stream { at = stream.at + 1; place = c.place_behind-self.result })) step (Ok tt))
     (sym c.add.ensures.same)
     (subst (λ (place : Place). Gives (CameOf state old)
     (CameOf state (record old {
@@ -25,9 +24,9 @@ returns-clause-gives g c =
       at = old.at + 1;
       place = place;
       reader = c.add.new.self.reader;
-    })) command (Ok tt))
+    })) step (Ok tt))
     (sym c.place_behind-self.ensures)
-    (gives_file state old found c.requires.kind.0 c.open.new.self c.read_piece.new.folder command
+    (gives_file state old found c.requires.kind.0 c.open.new.self c.read_piece.new.folder step
     c.in_ok-count.count c.add.new.self.reader (record {
       start = c.requires.start;
       more = c.requires.more;
@@ -41,17 +40,17 @@ returns-in_err-add-clause-failed g c t was =
     let state = g.F.Folder.state in
     let old = c.args.self.now in
     let found = c.args.found.now in
-    let command = command_of c.read_piece.new.into in
+    let step = c.read_piece.new.into in
     let here = ap (λ (s : FolderStream g.row.F.Denot). found_at s.place s.at s.found.items) c.add.ensures.same
     ∙ begun_here state old found (record {
       start = c.requires.start;
       more = c.requires.more;
       here = c.requires.here;
     }) in
-    let asks : AsksFor found command =
-    subst (λ (d : Command). AsksFor found d) (sym c.in_ok-count.ensures.piece.command_is) (refl, c.requires.kind) in
+    let asks : AsksFor found step =
+    subst (λ (d : DumpStep). AsksFor found d) (sym c.in_ok-count.ensures.piece.step_is) (refl, c.requires.kind) in
     err_of c.from_residual-in_err-add.result c.in_err-add.field-0.0 (EndsBy c.add.new.self t)
     c.from_residual-in_err-add.ensures.1
-    (ends_so state old c.add.new.self t found command
+    (ends_so state old c.add.new.self t found step
     c.add.new.self.reader c.in_err-add.field-0.0 c.in_err-add.ensures.fault was
     c.in_err-add.ensures.refused here asks)

@@ -1,6 +1,7 @@
-use Rattle.std.proofs.Common.{refl, ap, ◌∙◌, ◌+◌, Ok, sym, subst}
-use Rattle.store_model.specs.Commands.Command.{Make}
-use Rattle.host_folders.specs.Packed.{CameOf, EndsBy, found_at}
+use Rattle.std.proofs.Common.{refl, true, ap, ◌∙◌, ◌+◌, Ok, sym, subst}
+use Rattle.tree_listing.specs.Dumps.{DumpStep}
+use Rattle.tree_listing.specs.Reading.{AddsStep}
+use Rattle.host_folders.specs.Packed.{CameOf, EndsBy, AsksFor, found_at}
 use Rattle.host_folders.specs.Steps.{Gives}
 use Rattle.host_folders.specs.declared.stream.FolderStream.{FolderStream}
 use Rattle.host_folders.specs.declared.stream.Place.TheVariants as places
@@ -11,17 +12,23 @@ use Rattle.host_folders.proofs.stream.FolderStream.begin_folder.Goals as goal
 pub returns-clause-gives : goal.returns-clause-gives
 returns-clause-gives g c =
     let state = g.F.Folder.state in
+    let old = c.args.self.now in
     let found = c.args.found.now in
+    let reader = c.add.new.self.reader in
     subst (λ (stream : FolderStream g.row.F.Denot).
-    Gives (CameOf state c.args.self.now)
-    (CameOf state (record stream { at = stream.at + 1; place = places.Mode found })) (Make found.path) (Ok tt))
+    Gives (CameOf state old)
+    (CameOf state (record stream { at = stream.at + 1; place = places.Mode found })) c.make.new.self (Ok tt))
     (sym c.add.ensures.same)
-    (gives_folder state c.args.self.now found c.add.new.self.reader (record {
+    (subst (λ (step : DumpStep). Gives (CameOf state old)
+    (CameOf state (record old { at = old.at + 1; place = places.Mode found; reader = reader })) step (Ok tt))
+    (sym c.make.ensures)
+    (gives_folder state old found reader (record {
       start = c.requires.start;
       more = c.requires.more;
       here = c.requires.here;
     })
-    c.requires.kind c.in_ok-add.ensures.added)
+    c.requires.kind
+    (subst (λ (step : DumpStep). AddsStep old.reader reader step true) c.make.ensures c.in_ok-add.ensures.added)))
 
 pub returns-in_err-add-clause-failed : goal.returns-in_err-add-clause-failed
 returns-in_err-add-clause-failed g c t was =
@@ -35,6 +42,6 @@ returns-in_err-add-clause-failed g c t was =
       here = c.requires.here;
     }) in
     err_of c.from_residual.result c.in_err-add.field-0.0 (EndsBy c.add.new.self t) c.from_residual.ensures.1
-    (ends_so state old c.add.new.self t found (Make found.path)
+    (ends_so state old c.add.new.self t found c.make.new.self
     c.add.new.self.reader c.in_err-add.field-0.0 c.in_err-add.ensures.fault was c.in_err-add.ensures.refused here
-    (refl, c.requires.kind))
+    (subst (λ (step : DumpStep). AsksFor found step) (sym c.make.ensures) (refl, c.requires.kind)))

@@ -1,7 +1,7 @@
-use Rattle.std.proofs.Common.{refl, ap, Ok, sym, ap₂, codes, List, ℕ, ◌∷◌, [], true, subst}
-use Rattle.store_model.specs.Commands.{Command}
-use Rattle.store_model.specs.Commands.Command.{SetAttribute}
-use Rattle.tree_listing.specs.Reading.{AddsCommand}
+use Rattle.std.proofs.Common.{◌≡◌, refl, ap, Ok, sym, codes, List, ℕ, ◌∷◌, [], true, subst, ◌∙◌}
+use Rattle.tree_listing.specs.Dumps.{DumpStep}
+use Rattle.tree_listing.specs.Dumps.DumpStep.{Set}
+use Rattle.tree_listing.specs.Reading.{AddsStep}
 use Rattle.dump_streams.specs.Streams.{IsNext}
 use Rattle.host_folders.specs.Packed.{CameOf, IsPacked, EndsBy, AsksFor, found_at}
 use Rattle.host_folders.specs.declared.stream.FolderStream.{FolderStream}
@@ -17,16 +17,17 @@ returns-clause-next g c =
     let path = c.args.found.now.path in
     let reader = c.add.new.self.reader in
     let new = record old { place = places.Mtime c.args.found.now; reader = reader } in
-    let is = ap₂ (λ (name bytes : List ℕ). SetAttribute path name bytes) c.attribute_name.ensures.value c.new.ensures in
+    let is : c.set.new.self ≡ Set path (codes "mode") (0x78 ∷ []) =
+    c.set.ensures ∙ ap (λ (name : List ℕ). Set path name (0x78 ∷ [])) c.attribute_name.ensures.value in
     subst (λ (stream : FolderStream g.row.F.Denot).
     IsNext (CameOf state old) (CameOf state stream) (IsPacked state stream) (EndsBy stream)
-    (SetAttribute path c.attribute_name.result c.new.result) (Ok true)) (sym c.add.ensures.same)
-    (subst (λ (command : Command). IsNext (CameOf state old) (CameOf state new) (IsPacked state new)
-    (EndsBy new) command (Ok true)) (sym is)
+    c.set.new.self (Ok true)) (sym c.add.ensures.same)
+    (subst (λ (step : DumpStep). IsNext (CameOf state old) (CameOf state new) (IsPacked state new)
+    (EndsBy new) step (Ok true)) (sym is)
     (next_given (CameOf state old) (CameOf state new) (IsPacked state new) (EndsBy new)
-    (SetAttribute path (codes "mode") (0x78 ∷ []))
+    (Set path (codes "mode") (0x78 ∷ []))
     (gives_mode state old c.args.found.now reader
-    c.requires c.if-not-found.false (subst (λ (command : Command). AddsCommand old.reader reader command true) is
+    c.requires c.if-not-found.false (subst (λ (step : DumpStep). AddsStep old.reader reader step true) is
     c.in_ok-add.ensures.added))))
 
 pub returns-in_err-add-clause-next : goal.returns-in_err-add-clause-next
@@ -35,14 +36,14 @@ returns-in_err-add-clause-next g c =
     let old = c.args.self.now in
     let found = c.args.found.now in
     let here = ap (λ (s : FolderStream g.row.F.Denot). found_at s.place s.at s.found.items) c.add.ensures.same in
-    let command = SetAttribute found.path c.attribute_name.result c.new.result in
-    let is = ap₂ (λ (name bytes : List ℕ). SetAttribute found.path name bytes)
-    c.attribute_name.ensures.value c.new.ensures in
-    let asks : AsksFor found command =
-    subst (λ (d : Command). AsksFor found d) (sym is) (refl, mode_asked found c.if-not-found.false) in
+    let step = c.set.new.self in
+    let is : step ≡ Set found.path (codes "mode") (0x78 ∷ []) =
+    c.set.ensures ∙ ap (λ (name : List ℕ). Set found.path name (0x78 ∷ [])) c.attribute_name.ensures.value in
+    let asks : AsksFor found step =
+    subst (λ (d : DumpStep). AsksFor found d) (sym is) (refl, mode_asked found c.if-not-found.false) in
     next_failed (CameOf state old) (CameOf state c.add.new.self) (IsPacked state c.add.new.self)
-    (EndsBy c.add.new.self) command c.from_residual.result c.in_err-add.field-0.0
+    (EndsBy c.add.new.self) step c.from_residual.result c.in_err-add.field-0.0
     c.from_residual.ensures.1 (λ t was.
-    ends_so state old c.add.new.self t found command
+    ends_so state old c.add.new.self t found step
     c.add.new.self.reader c.in_err-add.field-0.0 c.in_err-add.ensures.fault was
     c.in_err-add.ensures.refused here asks)

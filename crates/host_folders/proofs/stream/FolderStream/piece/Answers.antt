@@ -1,6 +1,5 @@
 use Rattle.std.proofs.Common.{refl, ap, ◌∙◌, Ok, sym, true, subst}
-use Rattle.store_model.specs.Commands.{Command}
-use Rattle.script_lines.specs.Parsing.{command_of}
+use Rattle.tree_listing.specs.Dumps.{DumpStep}
 use Rattle.dump_streams.specs.Streams.{IsNext}
 use Rattle.host_folders.specs.Packed.{CameOf, IsPacked, EndsBy, AsksFor, found_at}
 use Rattle.host_folders.specs.declared.stream.FolderStream.{FolderStream}
@@ -16,9 +15,9 @@ returns-then-count-eq0-clause-next g c =
     let old = c.args.self.now in
     let mid = record old { folder = c.read_piece.new.folder; place = places.Mode c.args.found.now } in
     next_behind (CameOf state old) (CameOf state mid) (CameOf state c.mode.new.self) (IsPacked state c.mode.new.self)
-    (EndsBy c.mode.new.self) (command_of c.mode.new.into) c.mode.result
+    (EndsBy c.mode.new.self) c.mode.new.into c.mode.result
     (λ t was.
-    passes_file state old t c.args.found.now c.args.at c.read_piece.new.folder (command_of c.read_piece.new.into)
+    passes_file state old t c.args.found.now c.args.at c.read_piece.new.folder c.read_piece.new.into
     c.in_ok-count.count c.requires c.read_piece.ensures.observable c.in_ok-count.ensures.piece c.if-count-eq0.true
     was) c.mode.ensures.next
 
@@ -26,17 +25,17 @@ pub returns-clause-next : goal.returns-clause-next
 returns-clause-next g c =
     let state = g.F.Folder.state in
     let old = c.args.self.now in
-    let command = command_of c.read_piece.new.into in
+    let step = c.read_piece.new.into in
     let given = λ (new : FolderStream g.row.F.Denot). IsNext (CameOf state old) (CameOf state new) (IsPacked state new)
-    (EndsBy new) command (Ok true) in
+    (EndsBy new) step (Ok true) in
     let now = c.read_piece.new.folder in
     let reader = c.add.new.self.reader in
     subst (λ (stream : FolderStream g.row.F.Denot). given (record stream { place = c.place_behind-self.result }))
     (sym c.add.ensures.same)
     (subst (λ (place : Place). given (record old { folder = now; place = place; reader = reader }))
     (sym c.place_behind-self.ensures)
-    (next_given (CameOf state old) _ _ _ command
-    (gives_piece state old c.args.found.now c.args.at now command c.in_ok-count.count reader
+    (next_given (CameOf state old) _ _ _ step
+    (gives_piece state old c.args.found.now c.args.at now step c.in_ok-count.count reader
     c.requires c.read_piece.ensures.observable c.in_ok-count.ensures.piece c.in_ok-add.ensures.added)))
 
 pub returns-in_err-add-clause-next : goal.returns-in_err-add-clause-next
@@ -44,15 +43,15 @@ returns-in_err-add-clause-next g c =
     let state = g.F.Folder.state in
     let old = c.args.self.now in
     let found = c.args.found.now in
-    let command = command_of c.read_piece.new.into in
+    let step = c.read_piece.new.into in
     let here = ap (λ (s : FolderStream g.row.F.Denot). found_at s.place s.at s.found.items) c.add.ensures.same
     ∙ ap (λ (p : Place). found_at p old.at old.found.items) c.requires in
     next_failed (CameOf state old) (CameOf state c.add.new.self) (IsPacked state c.add.new.self)
-    (EndsBy c.add.new.self) command c.from_residual-in_err-add.result c.in_err-add.field-0.0
+    (EndsBy c.add.new.self) step c.from_residual-in_err-add.result c.in_err-add.field-0.0
     c.from_residual-in_err-add.ensures.1 (λ t was.
-    let asks : AsksFor found command =
-    subst (λ (d : Command). AsksFor found d) (sym c.in_ok-count.ensures.piece.command_is)
+    let asks : AsksFor found step =
+    subst (λ (d : DumpStep). AsksFor found d) (sym c.in_ok-count.ensures.piece.step_is)
     (refl, read_kind state old found c.args.at t c.requires was) in
-    ends_so state old c.add.new.self t found command
+    ends_so state old c.add.new.self t found step
     c.add.new.self.reader c.in_err-add.field-0.0 c.in_err-add.ensures.fault was
     c.in_err-add.ensures.refused here asks)

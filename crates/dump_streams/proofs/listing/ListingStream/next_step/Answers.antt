@@ -1,6 +1,5 @@
-use Rattle.script_lines.specs.Parsing.{command_of}
 use Rattle.dump_streams.proofs.ListingSteps.{at_end, at_long, at_bad, at_text, at_more}
-use Rattle.dump_streams.proofs.listing.ListingStream.next_command.Goals as goal
+use Rattle.dump_streams.proofs.listing.ListingStream.next_step.Goals as goal
 
 pub returns-then-take_text-clause-next : goal.returns-then-take_text-clause-next
 returns-then-take_text-clause-next g c =
@@ -9,10 +8,10 @@ returns-then-take_text-clause-next g c =
     record {
       came = λ t before. at_text g.R.Source.state c.args.self.now t before
           c.next_line.new.self c.saturating_add-self.result c.saturating_add-self.ensures call.ends call.answer
-          c.take_text.new.reader (command_of c.take_text.new.command) call.source takes;
+          c.take_text.new.reader c.take_text.new.step call.source takes;
       extends = λ t before. at_more g.R.Source.state c.args.self.now t before
           c.next_line.new.self c.saturating_add-self.result c.saturating_add-self.ensures call.ends call.answer
-          c.take_text.new.reader (command_of c.take_text.new.command) call.source takes;
+          c.take_text.new.reader c.take_text.new.step call.source takes;
       whole = λ t before. tt;
       failed = λ t before. tt;
     }
@@ -27,7 +26,7 @@ returns-else-take_text-clause-next g c =
       whole = λ t before. tt;
       failed = λ t before. at_bad g.R.Source.state c.args.self.now t before
           c.next_line.new.self c.saturating_add-self.result c.saturating_add-self.ensures call.ends call.answer
-          c.take_text.new.reader (command_of c.take_text.new.command) takes;
+          c.take_text.new.reader c.take_text.new.step takes;
     }
 
 pub returns-in-Long-clause-next : goal.returns-in-Long-clause-next
