@@ -1,7 +1,11 @@
-//! What a call promises that opens an image and does a work with its store, whatever the work: definitions and lemmas,
-//! and no code.
+//! What a call promises that opens an image and does a work with its store, whatever the work. Start at `StoreWork` and
+//! `open_for`.
 //!
-//! Start at `Works` of specs/Works.antt, one record over what the work keeps and does. A subcommand shows two things of
-//! its work: what holds where there was no store (`IsUnopened`), and what the work did with one (`WorksOnStore`). The
-//! rest follows, here and once (`works_unopened` and `works_opened` of proofs/WorkEnds.antt).
+//! What is promised is one record over what the work keeps and does (`Works` of specs/Works.antt). A work shows two
+//! things: what holds where there was no store (`IsUnopened`), and what it did with one (`WorksOnStore`). The rest
+//! follows, here and once (`works_unopened` and `works_opened` of proofs/WorkEnds.antt).
 #![tactic(auto)]
+
+mod work;
+
+pub use work::{StoreWork, open_for};

@@ -1,5 +1,6 @@
 -- Lemmas on what writing a part of a dump leaves of the store and the sink, one part after another.
-use Rattle.std.proofs.Common.{◌≡◌, ℕ, Bool, true, false, List, [], ◌++◌, Result, Ok, Err, refl, sym, ap, subst, ◌∙◌}
+use Rattle.std.proofs.Common.{◌≡◌, ◌⊎◌, ℕ, Bool, true, false, List, [], ◌++◌, Result, Ok, Err, inl, inr, refl, sym, ap}
+use Rattle.std.proofs.Common.{subst, ◌∙◌}
 use Rattle.std.proofs.lemmas.Bool.{false≢true}
 use Rattle.std.proofs.lemmas.List.{append-nil, append_assoc}
 use Rattle.store_model.specs.Trees.{Tree}
@@ -7,7 +8,7 @@ use Rattle.disk_model.specs.DiskState.{DiskState, IsSound}
 use Rattle.disk_model.specs.DiskState as disks
 use Rattle.gate_journal.specs.Places.{ReadsOnly}
 use Rattle.gate_journal.specs.ReadingLaws.{ReadsOnly-refl, ReadsOnly-trans}
-use Rattle.script_lines.specs.SinkState.{SinkState, AppendsPrefix}
+use Rattle.script_lines.specs.SinkState.{SinkState, AppendsPrefix, PutsBytes}
 use Rattle.image_check.specs.declared.fault.ApplyFault.{ApplyFault}
 use Rattle.image_check.specs.declared.fault.ApplyFault.TheVariants as apply
 use Rattle.store_core.specs.StoreState.{StoreState}
@@ -15,9 +16,10 @@ use Rattle.store_core.specs.StoreCalls.{StepsStore}
 use Rattle.staged_tree.proofs.DiskLemmas.{keeps_then}
 use Rattle.staged_tree.proofs.Unchanged.{keeps_itself}
 use Rattle.image_subcommands.specs.declared.status.Status.{Status}
+use Rattle.image_subcommands.specs.declared.status.Status.TheVariants as statuses
 use Rattle.image_subcommands.specs.Endings.{apply_status}
 use Rattle.image_subcommands.specs.Statuses.{disk_faults_by, sink_faults_by}
-use Rattle.listing_subcommands.specs.Dumping.{KeepsStore, KeepsSink, status_so_far}
+use Rattle.listing_subcommands.specs.Dumping.{KeepsStore, KeepsSink, IsDumpFault, status_so_far}
 use Rattle.listing_subcommands.specs.Dumping.IsDumpFault.{Sink, Disk, NoMemory}
 
 -- ---- the bytes
@@ -65,6 +67,19 @@ longer_front old new part rest text is front = record {
 pub all_written : (old new text : List ℕ) → HasWritten old new text [] → new ≡ old ++ text
 all_written old new text has = has.written
     ∙ ap (λ (xs : List ℕ). old ++ xs) (sym (append-nil has.part) ∙ sym has.text_is)
+
+-- the whole text is written, and no byte behind it
+pub none_behind : {T E : Type 0} (first old new : SinkState) (text : List ℕ) (result : Result T E)
+    → old.written ≡ first.written ++ text → PutsBytes old new [] result → PutsBytes first new text result
+none_behind first old new text (Ok value) all puts = record {
+  appended = puts.appended ∙ append-nil old.written ∙ all;
+  cut_off = tt;
+}
+none_behind first old new text (Err error) all puts = record {
+  appended = tt;
+  cut_off = front_written first.written old.written new.written text []
+      (record { part = text; text_is = sym (append-nil text); written = all }) puts.cut_off;
+}
 
 -- nothing was written
 pub empty_front : (old text : List ℕ) → AppendsPrefix old old text
@@ -210,16 +225,24 @@ module _ {D : Type 0} (disk_of : D → DiskState) where
     sink_observable = kept.observable;
     sink_faults = kept.faults;
   }
-  keeps_line {T} store sink sink_new (Err status) sound runs kept =
-      subst (λ s. KeepsStore {T = T} disk_of store store sink sink_new (Err s)) (sym kept.fault)
-      (record {
-        tree = refl;
-        params = refl;
-        fault = Sink;
-        runs = tt;
-        disk_kept = keeps_itself (disk_of store.disk);
-        disk_faults = refl;
-        reads = λ o. ReadsOnly-refl (disk_of store.disk) (sound o);
-        sink_observable = kept.observable;
-        sink_faults = kept.faults;
-      })
+  keeps_line {T} store sink sink_new (Err status) sound runs kept = by_fault kept.fault
+    where
+      stops : (s : Status) → IsDumpFault s → (disk_of store.disk).faults ≡ disk_faults_by s (disk_of store.disk).faults
+          → status ≡ s → KeepsStore {T = T} disk_of store store sink sink_new (Err status)
+      stops s fault disk_faults is = subst (λ e. KeepsStore {T = T} disk_of store store sink sink_new (Err e)) (sym is)
+          (record {
+            tree = refl;
+            params = refl;
+            fault = fault;
+            runs = tt;
+            disk_kept = keeps_itself (disk_of store.disk);
+            disk_faults = disk_faults;
+            reads = λ o. ReadsOnly-refl (disk_of store.disk) (sound o);
+            sink_observable = kept.observable;
+            sink_faults = kept.faults ∙ ap (λ e. sink_faults_by e sink.faults) is;
+          })
+
+      by_fault : (status ≡ statuses.SinkFault) ⊎ (status ≡ statuses.NoMemory)
+          → KeepsStore {T = T} disk_of store store sink sink_new (Err status)
+      by_fault (inl is) = stops statuses.SinkFault Sink refl is
+      by_fault (inr is) = stops statuses.NoMemory NoMemory refl is

@@ -17,7 +17,7 @@ use Rattle.store_model.proofs.PairsLemmas.{rising_places}
 use Rattle.store_model.proofs.PathsLemmas.{order_of_keys}
 use Rattle.store_model.proofs.TreesLemmasPaths.{path_cmp_total}
 use Rattle.ordered_pairs.specs.PairsState.{next_pair}
-use Rattle.tree_listing.specs.Dumps.{commands_text, dump_text}
+use Rattle.tree_listing.specs.Dumps.{steps_text, dump_text}
 use Rattle.script_lines.specs.SinkState.{SinkState}
 use Rattle.image_check.specs.Standing.{IsFitting}
 use Rattle.staged_tree.proofs.TreePages.{few_pairs}
@@ -210,7 +210,7 @@ dumping_goes_on t p from next turns old mid new dumping wrote = record {
 }
 
 no_text : spots_text [] ≡ []
-unfolding commands_text
+unfolding steps_text
 no_text = refl
 
 pub dumping_ends : (t : Tree) (p : Parameters) (from : List ℕ) (turns : ℕ) (old mid new : List ℕ)

@@ -1,4 +1,5 @@
 pub mod AttributeSpots
+pub mod GatheredDumps
 pub mod DumpEnds
 pub mod DumpStores
 pub mod LeftLemmas

@@ -5,13 +5,13 @@ use Rattle.std.proofs.lemmas.Bool.{false≢true}
 use Rattle.store_model.specs.declared.refusal.Refusal.{Refusal}
 use Rattle.store_model.specs.Parameters.{Parameters}
 use Rattle.store_model.specs.Trees.{Tree, empty_tree}
-use Rattle.store_model.specs.Commands.{Command}
 use Rattle.store_model.specs.Pages.{page_count}
 use Rattle.store_model.specs.Images.{Represents}
 use Rattle.store_model.specs.Scripts.{script_limit}
 use Rattle.store_base.specs.Counts.{Rose}
 use Rattle.tree_listing.specs.Dumps.{dump}
 use Rattle.tree_listing.proofs.DumpFronts.{dumps_tell_trees}
+use Rattle.tree_listing.proofs.StepLemmas.{one_dump}
 use Rattle.disk_model.specs.DiskState.{DiskState}
 use Rattle.disk_model.specs.DiskState as disks
 use Rattle.disk_model.proofs.Crashes.{LeavesOnly-trans, LeavesOnly-weaken}
@@ -43,21 +43,9 @@ use Rattle.image_work.proofs.OpeningEnds.{quiet_unopened}
 
 -- ---- a script is the listing of one tree
 
-abbrev all_read : List Command → List (Result Command Refusal)
-all_read commands = map Ok commands
-
-same_commands : (cs ds : List Command) → all_read cs ≡ all_read ds → cs ≡ ds
-same_commands [] [] e = refl
-same_commands [] (d ∷ ds) e = absurd (cc)
-same_commands (c ∷ cs) [] e = absurd (cc)
-same_commands (c ∷ cs) (d ∷ ds) e =
-    let tail : all_read cs ≡ all_read ds = cc in
-    let head : c ≡ d = cc in
-    ap (λ x. x ∷ cs) head ∙ ap (λ xs. d ∷ xs) (same_commands cs ds tail)
-
 pub lists_one : (t u : Tree) (p : Parameters) (script : List ℕ) → Lists t p script → Lists u p script → t ≡ u
 lists_one t u p script one other =
-    dumps_tell_trees t u p one.under other.under (same_commands (dump t) (dump u) (sym one.listing ∙ other.listing))
+    dumps_tell_trees t u p one.under other.under (one_dump t u script one.listing other.listing)
 
 -- it is none that is the listing of no tree
 pub lists_some : (t : Tree) (p : Parameters) (script : List ℕ) → Lists t p script → ListsNone p script → ⊥

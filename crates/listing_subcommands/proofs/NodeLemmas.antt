@@ -9,11 +9,11 @@ use Rattle.store_model.specs.Paths.{Path}
 use Rattle.store_model.specs.Pairs.{is_inline, inline_value}
 use Rattle.store_model.specs.Trees.{Node, IsNode, contents_of, file_limit}
 use Rattle.store_model.specs.Trees.Node.{Directory, File}
-use Rattle.store_model.specs.Commands.Command.{Write}
-use Rattle.tree_listing.specs.Dumps.{file_commands}
+use Rattle.tree_listing.specs.Dumps.DumpStep.{Write}
+use Rattle.tree_listing.specs.Dumps.{file_steps}
 use Rattle.tree_pairs.specs.declared.kind.Kind.TheVariants as kinds
 use Rattle.tree_pairs.specs.Kinds.{kind_of, file_first, first_value}
-use Rattle.listing_subcommands.proofs.PieceLemmas.{commands_of_pieces}
+use Rattle.listing_subcommands.proofs.PieceLemmas.{steps_of_pieces}
 
 -- what a file's bytes stand in first
 pub inline_node : (node : Node) (version : Version) (bytes : List ℕ)
@@ -48,16 +48,16 @@ take_all n xs short = let least : min n (length xs) ≡ length xs = omega arith
     in sym (take_min n xs) ∙ ap (λ m. take m xs) least ∙ take-length xs
 
 -- the one line of a short file
-pub short_commands : (path : Path) (bytes : List ℕ) → length bytes ≤ 2048
-    → file_commands path bytes ≡ Write path 0 bytes ∷ []
-unfolding file_commands numbers_from
-short_commands path [] short = refl
-short_commands path (b ∷ bytes) short =
+pub short_steps : (path : Path) (bytes : List ℕ) → length bytes ≤ 2048
+    → file_steps path bytes ≡ Write path 0 bytes ∷ []
+unfolding file_steps numbers_from
+short_steps path [] short = refl
+short_steps path (b ∷ bytes) short =
     let count : 1 ≡ run_count 2048 (length (b ∷ bytes)) = omega arith in
-    commands_of_pieces path (b ∷ bytes) 1 (omega arith) count
+    steps_of_pieces path (b ∷ bytes) 1 (omega arith) count
     ∙ ap (λ xs. Write path 0 xs ∷ []) (take_all 2048 (b ∷ bytes) short)
 
-pub empty_commands : (path : Path) (bytes : List ℕ) → length bytes ≡ 0 → file_commands path bytes ≡ Write path 0 [] ∷ []
-unfolding file_commands
-empty_commands path [] none = refl
-empty_commands path (b ∷ bytes) none = absurd (omega arith)
+pub empty_steps : (path : Path) (bytes : List ℕ) → length bytes ≡ 0 → file_steps path bytes ≡ Write path 0 [] ∷ []
+unfolding file_steps
+empty_steps path [] none = refl
+empty_steps path (b ∷ bytes) none = absurd (omega arith)

@@ -4,17 +4,17 @@ use Rattle.std.proofs.Common.{length, refl, ap, ◌∙◌, arith}
 use Rattle.std.specs.List.{enumerate_from}
 use Rattle.store_model.specs.Lists.{numbers_from, run_count, run_at, runs}
 use Rattle.store_model.specs.Paths.{Path}
-use Rattle.store_model.specs.Commands.{Command}
-use Rattle.store_model.specs.Commands.Command.{Write}
-use Rattle.tree_listing.specs.Dumps.{file_commands, commands_text}
-use Rattle.listing_subcommands.proofs.SpotLemmas.{commands_text-append}
+use Rattle.tree_listing.specs.Dumps.{DumpStep}
+use Rattle.tree_listing.specs.Dumps.DumpStep.{Write}
+use Rattle.tree_listing.specs.Dumps.{file_steps, steps_text}
+use Rattle.listing_subcommands.proofs.SpotLemmas.{steps_text-append}
 
--- the command that writes one piece of a file
-abbrev pub piece : Path → List ℕ → ℕ → Command
+-- the step that writes one piece of a file
+abbrev pub piece : Path → List ℕ → ℕ → DumpStep
 piece path bytes i = Write path (2048 * i) (run_at 2048 bytes i)
 
 -- those from a piece on, of so many
-abbrev pub pieces_from : Path → List ℕ → ℕ → ℕ → List Command
+abbrev pub pieces_from : Path → List ℕ → ℕ → ℕ → List DumpStep
 pieces_from path bytes count i = map (piece path bytes) (numbers_from i (count - i))
 
 numbered_pieces : (path : Path) (g : ℕ → List ℕ) (n c : ℕ)
@@ -37,12 +37,12 @@ pub piece_within : (i len bytes end : ℕ) → end ≡ len / 2048 + min 1 (len %
     → i < end → 2048 * i ≤ bytes
 piece_within i len bytes end is same below = omega arith
 
--- the commands of a file with bytes are those of all pieces
-pub commands_of_pieces : (path : Path) (bytes : List ℕ) (count : ℕ) → 0 < length bytes
-    → count ≡ run_count 2048 (length bytes) → file_commands path bytes ≡ pieces_from path bytes count 0
-unfolding file_commands runs
-commands_of_pieces path [] count some is = absurd (omega arith)
-commands_of_pieces path (b ∷ bytes) count some is =
+-- the steps of a file with bytes are those of all pieces
+pub steps_of_pieces : (path : Path) (bytes : List ℕ) (count : ℕ) → 0 < length bytes
+    → count ≡ run_count 2048 (length bytes) → file_steps path bytes ≡ pieces_from path bytes count 0
+unfolding file_steps runs
+steps_of_pieces path [] count some is = absurd (omega arith)
+steps_of_pieces path (b ∷ bytes) count some is =
     let left : run_count 2048 (length (b ∷ bytes)) ≡ count - 0 = omega arith in
     numbered_pieces path (run_at 2048 (b ∷ bytes)) 0 (run_count 2048 (length (b ∷ bytes)))
     ∙ ap (λ n. map (piece path (b ∷ bytes)) (numbers_from 0 n)) left
@@ -56,15 +56,15 @@ next_numbers i c l =
 
 -- the lines from a piece on are its line and those from the next one on
 pub next_piece : (path : Path) (bytes : List ℕ) (count i : ℕ) → i < count
-    → commands_text (pieces_from path bytes count i) ≡ commands_text (piece path bytes i ∷ [])
-    ++ commands_text (pieces_from path bytes count (i + 1))
+    → steps_text (pieces_from path bytes count i) ≡ steps_text (piece path bytes i ∷ [])
+    ++ steps_text (pieces_from path bytes count (i + 1))
 next_piece path bytes count i l =
-    ap (λ xs. commands_text (map (piece path bytes) xs)) (next_numbers i count l)
-    ∙ commands_text-append (piece path bytes i ∷ []) (pieces_from path bytes count (i + 1))
+    ap (λ xs. steps_text (map (piece path bytes) xs)) (next_numbers i count l)
+    ∙ steps_text-append (piece path bytes i ∷ []) (pieces_from path bytes count (i + 1))
 
 -- behind the last there is none
 pub no_piece : (path : Path) (bytes : List ℕ) (count i : ℕ) → count ≡ i
-    → commands_text (pieces_from path bytes count i) ≡ []
-unfolding commands_text numbers_from
+    → steps_text (pieces_from path bytes count i) ≡ []
+unfolding steps_text numbers_from
 no_piece path bytes count i is = let none : count - i ≡ 0 = omega arith
-    in ap (λ n. commands_text (map (piece path bytes) (numbers_from i n))) none
+    in ap (λ n. steps_text (map (piece path bytes) (numbers_from i n))) none

@@ -3,20 +3,15 @@ use Rattle.std.proofs.Common.{◌≡◌, ℕ, ◌<◌, is_err, ◌≤◌, Bool, 
 use Rattle.std.proofs.Common.{Err, refl, sym, ap, subst, ◌∙◌, arith, inl, inr}
 use Rattle.std.specs.Bool.{OnTrue, OnFalse}
 use Rattle.std.proofs.lemmas.List.{append-nil, append_assoc, map-append}
-use Rattle.store_model.specs.declared.refusal.Refusal.{Refusal}
 use Rattle.store_model.specs.Parameters.{Parameters}
 use Rattle.store_model.specs.Trees.{Tree}
-use Rattle.store_model.specs.Commands.{Command}
-use Rattle.store_model.specs.Grammar.{parse}
 use Rattle.store_model.specs.Scripts.{lines, reading, line_limit}
 use Rattle.store_base.specs.Counts.{raised}
 use Rattle.tree_listing.specs.declared.listing.Listing.{Listing}
-use Rattle.tree_listing.specs.Dumps.{dump, ListsSome}
-use Rattle.tree_listing.specs.Listings.{IsListed, TakesCommand}
+use Rattle.tree_listing.specs.Dumps.{DumpStep, command_of_step, dump, readings, ListsSome}
+use Rattle.tree_listing.specs.Listings.{IsListed, TakesStep}
+use Rattle.tree_listing.specs.Steps.{ReadsStep}
 use Rattle.tree_listing.specs.Reading.{BreaksOff}
-use Rattle.script_lines.specs.InPlace.{in_place}
-use Rattle.script_lines.specs.Parsing.{command_of, reading_of}
-use Rattle.script_lines.specs.declared.command.Command as declared
 use Rattle.script_lines.specs.SourceState.{SourceState, IsObservable}
 use Rattle.script_lines.specs.LineState.{LineState, left, Takes, KeepsSource, EndsCall, NextLine}
 use Rattle.script_lines.specs.declared.lines.Line.{Line}
@@ -29,65 +24,32 @@ use Rattle.image_subcommands.specs.declared.status.Status.{Status}
 use Rattle.image_subcommands.specs.declared.status.Status.TheVariants as statuses
 use Rattle.image_subcommands.specs.Endings.{line_status}
 use Rattle.image_subcommands.specs.Limits.{KeepsLimit, IsUnread}
-use Rattle.image_subcommands.proofs.LineLimits.{lines_split, end_of_left, within_limit, past_limit, reading_short}
-use Rattle.image_subcommands.proofs.LineLimits.{reading_long}
+use Rattle.image_subcommands.proofs.LineLimits.{lines_split, end_of_left, within_limit, past_limit, reading_long}
+use Rattle.tree_listing.proofs.StepLemmas.{same_step, readings_more, none_by}
 use Rattle.listing_subcommands.specs.Listings.{HasListed, ReadsListing, GoesOnBy, BreaksOffBy, TakesText, ListsTexts}
 use Rattle.listing_subcommands.specs.Listings.{BeginsNone, ReadSoFar}
 
--- ---- lines and the commands of dumps
+-- ---- lines and the steps of dumps
 
 -- before the first line
-no_texts : map reading [] ≡ map Ok (dump [])
+no_texts : map reading [] ≡ readings (dump [])
 unfolding dump
 no_texts = refl
 
--- commands that begin with others, and what comes behind these
-record BeginsWith (cs ds : List Command) (next : Result Command Refusal) : Type 0 where
-  pub command : Command
-  pub rest : List Command
-  pub next_is : next ≡ Ok command
-  pub split : ds ≡ cs ++ command ∷ rest
-
-begins_with : (cs ds : List Command) (next : Result Command Refusal) (behind : List (Result Command Refusal))
-    → map Ok cs ++ next ∷ behind ≡ map Ok ds → BeginsWith cs ds next
-begins_with [] [] next behind e = absurd (cc)
-begins_with [] (d ∷ ds) next behind e = record { command = d; rest = ds; next_is = cc; split = refl }
-begins_with (c ∷ cs) [] next behind e = absurd (cc)
-begins_with (c ∷ cs) (d ∷ ds) next behind e =
-    let tail : map Ok cs ++ next ∷ behind ≡ map Ok ds = cc in
-    let head : d ≡ c = cc in
-    let there = begins_with cs ds next behind tail in
-    record {
-      command = there.command;
-      rest = there.rest;
-      next_is = there.next_is;
-      split = ap (λ x. x ∷ ds) head ∙ ap (λ xs. c ∷ xs) there.split;
-    }
-
 module _ (p : Parameters) (texts : List (List ℕ)) (text : List ℕ) where
-  -- a command more
-  texts_more : (old new : Listing) → (before : ListsTexts p old texts) → GoesOnBy before.tree p (reading text) new
+  -- a step more
+  texts_more : (old new : Listing) → (before : ListsTexts p old texts) → GoesOnBy before.tree p text new
       → ListsTexts p new (texts ++ text ∷ [])
   texts_more old new before more = record {
     tree = _;
     listed = more.listed;
-    texts_are =
-        map-append reading texts (text ∷ [])
-        ∙ ap (λ xs. xs ++ reading text ∷ []) before.texts_are
-        ∙ ap (λ r. map Ok (dump before.tree) ++ r ∷ []) more.read_is
-        ∙ sym (map-append Ok (dump before.tree) (more.command ∷ []))
-        ∙ ap (map Ok) (sym more.goes_on.dump_is);
+    texts_are = readings_more before.tree _ more.step texts text before.texts_are more.read_is more.goes_on.dump_is;
   }
 
   -- a bad line
-  none_by : (listing : Listing) → (before : ListsTexts p listing texts) → BreaksOffBy before.tree p (reading text)
+  none_of : (listing : Listing) → (before : ListsTexts p listing texts) → BreaksOffBy before.tree p text
       → BeginsNone p (texts ++ text ∷ [])
-  none_by listing before bad u rest under e =
-      let there = begins_with (dump before.tree) (dump u) (reading text) (map reading rest)
-      (ap (λ xs. xs ++ reading text ∷ map reading rest) (sym before.texts_are)
-      ∙ sym (map-append reading texts (text ∷ rest))
-      ∙ ap (map reading) (sym (append_assoc texts (text ∷ []) rest)) ∙ e) in
-      bad there.command there.next_is u there.rest under there.split
+  none_of listing before bad u rest under e = none_by before.tree u p texts text rest before.texts_are bad under e
 
   -- a line behind a bad one
   none_more : BeginsNone p texts → BeginsNone p (texts ++ text ∷ [])
@@ -98,7 +60,7 @@ module _ (p : Parameters) (texts : List (List ℕ)) (text : List ℕ) where
   none_long : (is_listing : Bool) (listing : Listing) → line_limit < length text
       → OnTrue is_listing (ListsTexts p listing texts) → OnFalse is_listing (BeginsNone p texts)
       → BeginsNone p (texts ++ text ∷ [])
-  none_long true listing long before none = none_by listing before (λ c is. cc (reading_long text long))
+  none_long true listing long before none = none_of listing before (λ s is. cc (reading_long text long))
   none_long false listing long before none = none_more none
 
   -- a line of text
@@ -113,7 +75,7 @@ module _ (p : Parameters) (texts : List (List ℕ)) (text : List ℕ) where
       → OnTrue is_listing (ListsTexts p old texts) → OnFalse is_listing (BeginsNone p texts)
       → OnFalse taken (BeginsNone p (texts ++ text ∷ []))
   refused_by true true old new takes before none = tt
-  refused_by true false old new takes before none = none_by old before (takes.refused refl before.tree p before.listed)
+  refused_by true false old new takes before none = none_of old before (takes.refused refl before.tree p before.listed)
   refused_by false true old new takes before none = tt
   refused_by false false old new takes before none = none_more none
 
@@ -127,39 +89,28 @@ some_by p text false false old new takes before = tt
 
 -- ---- what a text says
 
--- it is no command
-pub text_refused : (placed : declared.Command) (result : Result (Unit {0}) Refusal) (text : List ℕ)
-    → length text ≤ line_limit → is_err result ≡ true → reading_of (in_place placed result) ≡ parse text
-    → (t : Tree) (p : Parameters) → BreaksOffBy t p (reading text)
-text_refused placed (Ok read) text fits refused is t p c e = absurd (cc)
-text_refused placed (Err refusal) text fits refused is t p c e = absurd (let short = reading_short text fits in cc)
-
--- it is one, which was offered to the listing
-pub text_offered : (placed : declared.Command) (result : Result (Unit {0}) Refusal) (text : List ℕ) (old new : Listing)
-    (taken : Bool) → length text ≤ line_limit → is_err result ≡ false → reading_of (in_place placed result) ≡ parse text
-    → TakesCommand old new (command_of placed) (Ok taken) → TakesText true old new text (Ok taken)
-text_offered placed (Ok read) text old new true fits refused is takes =
-    let read_is : reading text ≡ Ok (command_of placed) = reading_short text fits ∙ sym is in
-    record {
-      fault = tt;
-      taken = λ t p listed. record {
-        command = command_of placed;
-        read_is = read_is;
-        goes_on = takes.goes_on t p listed;
-        listed = takes.listed t p listed;
-      };
-      refused = λ e t p listed. tt;
-      behind = λ e. absurd (cc);
-    }
-text_offered placed (Ok read) text old new false fits refused is takes =
-    let read_is : reading text ≡ Ok (command_of placed) = reading_short text fits ∙ sym is in
-    record {
-      fault = tt;
-      taken = λ t p listed. tt;
-      refused = λ e t p listed c same. subst (λ (d : Command). BreaksOff t d p) (cc) (takes.refused t p listed);
-      behind = λ e. refl;
-    }
-text_offered placed (Err refusal) text old new taken fits refused is takes = absurd (cc)
+-- it is a step, which was offered to the listing
+pub text_offered : (step : DumpStep) (text : List ℕ) (old new : Listing) (taken : Bool) → ReadsStep text step true
+    → TakesStep old new step (Ok taken) → TakesText true old new text (Ok taken)
+text_offered step text old new true reads takes = record {
+  fault = tt;
+  taken = λ t p listed. record {
+    step = step;
+    read_is = reads.read;
+    goes_on = takes.goes_on t p listed;
+    listed = takes.listed t p listed;
+  };
+  refused = λ e t p listed. tt;
+  behind = λ e. absurd (cc);
+}
+text_offered step text old new false reads takes = record {
+  fault = tt;
+  taken = λ t p listed. tt;
+  refused = λ e t p listed s same.
+      let read : reading text ≡ Ok (command_of_step step) = reads.read in
+      subst (λ (d : DumpStep). BreaksOff t d p) (same_step step s (cc (read, same))) (takes.refused t p listed);
+  behind = λ e. refl;
+}
 
 -- ---- between two lines
 

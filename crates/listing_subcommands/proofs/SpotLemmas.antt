@@ -16,7 +16,6 @@ use Rattle.store_model.specs.Paths.{attribute_place, key, name_cmp, path_cmp}
 use Rattle.store_model.specs.Trees.{Tree, Entry, Attributes, IsNode, IsAttribute, IsEntry, IsTree, node_at, node_of}
 use Rattle.store_model.specs.Trees.Node.{Directory, File}
 use Rattle.store_model.specs.Pairs.{Pair, file_block, is_inline, file_pairs, node_pairs, attribute_pairs, pairs}
-use Rattle.store_model.specs.Commands.{Command}
 use Rattle.store_model.proofs.ListsLemmas.{all_none, all_weaker, all_with, first_true, all_map, all_flat_map}
 use Rattle.store_model.proofs.ListsLemmas.{rising_cons, rising_flat_map, rising_map, rising_from_is_sorted}
 use Rattle.store_model.proofs.ListsLemmas.{numbers_in_range, length-runs, rising_head, rising_tail}
@@ -26,8 +25,8 @@ use Rattle.store_model.proofs.PathsLemmasPlaces.{below_longer, before_longer, at
 use Rattle.store_model.proofs.PathsLemmasPlaces.{attribute_before_attribute, order_of_attributes}
 use Rattle.store_model.proofs.TreesLemmasPaths.{path_cmp_total}
 use Rattle.tree_pairs.specs.Kinds.{file_first}
-use Rattle.tree_listing.specs.Dumps.{attribute_commands, commands_text, dump, dump_text}
-use Rattle.listing_subcommands.specs.Dumping.{Spot, entry_spots, spots, place_of, spot_pairs, first_pair, spot_commands}
+use Rattle.tree_listing.specs.Dumps.{DumpStep, attribute_steps, steps_text, dump, dump_text}
+use Rattle.listing_subcommands.specs.Dumping.{Spot, entry_spots, spots, place_of, spot_pairs, first_pair, spot_steps}
 use Rattle.listing_subcommands.specs.Dumping.{spots_text, IsSpot}
 use Rattle.listing_subcommands.specs.Dumping.Spot.{Stands, Has}
 
@@ -49,38 +48,38 @@ pairs_of_spots (e ∷ t) p =
     (ap (λ xs. node_pairs e.0 e.1.node p ++ xs) (attribute_spots_pairs p e.0 e.1.attributes)) (pairs_of_spots t p)
     ∙ sym (flat_map-append (spot_pairs p) (entry_spots e.0 e.1) (flat_map (λ f. entry_spots f.0 f.1) t))
 
-attribute_spots_commands : (path : Path) (attributes : Attributes)
-    → attribute_commands path attributes ≡ flat_map spot_commands (map (λ a. Has path a.0 a.1) attributes)
-unfolding attribute_commands
-attribute_spots_commands path [] = refl
-attribute_spots_commands path (a ∷ attributes) =
-    ap (λ xs. spot_commands (Has path a.0 a.1) ++ xs) (attribute_spots_commands path attributes)
+attribute_spots_steps : (path : Path) (attributes : Attributes)
+    → attribute_steps path attributes ≡ flat_map spot_steps (map (λ a. Has path a.0 a.1) attributes)
+unfolding attribute_steps
+attribute_spots_steps path [] = refl
+attribute_spots_steps path (a ∷ attributes) =
+    ap (λ xs. spot_steps (Has path a.0 a.1) ++ xs) (attribute_spots_steps path attributes)
 
-dump_of_spots : (t : Tree) → dump t ≡ flat_map spot_commands (spots t)
+dump_of_spots : (t : Tree) → dump t ≡ flat_map spot_steps (spots t)
 unfolding dump spots
 dump_of_spots [] = refl
 dump_of_spots (e ∷ t) =
-    ap₂ (λ (xs ys : List Command). xs ++ ys)
-    (ap (λ xs. spot_commands (Stands e.0 e.1.node) ++ xs) (attribute_spots_commands e.0 e.1.attributes))
+    ap₂ (λ (xs ys : List DumpStep). xs ++ ys)
+    (ap (λ xs. spot_steps (Stands e.0 e.1.node) ++ xs) (attribute_spots_steps e.0 e.1.attributes))
     (dump_of_spots t)
-    ∙ sym (flat_map-append spot_commands (entry_spots e.0 e.1) (flat_map (λ f. entry_spots f.0 f.1) t))
+    ∙ sym (flat_map-append spot_steps (entry_spots e.0 e.1) (flat_map (λ f. entry_spots f.0 f.1) t))
 
 -- and so are the lines of its dump
 pub text_of_spots : (t : Tree) → dump_text t ≡ spots_text (spots t)
-text_of_spots t = ap commands_text (dump_of_spots t)
+text_of_spots t = ap steps_text (dump_of_spots t)
 
 -- the lines of commands in a row
-pub commands_text-append : (cs ds : List Command) → commands_text (cs ++ ds) ≡ commands_text cs ++ commands_text ds
-unfolding commands_text
-commands_text-append cs ds = flat_map-append _ cs ds
+pub steps_text-append : (cs ds : List DumpStep) → steps_text (cs ++ ds) ≡ steps_text cs ++ steps_text ds
+unfolding steps_text
+steps_text-append cs ds = flat_map-append _ cs ds
 
 -- those of one place
-pub one_spot : (spot : Spot) → spots_text (spot ∷ []) ≡ commands_text (spot_commands spot)
-one_spot spot = ap commands_text (append-nil (spot_commands spot))
+pub one_spot : (spot : Spot) → spots_text (spot ∷ []) ≡ steps_text (spot_steps spot)
+one_spot spot = ap steps_text (append-nil (spot_steps spot))
 
 -- and those of a place and of others
 pub first_spot : (spot : Spot) (rest : List Spot) → spots_text (spot ∷ rest) ≡ spots_text (spot ∷ []) ++ spots_text rest
-first_spot spot rest = commands_text-append (spot_commands spot) (flat_map spot_commands rest)
+first_spot spot rest = steps_text-append (spot_steps spot) (flat_map spot_steps rest)
     ∙ ap (λ (xs : List ℕ). xs ++ spots_text rest) (sym (one_spot spot))
 
 -- ---- the first pair of a place

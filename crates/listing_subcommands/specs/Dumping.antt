@@ -1,15 +1,14 @@
 -- What the calls do that write the dump of a store's tree, place by place.
-use Rattle.std.specs.Prelude.{◌≡◌, ℕ, length, false, IsTrue, List, [], ◌∷◌, ◌++◌, map, slice_get, Option, Some, None}
-use Rattle.std.specs.Prelude.{Result, Ok, Err, IfErr, OnOk}
+use Rattle.std.specs.Prelude.{◌≡◌, ◌⊎◌, ℕ, length, false, IsTrue, List, [], ◌∷◌, ◌++◌, map, slice_get, Option, Some}
+use Rattle.std.specs.Prelude.{None, Result, Ok, Err, IfErr, OnOk}
 use Rattle.std.specs.List.{flat_map}
 use Rattle.store_model.specs.Parameters.{Parameters}
 use Rattle.store_model.specs.Paths.{Path, Name, is_root, is_path, attribute_place, attribute_key, key}
 use Rattle.store_model.specs.Trees.{Tree, Node, Entry, IsNode, IsAttribute, node_at}
 use Rattle.store_model.specs.Trees.Node.{Directory, File}
 use Rattle.store_model.specs.Pairs.{Pair, is_inline, directory_value, attribute_value, node_pairs, pairs}
-use Rattle.store_model.specs.Commands.{Command}
-use Rattle.store_model.specs.Commands.Command.{SetAttribute}
-use Rattle.tree_listing.specs.Dumps.{node_commands, commands_text}
+use Rattle.tree_listing.specs.Dumps.{DumpStep, node_steps, steps_text}
+use Rattle.tree_listing.specs.Dumps.DumpStep.{Set}
 use Rattle.disk_model.specs.DiskState.{DiskState}
 use Rattle.disk_model.specs.DiskState as disks
 use Rattle.gate_journal.specs.Disks.{KeepsDisk}
@@ -17,7 +16,8 @@ use Rattle.gate_journal.specs.Places.{ReadsOnly}
 use Rattle.ordered_pairs.specs.PairsState.{next_pair}
 use Rattle.tree_pairs.specs.Kinds.{file_first}
 use Rattle.script_lines.specs.SinkState.{SinkState, AppendsPrefix}
-use Rattle.store_base.specs.Counts.{faults_after}
+use Rattle.dump_streams.specs.declared.taker.TakerFault.{TakerFault}
+use Rattle.dump_streams.specs.declared.taker.TakerFault.TheVariants as takers
 use Rattle.store_core.specs.StoreState.{StoreState}
 use Rattle.image_subcommands.specs.declared.status.Status.{Status}
 use Rattle.image_subcommands.specs.declared.status.Status.TheVariants as statuses
@@ -43,7 +43,7 @@ abbrev pub place_of : Spot → Path
 place_of (Stands path node) = path
 place_of (Has path name bytes) = attribute_place path name
 
--- its pairs, the first of them, and the commands that make what stands there
+-- its pairs, the first of them, and the steps that make what stands there
 abbrev pub spot_pairs : Parameters → Spot → List Pair
 spot_pairs p (Stands path node) = node_pairs path node p
 spot_pairs p (Has path name bytes) = (attribute_key path name, attribute_value bytes) ∷ []
@@ -53,13 +53,13 @@ first_pair p (Stands path Directory) = (key path 0, directory_value)
 first_pair p (Stands path (File bytes)) = (key path 0, file_first (is_inline p.version (length bytes)) bytes)
 first_pair p (Has path name bytes) = (attribute_key path name, attribute_value bytes)
 
-abbrev pub spot_commands : Spot → List Command
-spot_commands (Stands path node) = node_commands path node
-spot_commands (Has path name bytes) = SetAttribute path name bytes ∷ []
+abbrev pub spot_steps : Spot → List DumpStep
+spot_steps (Stands path node) = node_steps path node
+spot_steps (Has path name bytes) = Set path name bytes ∷ []
 
 -- the lines of places, one after another
 abbrev pub spots_text : List Spot → List ℕ
-spots_text some = commands_text (flat_map spot_commands some)
+spots_text some = steps_text (flat_map spot_steps some)
 
 -- what stands at a path of the tree
 pub record IsStanding (t : Tree) (path : Path) (node : Node) : Type 0 where
@@ -105,11 +105,17 @@ pub record KeepsStore {D T : Type 0} (disk_of : D → DiskState) (old new : Stor
   pub sink_observable : sink_new.is_observable ≡ sink.is_observable
   pub sink_faults : sink_new.faults ≡ sink_faults_by (status_so_far result) sink.faults
 
+-- how a line ends the writing that was gathered so
+abbrev pub line_ended : Result (Unit {0}) TakerFault → Result (Unit {0}) Status
+line_ended (Ok value) = Ok value
+line_ended (Err takers.NoMemory) = Err statuses.NoMemory
+line_ended (Err takers.Failed) = Err statuses.SinkFault
+
 -- What writing a line leaves of any sink.
 pub record KeepsSink {T : Type 0} (old new : SinkState) (result : Result T Status) : Type 0 where
-  pub fault : IfErr result (λ status. status ≡ statuses.SinkFault)
+  pub fault : IfErr result (λ status. (status ≡ statuses.SinkFault) ⊎ (status ≡ statuses.NoMemory))
   pub observable : new.is_observable ≡ old.is_observable
-  pub faults : new.faults ≡ faults_after old.faults result
+  pub faults : new.faults ≡ sink_faults_by (status_so_far result) old.faults
 
 -- The places that are left: no pair of those before them is at the key or behind it, so the next pair is the first of
 -- theirs.

@@ -1,14 +1,11 @@
 -- What reading a listing does.
 use Rattle.std.specs.Prelude.{◌≡◌, ◌⊎◌, ℕ, ◌≤◌, Bool, true, false, List, [], ◌++◌, map, Result, Ok, Err, IfOk, IfErr}
 use Rattle.std.specs.Bool.{OnTrue, OnFalse}
-use Rattle.store_model.specs.declared.refusal.Refusal.{Refusal}
 use Rattle.store_model.specs.Parameters.{Parameters}
 use Rattle.store_model.specs.Trees.{Tree}
-use Rattle.store_model.specs.Commands.{Command}
-use Rattle.store_model.specs.Steps.{next_tree}
 use Rattle.store_model.specs.Scripts.{reading}
 use Rattle.store_model.specs.Pages.{IsTreeUnder}
-use Rattle.tree_listing.specs.Dumps.{dump, IsListing, ListsSome}
+use Rattle.tree_listing.specs.Dumps.{DumpStep, command_of_step, after_step, dump, readings, IsListing, ListsSome}
 use Rattle.tree_listing.specs.Reading.{GoesOn, BreaksOff}
 use Rattle.script_lines.specs.SourceState.{SourceState, IsObservable}
 use Rattle.script_lines.specs.LineState.{LineState, Answers, left}
@@ -19,7 +16,7 @@ use Rattle.image_subcommands.specs.Statuses.{source_faults_by}
 use Rattle.tree_listing.specs.declared.listing.Listing.{Listing}
 use Rattle.tree_listing.specs.Listings.{IsListed}
 
--- the script is a listing of a tree, which the commands that were taken make
+-- the script is a listing of a tree, which the steps that were taken make
 pub record HasListed (p : Parameters) (listing : Listing) (script : List ℕ) : Type 0 where
   pub tree : Tree
   pub under : IsTreeUnder tree p
@@ -51,21 +48,21 @@ pub record ReadsListing {R : Type 0} (source_of : R → SourceState) (p : Parame
   pub limit : IsObservable (source_of old.source)
       → KeepsLimit (read_status result) (source_of old.source) (source_of new.source)
   pub read : IsObservable (source_of old.source) → IfOk result (ReadsWhole source_of p old new listing)
-  -- of a source that does not tell its bytes the commands are those of some tree all the same
+  -- of a source that does not tell its bytes the steps are those of some tree all the same
   pub some : IfOk result (λ is_listing. OnTrue is_listing ((t : Tree) × IsListed listing t p))
 
 -- ---- on the way
 
 -- what a line asks for goes on with the dump of the tree, and was taken
-pub record GoesOnBy (t : Tree) (p : Parameters) (read : Result Command Refusal) (new : Listing) : Type 0 where
-  pub command : Command
-  pub read_is : read ≡ Ok command
-  pub goes_on : GoesOn t command p
-  pub listed : IsListed new (next_tree t command) p
+pub record GoesOnBy (t : Tree) (p : Parameters) (text : List ℕ) (new : Listing) : Type 0 where
+  pub step : DumpStep
+  pub read_is : reading text ≡ Ok (command_of_step step)
+  pub goes_on : GoesOn t step p
+  pub listed : IsListed new (after_step t step) p
 
--- it is no command, or no dump begins with that of the tree and it
-abbrev pub BreaksOffBy : Tree → Parameters → Result Command Refusal → Type 0
-BreaksOffBy t p read = (c : Command) → read ≡ Ok c → BreaksOff t c p
+-- it is no step, or no dump begins with that of the tree and it
+abbrev pub BreaksOffBy : Tree → Parameters → List ℕ → Type 0
+BreaksOffBy t p text = (s : DumpStep) → reading text ≡ Ok (command_of_step s) → BreaksOff t s p
 
 -- The text of a line comes behind the dump of a tree, if all lines before were a listing: it is taken where some
 -- tree's dump begins so. After a bad line nothing is.
@@ -73,21 +70,21 @@ pub record TakesText (is_listing : Bool) (old new : Listing) (text : List ℕ)
     (result : Result Bool Status) : Type 0 where
   pub fault : IfErr result (λ status. status ≡ statuses.NoMemory)
   pub taken : (t : Tree) (p : Parameters) → IsListed old t p
-      → IfOk result (λ taken. OnTrue taken (GoesOnBy t p (reading text) new))
+      → IfOk result (λ taken. OnTrue taken (GoesOnBy t p text new))
   pub refused : is_listing ≡ true → (t : Tree) (p : Parameters) → IsListed old t p
-      → IfOk result (λ taken. OnFalse taken (BreaksOffBy t p (reading text)))
+      → IfOk result (λ taken. OnFalse taken (BreaksOffBy t p text))
   pub behind : is_listing ≡ false → result ≡ Ok false
 
--- the lines are the dump of a tree, whose commands were taken
+-- the lines are the dump of a tree, whose steps were taken
 pub record ListsTexts (p : Parameters) (listing : Listing) (texts : List (List ℕ)) : Type 0 where
   pub tree : Tree
   pub listed : IsListed listing tree p
-  pub texts_are : map reading texts ≡ map Ok (dump tree)
+  pub texts_are : map reading texts ≡ readings (dump tree)
 
 -- no listing begins with these lines
 abbrev pub BeginsNone : Parameters → List (List ℕ) → Type 0
 BeginsNone p texts = (u : Tree) (rest : List (List ℕ)) → IsTreeUnder u p
-    → map reading (texts ++ rest) ≡ map Ok (dump u) → ⊥
+    → map reading (texts ++ rest) ≡ readings (dump u) → ⊥
 
 module _ {R : Type 0} (source_of : R → SourceState) (p : Parameters) (first now : LineState R) (listing : Listing)
     (is_listing : Bool) where

@@ -5,14 +5,15 @@ ghost use Rattle.store_model.specs.Trees.{Tree, empty_tree};
 ghost use Rattle.tree_listing.specs.Listings.{IsListed};
 ghost use Rattle.image_subcommands.specs.Limits.{IsUnread};
 ghost use Rattle.image_subcommands.specs.Outside.{KeepsOutside, outside_of};
-ghost use Rattle.image_subcommands.specs.Statuses.{Subcommand as words};
-ghost use Rattle.image_work.specs.Works.{IsReady, WorksOnStore};
+ghost use Rattle.image_work.specs.Works.{IsReady};
 ghost use Rattle.listing_subcommands.specs.Filling.{LoadsListing, FillsStore, PutsFull, PrintsFilled};
-ghost use Rattle.listing_subcommands.specs.LoadCall.{KeepsLoad, LoadsAt, IsLoad};
+ghost use Rattle.listing_subcommands.specs.LoadCall.{IsLoad};
 
 use crate::read::read_listing;
 use disk_model::Disk;
+use image_check::AttachFault;
 use image_subcommands::{Outcome, Status};
+use image_work::{StoreWork, open_for};
 use script_lines::{LineReader, Reply, Sink, Source, write_reply};
 use std::alloc::Global;
 use store_core::{ApplyFault, LoadAnswer, Store};
@@ -77,28 +78,57 @@ fn print_filled<W: Sink>(sink: &mut W, filled: Result<LoadAnswer, Status>) -> St
     }
 }
 
-/// Loads a store with the tree of the listing whose lines come.
-fn load_store<D: Disk, R: Source, W: Sink>(
+/// The work of `load`, of whose listing no line was read yet.
+#[derive(Drop)]
+struct LoadWork<R: Source, W: Sink> {
     alloc: Global,
-    store: Store<D>,
     reader: LineReader<R>,
     sink: W,
-) -> Outcome<D, R, W>
-    requires unread { IsUnread reader }
-    requires ready { IsReady D.state store }
-    ensures { WorksOnStore D.state R.state W.state words.Load
-        (KeepsLoad D.state R.state W.state) (LoadsAt D.state R.state W.state)
-        (reader.source, sink) store result }
-{
-    let (mut store, mut reader, mut sink) = (store, reader, sink);
-    let filled = fill_store(alloc, &mut store, &mut reader);
-    let status = print_filled(&mut sink, filled);
-    Outcome {
-        status,
-        done: status.done_of_work(),
-        disk: store.into_disk(),
-        source: reader.into_source(),
-        sink,
+    ghost unread: { IsUnread reader },
+}
+
+impl<R: Source, W: Sink> StoreWork for LoadWork<R, W> {
+    ghost use Rattle.image_subcommands.specs.Statuses.{Subcommand as words};
+    ghost use Rattle.listing_subcommands.specs.LoadCall.{KeepsLoad, LoadsAt};
+
+    type Reads = R;
+
+    type Writes = W;
+
+    ghost word = { λ work. words.Load };
+
+    ghost given = { λ work. (work.reader.source, work.sink) };
+
+    ghost keeps = { λ D disk_of work. KeepsLoad disk_of R.state W.state };
+
+    ghost does = { λ D disk_of work. LoadsAt disk_of R.state W.state };
+
+    /// Loads the store with the tree of the listing.
+    fn work<D: Disk>(self, store: Store<D>) -> Outcome<D, R, W> {
+        let LoadWork {
+            alloc,
+            reader,
+            sink,
+        } = self;
+        let (mut store, mut reader, mut sink) = (store, reader, sink);
+        let filled = fill_store(alloc, &mut store, &mut reader);
+        let status = print_filled(&mut sink, filled);
+        Outcome {
+            status,
+            done: status.done_of_work(),
+            disk: store.into_disk(),
+            source: reader.into_source(),
+            sink,
+        }
+    }
+
+    fn give_up<D: Disk>(self, fault: AttachFault, disk: D) -> Outcome<D, R, W> {
+        let LoadWork {
+            alloc: _,
+            reader,
+            sink,
+        } = self;
+        Outcome::idle(fault.into(), disk, reader.into_source(), sink)
     }
 }
 
@@ -119,8 +149,10 @@ pub fn load_image<D: Disk, R: Source, W: Sink>(
         Ok(reader) => reader,
         Err((_, source)) => return Outcome::idle(Status::NoMemory, disk, source, sink),
     };
-    match Store::attach(alloc, disk) {
-        Ok(store) => load_store(alloc, store, reader, sink),
-        Err((fault, disk)) => Outcome::idle(fault.into(), disk, reader.into_source(), sink),
-    }
+    let work = LoadWork {
+        alloc,
+        reader,
+        sink,
+    };
+    open_for(alloc, disk, work)
 }

@@ -117,7 +117,7 @@ refused_more t number count n p low =
     ∙ ap (λ (u : Tree). (step u (generated number n) p).reply ∷ []) (sym (tree_at t number count p n low)))
 
 -- every reply is a refusal or is not
-counted_all : (rs : List Reply) → count_answered rs + count_refused rs ≡ length rs
+pub counted_all : (rs : List Reply) → count_answered rs + count_refused rs ≡ length rs
 counted_all [] = refl
 counted_all (Acknowledged ∷ rs) = omega (arith, counted_all rs)
 counted_all (Content bytes ∷ rs) = omega (arith, counted_all rs)

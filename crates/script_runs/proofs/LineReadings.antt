@@ -1,5 +1,5 @@
 -- What a line asks for, whatever is read of it.
-use Rattle.std.proofs.Common.{◌≡◌, ℕ, ◌<◌, ◌≤◌, List, length, Some, None, Result, Ok, Err, refl, ap, subst}
+use Rattle.std.proofs.Common.{◌≡◌, ℕ, ◌<◌, ◌≤◌, List, length, Some, None, Result, Ok, Err, refl, ap}
 use Rattle.std.proofs.Common.{if◌then◌else◌}
 use Rattle.std.proofs.lemmas.Bool.{lt-ltb, le-ltb}
 use Rattle.store_model.specs.declared.refusal.Refusal.{Refusal}
@@ -35,42 +35,46 @@ unfolding session_reading
 session_reading_long text h = ap (λ b. if b then Err refusals.Long else parse_session text)
     (lt-ltb line_limit (length text) h)
 
-module _ {R Q : Type 0} (source_of : R → SourceState) (IsAsked : Q → List ℕ → Type 0) (old new : LineState R) where
+module _ {R Q : Type 0} {source_of : R → SourceState} {IsAsked : Q → List ℕ → Type 0} {old new : LineState R} where
   -- a line of text
-  text_read : (asked : Q) → KeepsSource (source_of old.source) (source_of new.source) (Ok answers.Text)
-      → EndsCall old new (Ok answers.Text)
-      → (IsObservable (source_of old.source) → NextLine source_of old new (Ok answers.Text)) → IsAsked asked new.text
-      → ReadsLine source_of IsAsked old new (Ok (Some asked))
-  text_read asked source ends next is = record {
+  pub reads_text : (line : Line) → line ≡ answers.Text
+      → KeepsSource (source_of old.source) (source_of new.source) (Ok line) → EndsCall old new (Ok line)
+      → (IsObservable (source_of old.source) → NextLine source_of old new (Ok line)) → {asked : Q}
+      → IsAsked asked new.text → ReadsLine source_of IsAsked old new (Ok (Some asked))
+  reads_text answers.Text is source ends next asks = record {
     source = record { observable = source.observable; faults = source.faults };
     live = (λ e. refl, λ e. ends.live.1 refl);
     limit = ends.limit;
     in_limit = ends.in_limit;
     falls = ends.falls;
-    next = λ o. (new.text, is, next o);
+    next = λ o. (new.text, asks, next o);
   }
+  reads_text answers.Long is source ends next asks = absurd (cc)
+  reads_text answers.End is source ends next asks = absurd (cc)
 
   -- a line that is longer
-  long_read : (asked : Q) → KeepsSource (source_of old.source) (source_of new.source) (Ok answers.Long)
-      → EndsCall old new (Ok answers.Long)
-      → (IsObservable (source_of old.source) → NextLine source_of old new (Ok answers.Long))
+  pub reads_long : (line : Line) → line ≡ answers.Long
+      → KeepsSource (source_of old.source) (source_of new.source) (Ok line) → EndsCall old new (Ok line)
+      → (IsObservable (source_of old.source) → NextLine source_of old new (Ok line)) → {asked : Q}
       → ((text : List ℕ) → line_limit < length text → IsAsked asked text)
       → ReadsLine source_of IsAsked old new (Ok (Some asked))
-  long_read asked source ends next long = record {
+  reads_long answers.Long is source ends next asks = record {
     source = record { observable = source.observable; faults = source.faults };
     live = (λ e. refl, λ e. ends.live.1 refl);
     limit = ends.limit;
     in_limit = ends.in_limit;
     falls = ends.falls;
-    next = λ o. let line = next o in (line.0, long line.0 line.1, line.2);
+    next = λ o. let line = next o in (line.0, asks line.0 line.1, line.2);
   }
+  reads_long answers.Text is source ends next asks = absurd (cc)
+  reads_long answers.End is source ends next asks = absurd (cc)
 
   -- the end of the script
-  end_read : KeepsSource (source_of old.source) (source_of new.source) (Ok answers.End)
-      → EndsCall old new (Ok answers.End)
-      → (IsObservable (source_of old.source) → NextLine source_of old new (Ok answers.End))
+  pub reads_end : (line : Line) → line ≡ answers.End
+      → KeepsSource (source_of old.source) (source_of new.source) (Ok line) → EndsCall old new (Ok line)
+      → (IsObservable (source_of old.source) → NextLine source_of old new (Ok line))
       → ReadsLine source_of IsAsked old new (Ok None)
-  end_read source ends next = record {
+  reads_end answers.End is source ends next = record {
     source = record { observable = source.observable; faults = source.faults };
     live = (λ e. refl, λ e. ends.live.1 refl);
     limit = ends.limit;
@@ -78,6 +82,8 @@ module _ {R Q : Type 0} (source_of : R → SourceState) (IsAsked : Q → List �
     falls = ends.falls;
     next = next;
   }
+  reads_end answers.Text is source ends next = absurd (cc)
+  reads_end answers.Long is source ends next = absurd (cc)
 
   -- no line, for a fault
   pub fault_read : (fault : LineFault)
@@ -100,27 +106,3 @@ module _ {R Q : Type 0} (source_of : R → SourceState) (IsAsked : Q → List �
     falls = tt;
     next = next;
   }
-
-  module _ (line : Line) (source : KeepsSource (source_of old.source) (source_of new.source) (Ok line))
-      (ends : EndsCall old new (Ok line)) (next : IsObservable (source_of old.source)
-      → NextLine source_of old new (Ok line)) where
-    pub reads_text : (asked : Q) → line ≡ answers.Text → IsAsked asked new.text
-        → ReadsLine source_of IsAsked old new (Ok (Some asked))
-    reads_text asked is = text_read asked
-        (subst (λ (l : Line). KeepsSource (source_of old.source) (source_of new.source) (Ok l)) is source)
-        (subst (λ (l : Line). EndsCall old new (Ok l)) is ends)
-        (λ o. subst (λ (l : Line). NextLine source_of old new (Ok l)) is (next o))
-
-    pub reads_long : (asked : Q) → line ≡ answers.Long
-        → ((text : List ℕ) → line_limit < length text → IsAsked asked text)
-        → ReadsLine source_of IsAsked old new (Ok (Some asked))
-    reads_long asked is = long_read asked
-        (subst (λ (l : Line). KeepsSource (source_of old.source) (source_of new.source) (Ok l)) is source)
-        (subst (λ (l : Line). EndsCall old new (Ok l)) is ends)
-        (λ o. subst (λ (l : Line). NextLine source_of old new (Ok l)) is (next o))
-
-    pub reads_end : line ≡ answers.End → ReadsLine source_of IsAsked old new (Ok None)
-    reads_end is =
-        end_read (subst (λ (l : Line). KeepsSource (source_of old.source) (source_of new.source) (Ok l)) is source)
-        (subst (λ (l : Line). EndsCall old new (Ok l)) is ends)
-        (λ o. subst (λ (l : Line). NextLine source_of old new (Ok l)) is (next o))

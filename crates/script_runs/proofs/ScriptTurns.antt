@@ -16,25 +16,24 @@ use Rattle.script_lines.specs.SourceState.{SourceState}
 use Rattle.script_lines.specs.SinkState.{SinkState, IsPut}
 use Rattle.script_lines.specs.LineState.{LineState, left, to_come, unread, Answers}
 use Rattle.script_lines.specs.declared.lines.LineFault.{LineFault}
+use Rattle.script_lines.specs.declared.lines.LineFault.TheVariants as causes
 use Rattle.script_lines.specs.declared.command.Command.{Command}
 use Rattle.script_lines.specs.declared.reply.Reply.{Reply}
 use Rattle.script_lines.specs.Parsing.{reading_of}
 use Rattle.script_lines.specs.Replies.{reply_of}
 use Rattle.store_core.specs.StoreState.{StoreState}
 use Rattle.script_runs.specs.declared.lines.Script.{Script}
+use Rattle.script_runs.specs.declared.script.Answering.TheVariants as answering
 use Rattle.image_subcommands.specs.declared.status.Status.{Status}
 use Rattle.image_subcommands.specs.declared.status.Status.TheVariants as statuses
 use Rattle.image_subcommands.specs.Endings.{line_status, ended_status}
 use Rattle.image_subcommands.specs.Statuses.{Subcommand as words}
 use Rattle.script_runs.specs.Runs.{reading, ReadsLine, IsAskedIn, IsUnread, run_texts, run_trees}
-use Rattle.script_runs.specs.ScriptLines.{AnswersLines}
 use Rattle.script_runs.specs.ScriptWork.{ScriptTold, ScriptLive, script_trees, script_texts, ScriptKept, ScriptDue}
 use Rattle.script_runs.specs.ScriptWork.{ScriptEnds}
 use Rattle.script_runs.specs.Turns.{Start, start_of, RepliesTo, Stops, Asks, IsNext, Begins, AnswersAll}
-use Rattle.script_runs.proofs.LineCalls as calls
-use Rattle.script_runs.proofs.LineEnds.{lines_answered, line_not_done, line_spares}
-use Rattle.script_runs.proofs.RunLemmas.{no_line, length-run_texts, tree_next, text_next}
-use Rattle.script_runs.proofs.ScriptWords.{run_each}
+use Rattle.script_runs.proofs.LineTurns as turns
+use Rattle.script_runs.proofs.AnswerLemmas.{no_line, length-run_texts, tree_next, text_next}
 
 -- the answer to a line is that to what it asks for
 answer_reading : (t : Tree) (text : List ℕ) (p : Parameters) → answer t text p ≡ answer_by t (reading text) p
@@ -45,8 +44,18 @@ answer_reading t text p =
     (λ b. (if b then long else answer_by t (parse text) p)
     ≡ answer_by t (if b then Err refusals.Long else parse text) p) [ true ↦ refl | false ↦ refl ]
 
-module _ {R W : Type 0} (source_of : R → SourceState) (sink_of : W → SinkState) (start : Start)
-    (first : Script R W) where
+-- a fault of the reader leaves lines unanswered, and is none of the disk
+pub line_not_done : (fault : LineFault) → line_status fault ≡ statuses.Done → ⊥
+line_not_done causes.Source e = cc
+line_not_done causes.TooLong e = cc
+
+pub line_spares : (fault : LineFault) → line_status fault ≡ statuses.DiskFault → ⊥
+line_spares causes.Source e = cc
+line_spares causes.TooLong e = cc
+
+module _ {R W : Type 0} {source_of : R → SourceState} {sink_of : W → SinkState} (start : Start)
+    (first : Script R W) {now : LineState R} {sink : W} {done : ℕ}
+    (before : ScriptKept source_of sink_of start first (record { reader = now; sink = sink }) done) where
   -- the trees of its run, and a text for each of its lines
   abbrev trees : ℕ → Tree
   trees = script_trees source_of sink_of first start
@@ -57,32 +66,26 @@ module _ {R W : Type 0} (source_of : R → SourceState) (sink_of : W → SinkSta
   each : length texts ≡ length (lines (left source_of first.reader))
   each = length-run_texts start.tree (left source_of first.reader) start.params
 
-  module _ (now next : LineState R) (sink : W) (done : ℕ)
-      (before : ScriptKept source_of sink_of start first (record { reader = now; sink = sink }) done) where
+  module _ {next : LineState R} where
     -- a take failed, or the script is too long
     pub at_line_fault : (fault : LineFault) → ReadsLine source_of IsAskedIn now next (Err fault)
         → Stops (ScriptTold source_of sink_of) (script_trees source_of sink_of)
         (ScriptEnds source_of sink_of) start first (record { reader = next; sink = sink }) done (line_status fault)
     at_line_fault fault reads = record {
-      ends = calls.at_line_fault source_of sink_of texts
-          (IsTrue start.tells) first.reader first.sink words.Run run_each.as_run each now sink done before
-          IsAskedIn next fault reads;
+      ends = turns.at_line_fault answering.Commands each before fault reads;
       cut_short = line_not_done fault;
-      spares = line_spares fault;
+      disk_spared = line_spares fault;
     }
 
     -- a line was read
-    module _ (asked : Result Command Refusal) (reads : ReadsLine source_of IsAskedIn now next (Ok (Some asked))) where
+    module _ {asked : Result Command Refusal} (reads : ReadsLine source_of IsAskedIn now next (Ok (Some asked))) where
       -- its answer, as the definitions have it, and the tree after it
       module _ (o : ScriptTold source_of sink_of first) where
         abbrev line : (text : List ℕ) × (reading_of asked ≡ reading text) × Answers source_of now next (text ∷ [])
-        line = calls.line source_of sink_of texts (IsTrue start.tells)
-            first.reader first.sink words.Run run_each.as_run each now sink done before IsAskedIn next asked reads o
+        line = turns.line answering.Commands each before reads o
 
         split : lines (left source_of first.reader) ≡ (before.half o).read ++ line.0 ∷ lines (to_come source_of next)
-        split = calls.split source_of sink_of texts
-            (IsTrue start.tells) first.reader first.sink words.Run run_each.as_run each now sink done before
-            IsAskedIn next asked reads o
+        split = turns.split answering.Commands each before reads o
 
         step_is : answer (trees done) line.0 start.params ≡ answer_by (trees done) (reading_of asked) start.params
         step_is = answer_reading (trees done) line.0 start.params
@@ -106,9 +109,7 @@ module _ {R W : Type 0} (source_of : R → SourceState) (sink_of : W → SinkSta
       asks = record {
         after = λ o od. tree_behind o;
         due = record { before = now; kept = before; reads = reads };
-        cut = calls.at_fault source_of sink_of texts
-            (IsTrue start.tells) first.reader first.sink words.Run run_each.as_run each now sink done before
-            IsAskedIn next asked reads;
+        cut = turns.at_fault answering.Commands each before reads;
       }
 
       -- and its reply was put out, or a part of it
@@ -118,36 +119,28 @@ module _ {R W : Type 0} (source_of : R → SourceState) (sink_of : W → SinkSta
             → take 1 (drop done texts) ≡ reply_text (reply_of reply) ∷ []
         text_is o od = text_behind o ∙ ap (λ (r : model.Reply). reply_text r ∷ []) (sym (replies o od))
 
-        pub line_more : {T E : Type 0} (value : T)
+        pub line_more : {T E : Type 0} {value : T}
             → IsPut {E = E} (sink_of sink) (sink_of sink_next) (reply_text (reply_of reply)) (Ok value)
             → ScriptKept source_of sink_of start first (record { reader = next; sink = sink_next }) (done + 1)
-        line_more value put =
-            calls.line_more source_of sink_of texts (IsTrue start.tells)
-            first.reader first.sink words.Run run_each.as_run each now sink done before IsAskedIn next asked reads
-            (reply_text (reply_of reply)) text_is sink_next value put
+        line_more put = turns.line_more answering.Commands each before reads text_is put
 
-        pub line_cut_off : {T E : Type 0} (fault : E)
+        pub line_cut_off : {T E : Type 0} {fault : E}
             → IsPut {T = T} (sink_of sink) (sink_of sink_next) (reply_text (reply_of reply)) (Err fault)
             → Stops (ScriptTold source_of sink_of) (script_trees source_of sink_of)
             (ScriptEnds source_of sink_of) start first (record { reader = next; sink = sink_next })
             (done + 1) statuses.SinkFault
-        line_cut_off fault put = record {
-          ends = calls.line_cut_off source_of sink_of texts
-              (IsTrue start.tells) first.reader first.sink words.Run run_each.as_run each now sink done before
-              IsAskedIn next asked reads
-              (reply_text (reply_of reply)) text_is sink_next fault put;
+        line_cut_off put = record {
+          ends = turns.line_cut_off answering.Commands each before reads text_is put;
           cut_short = λ e. cc;
-          spares = record { other = λ e. cc; count = λ faults. refl };
+          disk_spared = λ e. cc;
         }
 
     -- what the reader answered
     pub script_next : (value : Option (Result Command Refusal)) → ReadsLine source_of IsAskedIn now next (Ok value)
         → IsNext (ScriptTold source_of sink_of) (script_trees source_of sink_of) (ScriptEnds source_of sink_of)
         (ScriptDue source_of sink_of) start first (record { reader = next; sink = sink }) done (Ok value)
-    script_next None reads = calls.at_end source_of sink_of texts
-        (IsTrue start.tells) first.reader first.sink words.Run run_each.as_run each now sink done
-        before IsAskedIn next reads
-    script_next (Some asked) reads = asks asked reads
+    script_next None reads = turns.at_end answering.Commands each before reads
+    script_next (Some asked) reads = asks reads
 
 -- a new reader, for a store
 pub script_begins : {D R W : Type 0} (disk_of : D → DiskState) (source_of : R → SourceState) (sink_of : W → SinkState)
@@ -156,20 +149,7 @@ pub script_begins : {D R W : Type 0} (disk_of : D → DiskState) (source_of : R 
     (ScriptKept source_of sink_of) store script
 script_begins disk_of source_of sink_of store script new = record {
   tree = no_line store.tree (left source_of script.reader) store.params;
-  kept = calls.lines_start source_of sink_of (script_texts source_of sink_of script (start_of disk_of store))
-      (IsTrue (start_of disk_of store).tells) script.reader script.sink new;
+  kept = turns.lines_start new;
   live = new.live;
   fits = omega (arith, ap length new.held, new.taken, new.limit);
 }
-
--- what the loop leaves of a script and a store
-pub run_lines : {D R W : Type 0} (disk_of : D → DiskState) (source_of : R → SourceState) (sink_of : W → SinkState)
-    (ended : Result (Unit {0}) Status) (done : ℕ) (store store_new : StoreState D) (script script_new : Script R W)
-    → AnswersAll disk_of (ScriptTold source_of sink_of) (script_trees source_of sink_of)
-    (ScriptEnds source_of sink_of) ended done store store_new script script_new
-    → AnswersLines words.Run run_texts run_trees disk_of source_of sink_of
-    (ended_status ended) done store store_new script.reader script_new.reader script.sink script_new.sink
-run_lines disk_of source_of sink_of ended done store store_new script script_new all =
-    lines_answered words.Run run_texts run_trees disk_of source_of sink_of
-    (ended_status ended) done store store_new
-    script.reader script_new.reader script.sink script_new.sink all.work all.store

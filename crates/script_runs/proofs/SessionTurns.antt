@@ -22,6 +22,7 @@ use Rattle.image_subcommands.specs.declared.status.Status.{Status}
 use Rattle.image_subcommands.specs.declared.status.Status.TheVariants as statuses
 use Rattle.image_subcommands.specs.Endings.{line_status, apply_status}
 use Rattle.image_subcommands.specs.Statuses.{Subcommand as words}
+use Rattle.script_runs.specs.declared.script.Answering.TheVariants as answering
 use Rattle.script_runs.specs.Runs.{ReadsLine, IsReady, IsUnread}
 use Rattle.script_runs.specs.ScriptLines.{LinesKept, AnswersLines}
 use Rattle.script_runs.specs.SessionRuns.{answer_call, answer_session_line, session_reading, session_texts}
@@ -29,11 +30,9 @@ use Rattle.script_runs.specs.SessionRuns.{session_machines, session_trees}
 use Rattle.script_runs.specs.SessionWork.{IsCallIn, AnswersReadCall, AnswersSessionLine}
 use Rattle.script_runs.specs.Turns.{StoreSoFar, StoreEnds}
 use Rattle.script_runs.proofs.CallTurns.{machine_of, call_taken, call_failed}
-use Rattle.script_runs.proofs.LineCalls as calls
-use Rattle.script_runs.proofs.LineEnds.{lines_answered, line_spares}
-use Rattle.script_runs.proofs.ScriptWords.{session_each}
-use Rattle.script_runs.proofs.SessionLemmas.{no_line_read, no_call, length-session_texts, machine_next}
-use Rattle.script_runs.proofs.SessionLemmas.{answer_text_next}
+use Rattle.script_runs.proofs.AnswerLemmas.{no_line_read, no_call, length-session_texts, machine_next, answer_text_next}
+use Rattle.script_runs.proofs.LineTurns as turns
+use Rattle.script_runs.proofs.ScriptTurns.{line_spares}
 use Rattle.script_runs.proofs.StoreTurns.{store_start, store_still, store_more, store_failed, store_ends}
 
 -- A line was answered so, as it was read: the store, the answer and the sessions are those of the machine.
@@ -46,9 +45,9 @@ record TakesLine {D : Type 0} (disk_of : D → DiskState) (Told : Type 0) (trees
   pub places : disks.IsObservable (disk_of old.store.disk)
       → new.places ≡ (answer_call old.store.params (machine_of old) asked).1.places
 
-module _ {D : Type 0} (disk_of : D → DiskState) (Told : Type 0) (trees : ℕ → Tree)
+module _ {D : Type 0} {disk_of : D → DiskState} {Told : Type 0} {trees : ℕ → Tree}
     (sound : (disk : D) → disks.IsObservable (disk_of disk) → IsSound (disk_of disk))
-    (first now : SessionsState D) (done : ℕ) (so_far : StoreSoFar disk_of Told trees first.store now.store done)
+    (first now : SessionsState D) {done : ℕ} (so_far : StoreSoFar disk_of Told trees first.store now.store done)
     (next : SessionsState D) where
   line_taken : (asked : Result SessionCall Refusal)
       → (Told → disks.IsObservable (disk_of first.store.disk)
@@ -58,14 +57,13 @@ module _ {D : Type 0} (disk_of : D → DiskState) (Told : Type 0) (trees : ℕ �
   line_taken (Ok call) after reply answers =
       let taken = call_taken disk_of call now next so_far.runs reply answers in
       record {
-        store = store_more disk_of Told trees sound first.store now.store done so_far
-            (turn now.store.params (machine_of now) call).1.tree next.store after tt taken.moves;
+        store = store_more so_far sound after taken.moves;
         answer_is = taken.answer_is;
         places = taken.places;
       }
   line_taken (Err refusal) after reply refused = record {
     store = subst (λ (s : SessionsState D). StoreSoFar disk_of Told trees first.store s.store (done + 1))
-        (sym refused.same) (store_still disk_of Told trees sound first.store now.store done so_far after);
+        (sym refused.same) (store_still so_far after);
     answer_is = λ o. refused.reply;
     places = λ o. ap (λ (s : SessionsState D). s.places) refused.same;
   }
@@ -76,113 +74,101 @@ module _ {D : Type 0} (disk_of : D → DiskState) (Told : Type 0) (trees : ℕ �
       → (fault : ApplyFault) → AnswersReadCall disk_of asked now next (Err fault)
       → StoreEnds disk_of Told trees (apply_status fault) done first.store next.store
   line_failed (Ok call) after fault answers =
-      store_failed disk_of Told trees sound first.store now.store done so_far
-      (turn now.store.params (machine_of now) call).1.tree next.store after fault
-      (call_failed disk_of call now next so_far.runs fault answers)
+      store_failed so_far sound after fault (call_failed disk_of call now next so_far.runs fault answers)
   line_failed (Err refusal) after fault refused = absurd refused.reply
 
-module _ {D R W : Type 0} (disk_of : D → DiskState) (source_of : R → SourceState) (sink_of : W → SinkState)
-    (first : SessionsState D) (reader : LineState R) (sink : W) where
-  -- what the source has to tell, and the disk
-  abbrev Told : Type 0
-  Told = sources.IsObservable (source_of reader.source)
+-- What is known between two lines.
+pub record SessionsSoFar {D R W : Type 0} (disk_of : D → DiskState) (source_of : R → SourceState)
+    (sink_of : W → SinkState) (first now : SessionsState D) (reader reader_now : LineState R) (sink sink_now : W)
+    (done : ℕ) : Type 0 where
+  pub lines : LinesKept source_of sink_of (session_texts first.store.tree (left source_of reader) first.store.params)
+      (disks.IsObservable (disk_of first.store.disk)) reader reader_now sink sink_now done
+  pub store : StoreSoFar disk_of (sources.IsObservable (source_of reader.source))
+      (session_trees first.store.tree (left source_of reader) first.store.params) first.store now.store done
+  pub places : sources.IsObservable (source_of reader.source) → disks.IsObservable (disk_of first.store.disk)
+      → now.places ≡ (session_machines first.store.tree (left source_of reader) first.store.params done).places
+  pub live : reader_now.is_live ≡ true
+  pub low : done + unread reader_now ≤ unread reader
 
-  abbrev Tells : Type 0
-  Tells = disks.IsObservable (disk_of first.store.disk)
+module _ {D R W : Type 0} {disk_of : D → DiskState} {source_of : R → SourceState} {sink_of : W → SinkState}
+    (sound : (disk : D) → disks.IsObservable (disk_of disk) → IsSound (disk_of disk))
+    {first : SessionsState D} {reader : LineState R} {sink : W} where
+  -- before the first line
+  pub sessions_start : IsReady disk_of first.store → first.places ≡ no_places → IsUnread reader
+      → SessionsSoFar disk_of source_of sink_of first first reader reader sink sink 0
+  sessions_start ready begins new = record {
+    lines = turns.lines_start new;
+    store = store_start sound ready (no_call first.store.tree (left source_of reader) first.store.params);
+    places = λ told o. begins ∙ sym (ap (λ (m : Machine). m.places)
+        (no_line_read first.store.tree (left source_of reader) first.store.params));
+    live = new.live;
+    low = omega arith;
+  }
 
-  -- the machines of the script with their trees, and the texts of its answers
-  abbrev machines : ℕ → Machine
-  machines = session_machines first.store.tree (left source_of reader) first.store.params
+  module _ {now : SessionsState D} {reader_now : LineState R} {sink_now : W} {done : ℕ}
+      (before : SessionsSoFar disk_of source_of sink_of first now reader reader_now sink sink_now done) where
+    -- what the source has to tell, and the disk
+    abbrev Told : Type 0
+    Told = sources.IsObservable (source_of reader.source)
 
-  abbrev trees : ℕ → Tree
-  trees = session_trees first.store.tree (left source_of reader) first.store.params
+    abbrev Tells : Type 0
+    Tells = disks.IsObservable (disk_of first.store.disk)
 
-  abbrev texts : List (List ℕ)
-  texts = session_texts first.store.tree (left source_of reader) first.store.params
+    -- the machines of the script with their trees, and the texts of its answers
+    abbrev machines : ℕ → Machine
+    machines = session_machines first.store.tree (left source_of reader) first.store.params
 
-  -- What is known between two lines.
-  pub record SessionsSoFar (now : SessionsState D) (reader_now : LineState R) (sink_now : W) (done : ℕ) : Type 0 where
-    pub lines : LinesKept source_of sink_of texts Tells reader reader_now sink sink_now done
-    pub store : StoreSoFar disk_of Told trees first.store now.store done
-    pub places : Told → Tells → now.places ≡ (machines done).places
-    pub live : reader_now.is_live ≡ true
-    pub low : done + unread reader_now ≤ unread reader
+    abbrev trees : ℕ → Tree
+    trees = session_trees first.store.tree (left source_of reader) first.store.params
 
-  -- The lines ended so.
-  abbrev EndSo : Status → ℕ → SessionsState D → LineState R → W → Type 0
-  EndSo status done new reader_new sink_new =
-      AnswersLines words.Session session_texts session_trees disk_of source_of sink_of status done
-      first.store new.store reader reader_new sink sink_new
+    abbrev texts : List (List ℕ)
+    texts = session_texts first.store.tree (left source_of reader) first.store.params
 
-  each : length texts ≡ length (lines (left source_of reader))
-  each = length-session_texts first.store.tree (left source_of reader) first.store.params
+    each : length texts ≡ length (lines (left source_of reader))
+    each = length-session_texts first.store.tree (left source_of reader) first.store.params
 
-  module _ (sound : (disk : D) → disks.IsObservable (disk_of disk) → IsSound (disk_of disk)) where
-    -- before the first line
-    pub sessions_start : IsReady disk_of first.store → first.places ≡ no_places → IsUnread reader
-        → SessionsSoFar first reader sink 0
-    sessions_start ready begins new = record {
-      lines = calls.lines_start source_of sink_of texts Tells reader sink new;
-      store = store_start disk_of Told trees sound first.store ready
-          (no_call first.store.tree (left source_of reader) first.store.params);
-      places = λ told o. begins
-          ∙ sym (ap (λ (m : Machine). m.places)
-          (no_line_read first.store.tree (left source_of reader) first.store.params));
-      live = new.live;
-      low = omega arith;
-    }
+    -- The lines ended so.
+    abbrev EndSo : Status → ℕ → SessionsState D → LineState R → W → Type 0
+    EndSo status done new reader_new sink_new =
+        AnswersLines words.Session session_texts session_trees disk_of source_of sink_of status done
+        first.store new.store reader reader_new sink sink_new
 
-    module _ (now : SessionsState D) (reader_now : LineState R) (sink_now : W) (done : ℕ)
-        (before : SessionsSoFar now reader_now sink_now done) (next : LineState R) where
+    module _ {next : LineState R} where
       -- the script is at its end
       pub at_end : ReadsLine source_of IsCallIn reader_now next (Ok None) → EndSo statuses.Done done now next sink_now
-      at_end reads =
-          lines_answered words.Session session_texts session_trees disk_of source_of sink_of statuses.Done done
-          first.store now.store reader next sink sink_now
-          (calls.at_end source_of sink_of texts Tells reader sink words.Session session_each.as_run each reader_now
-          sink_now done before.lines IsCallIn next reads)
-          (store_ends disk_of Told trees statuses.Done done first.store now.store (record {
-            other = λ e. cc;
-            count = λ faults. refl;
-          }) before.store)
+      at_end reads = record {
+        work = turns.at_end answering.Calls each before.lines reads;
+        store = store_ends before.store statuses.Done (λ e. cc);
+      }
 
       -- a take failed, or the script is too long
       pub at_line_fault : (fault : LineFault) → ReadsLine source_of IsCallIn reader_now next (Err fault)
           → EndSo (line_status fault) done now next sink_now
-      at_line_fault fault reads =
-          lines_answered words.Session session_texts session_trees disk_of source_of sink_of
-          (line_status fault) done first.store now.store reader next sink sink_now
-          (calls.at_line_fault source_of sink_of texts Tells reader sink words.Session session_each.as_run each
-          reader_now sink_now done before.lines IsCallIn next fault reads)
-          (store_ends disk_of Told trees (line_status fault) done
-          first.store now.store (line_spares fault) before.store)
+      at_line_fault fault reads = record {
+        work = turns.at_line_fault answering.Calls each before.lines fault reads;
+        store = store_ends before.store (line_status fault) (line_spares fault);
+      }
 
       -- a line was read, and answered
-      module _ (asked : Result SessionLine Refusal)
+      module _ {asked : Result SessionLine Refusal}
           (reads : ReadsLine source_of IsCallIn reader_now next (Ok (Some asked))) (after : SessionsState D) where
-        -- the sessions are the machine, which answers the line
-        machine_is : Told → Tells → machine_of now ≡ machines done
-        machine_is told o =
-            ap (λ (t : Tree). record { tree = t; places = now.places }) (before.store.tree told o)
-            ∙ ap (λ (ps : Places). record { tree = trees done; places = ps }) (before.places told o)
-
         abbrev line : Told → (text : List ℕ) × IsCallIn asked text × Answers source_of reader_now next (text ∷ [])
-        line = calls.line source_of sink_of texts Tells reader sink words.Session session_each.as_run each reader_now
-            sink_now done before.lines IsCallIn next asked reads
+        line told = turns.line answering.Calls each before.lines reads told
 
+        -- the sessions are the machine, which answers the line
         answer_is : (told : Told) → Tells → answer_session_line first.store.params (machines done) (line told).0
             ≡ answer_call now.store.params (machine_of now) (session_reading_of asked)
         answer_is told o =
             ap (λ (p : Parameters). answer_call p (machines done) (session_reading (line told).0))
             (sym before.store.params)
             ∙ ap (λ (m : Machine). answer_call now.store.params m (session_reading (line told).0))
-            (sym (machine_is told o))
+            (sym (ap (λ (t : Tree). record { tree = t; places = now.places }) (before.store.tree told o)
+            ∙ ap (λ (ps : Places). record { tree = trees done; places = ps }) (before.places told o)))
             ∙ ap (answer_call now.store.params (machine_of now)) (sym (line told).1)
 
         split : (told : Told) → lines (left source_of reader) ≡ (before.lines.half told).read ++ (line told).0
             ∷ lines (to_come source_of next)
-        split = calls.split source_of sink_of texts Tells reader sink words.Session session_each.as_run each reader_now
-            sink_now done before.lines IsCallIn next asked reads
+        split told = turns.split answering.Calls each before.lines reads told
 
         machine_after : Told → Tells → machines (done + 1)
             ≡ (answer_call now.store.params (machine_of now) (session_reading_of asked)).1
@@ -198,19 +184,15 @@ module _ {D R W : Type 0} (disk_of : D → DiskState) (source_of : R → SourceS
         -- a fault came in its answer
         pub at_fault : (fault : ApplyFault) → AnswersSessionLine disk_of asked now after (Err fault)
             → EndSo (apply_status fault) done after next sink_now
-        at_fault fault answers =
-            lines_answered words.Session session_texts session_trees disk_of source_of sink_of
-            (apply_status fault) done first.store after.store reader next sink sink_now
-            (calls.at_fault source_of sink_of texts Tells reader sink words.Session session_each.as_run each reader_now
-            sink_now done before.lines IsCallIn next asked reads fault)
-            (line_failed disk_of Told trees sound first now done before.store after
-            (session_reading_of asked) tree_after fault answers)
+        at_fault fault answers = record {
+          work = turns.at_fault answering.Calls each before.lines reads fault;
+          store = line_failed sound first now before.store after (session_reading_of asked) tree_after fault answers;
+        }
 
         -- it was answered
         module _ (reply : SessionReply) (answers : AnswersSessionLine disk_of asked now after (Ok reply)) where
           taken : TakesLine disk_of Told trees first now after done (session_reading_of asked) (session_answer_of reply)
-          taken = line_taken disk_of Told trees sound first now done before.store after
-              (session_reading_of asked) tree_after reply answers
+          taken = line_taken sound first now before.store after (session_reading_of asked) tree_after reply answers
 
           text_is : Told → Tells → take 1 (drop done texts) ≡ session_text (session_answer_of reply) ∷ []
           text_is told o =
@@ -222,13 +204,11 @@ module _ {D R W : Type 0} (disk_of : D → DiskState) (source_of : R → SourceS
               (sym (taken.answer_is (before.store.kept.observable ∙ o)))
 
           -- and its answer was put out
-          pub sessions_more : {T E : Type 0} (value : T) (sink_next : W)
+          pub sessions_more : {T E : Type 0} {value : T} {sink_next : W}
               → IsPut {E = E} (sink_of sink_now) (sink_of sink_next) (session_text (session_answer_of reply)) (Ok value)
-              → SessionsSoFar after next sink_next (done + 1)
-          sessions_more value sink_next put = record {
-            lines = calls.line_more source_of sink_of texts Tells reader sink words.Session session_each.as_run each
-                reader_now sink_now done before.lines IsCallIn next asked reads
-                (session_text (session_answer_of reply)) text_is sink_next value put;
+              → SessionsSoFar disk_of source_of sink_of first after reader next sink sink_next (done + 1)
+          sessions_more put = record {
+            lines = turns.line_more answering.Calls each before.lines reads text_is put;
             store = taken.store;
             places = λ told o. taken.places (before.store.kept.observable ∙ o)
                 ∙ sym (ap (λ (m : Machine). m.places) (machine_after told o));
@@ -237,17 +217,11 @@ module _ {D R W : Type 0} (disk_of : D → DiskState) (source_of : R → SourceS
           }
 
           -- or a part of it
-          pub at_put : {T E : Type 0} (fault : E) (sink_next : W)
+          pub at_put : {T E : Type 0} {fault : E} {sink_next : W}
               → IsPut {T = T} (sink_of sink_now) (sink_of sink_next)
               (session_text (session_answer_of reply)) (Err fault)
               → EndSo statuses.SinkFault (done + 1) after next sink_next
-          at_put fault sink_next put =
-              lines_answered words.Session session_texts session_trees disk_of source_of sink_of
-              statuses.SinkFault (done + 1) first.store after.store reader next sink sink_next
-              (calls.line_cut_off source_of sink_of texts Tells reader sink words.Session session_each.as_run each
-              reader_now sink_now done before.lines IsCallIn next asked reads
-              (session_text (session_answer_of reply)) text_is sink_next fault put)
-              (store_ends disk_of Told trees statuses.SinkFault (done + 1) first.store after.store (record {
-                other = λ e. cc;
-                count = λ faults. refl;
-              }) taken.store)
+          at_put put = record {
+            work = turns.line_cut_off answering.Calls each before.lines reads text_is put;
+            store = store_ends taken.store statuses.SinkFault (λ e. cc);
+          }

@@ -56,142 +56,136 @@ module _ {Q S A : Type 0} (Answers : Q → S → S → Result A ApplyFault → T
   none_asked told (Some turn) is answered = absurd (false≢true (sym is ∙ answered.0))
   none_asked told None is answered = (refl, answered.1)
 
--- the reply is the one that is meant
-reply_meant : {D : Type 0} (disk_of : D → DiskState) (m : Result model.Command Refusal) (old new : StoreState D)
-    (reply : Reply) → AnswersReading disk_of m old new (Ok reply)
-    → disks.IsObservable (disk_of old.disk) → reply_of reply ≡ (answer_by old.tree m old.params).reply
-reply_meant disk_of (Ok c) old new reply applies o = applies.answer o
-reply_meant disk_of (Err refusal) old new reply refused o = refused.reply
-
 -- what is asked for is a step of the store, or is refused and leaves it
-module _ {D : Type 0} (disk_of : D → DiskState) (Told : Type 0) (trees : ℕ → Tree)
-    (sound : (disk : D) → disks.IsObservable (disk_of disk) → IsSound (disk_of disk))
-    (first now : StoreState D) (done : ℕ) (so_far : StoreSoFar disk_of Told trees first now done)
-    (next : StoreState D) where
+module _ {D : Type 0} {disk_of : D → DiskState} {Told : Type 0} {trees : ℕ → Tree}
+    (sound : (disk : D) → disks.IsObservable (disk_of disk) → IsSound (disk_of disk)) {first now : StoreState D}
+    {done : ℕ}
+    (so_far : StoreSoFar disk_of Told trees first now done) (next : StoreState D) where
   turn_more : (m : Result model.Command Refusal)
       → (Told → disks.IsObservable (disk_of first.disk) → trees (done + 1) ≡ (answer_by now.tree m now.params).tree)
       → (reply : Reply) → AnswersReading disk_of m now next (Ok reply)
       → StoreSoFar disk_of Told trees first next (done + 1)
-  turn_more (Ok c) after reply applies =
-      store_more disk_of Told trees sound first now done so_far (step now.tree c now.params).tree next after reply
-      (moves_by_step disk_of (step now.tree c now.params).tree _ now next (Ok reply) so_far.runs applies)
+  turn_more (Ok c) after reply applies = store_more so_far sound after (moves_by_step so_far.runs applies)
   turn_more (Err refusal) after reply refused =
       subst (λ (s : StoreState D). StoreSoFar disk_of Told trees first s (done + 1)) (sym refused.same)
-      (store_still disk_of Told trees sound first now done so_far after)
+      (store_still so_far after)
 
   turn_failed : (m : Result model.Command Refusal)
       → (Told → disks.IsObservable (disk_of first.disk) → trees (done + 1) ≡ (answer_by now.tree m now.params).tree)
       → (fault : ApplyFault) → AnswersReading disk_of m now next (Err fault)
       → StoreEnds disk_of Told trees (apply_status fault) done first next
-  turn_failed (Ok c) after fault applies =
-      store_failed disk_of Told trees sound first now done so_far (step now.tree c now.params).tree next after fault
-      (moves_by_step disk_of (step now.tree c now.params).tree _ now next (Err fault) so_far.runs applies)
+  turn_failed (Ok c) after fault applies = store_failed so_far sound after fault (moves_by_step so_far.runs applies)
   turn_failed (Err refusal) after fault refused = absurd refused.reply
 
-module _ {D M : Type 0} (disk_of : D → DiskState) (Told : M → Type 0) (trees : M → Start → ℕ → Tree) (left : M → ℕ)
-    (Live : M → Type 0) (Kept : Start → M → M → ℕ → Type 0) where
-  -- What is known between two turns.
-  pub record SoFar (first now : M) (store_first store_now : StoreState D) (done : ℕ) : Type 0 where
-    pub work : Kept (start_of disk_of store_first) first now done
-    pub store : StoreSoFar disk_of (Told first) (trees first (start_of disk_of store_first)) store_first store_now done
-    pub live : Live now
-    pub low : done + left now ≤ left first
+  -- and the reply is the one that is meant
+  reply_meant : (m : Result model.Command Refusal) (reply : Reply) → AnswersReading disk_of m now next (Ok reply)
+      → Told → disks.IsObservable (disk_of first.disk)
+      → reply_of reply ≡ (answer_by (trees done) m first.params).reply
+  reply_meant m reply answers told o =
+      answered m reply answers
+      ∙ ap (λ (t : Tree). (answer_by t m now.params).reply) (so_far.tree told o)
+      ∙ ap (λ (p : Parameters). (answer_by (trees done) m p).reply) so_far.params
+    where
+      answered : (m : Result model.Command Refusal) (reply : Reply) → AnswersReading disk_of m now next (Ok reply)
+          → reply_of reply ≡ (answer_by now.tree m now.params).reply
+      answered (Ok c) reply applies = applies.answer (so_far.kept.observable ∙ o)
+      answered (Err refusal) reply refused = refused.reply
 
-  module _ (Ends : Start → M → M → ℕ → Status → Type 0) (sound : (disk : D) → disks.IsObservable (disk_of disk)
-      → IsSound (disk_of disk)) (first : M) (store : StoreState D) where
-    -- before the first turn
-    pub so_far_none : IsReady disk_of store → Begins disk_of trees left Live Kept store first
-        → SoFar first first store store 0
-    so_far_none ready begins = record {
-      work = begins.kept;
-      store = store_start disk_of (Told first) (trees first (start_of disk_of store)) sound store ready begins.tree;
-      live = begins.live;
-      low = omega arith;
+-- What is known between two turns.
+pub record SoFar {D M : Type 0} (disk_of : D → DiskState) (Told : M → Type 0) (trees : M → Start → ℕ → Tree)
+    (left : M → ℕ) (Live : M → Type 0) (Kept : Start → M → M → ℕ → Type 0) (first now : M)
+    (store_first store_now : StoreState D) (done : ℕ) : Type 0 where
+  pub work : Kept (start_of disk_of store_first) first now done
+  pub store : StoreSoFar disk_of (Told first) (trees first (start_of disk_of store_first)) store_first store_now done
+  pub live : Live now
+  pub low : done + left now ≤ left first
+
+module _ {D M : Type 0} {disk_of : D → DiskState} {Told : M → Type 0} {trees : M → Start → ℕ → Tree} {left : M → ℕ}
+    {Live : M → Type 0} {Kept : Start → M → M → ℕ → Type 0}
+    (sound : (disk : D) → disks.IsObservable (disk_of disk) → IsSound (disk_of disk)) where
+  -- before the first turn
+  pub so_far_none : {first : M} {store : StoreState D} → IsReady disk_of store
+      → Begins disk_of trees left Live Kept store first
+      → SoFar disk_of Told trees left Live Kept first first store store 0
+  so_far_none ready begins = record {
+    work = begins.kept;
+    store = store_start sound ready begins.tree;
+    live = begins.live;
+    low = omega arith;
+  }
+
+  module _ {Ends : Start → M → M → ℕ → Status → Type 0} {first now : M} {store store_now : StoreState D} {done : ℕ}
+      (before : SoFar disk_of Told trees left Live Kept first now store store_now done) {next : M} where
+    -- the work is at its end
+    pub at_end : Ends (start_of disk_of store) first next done statuses.Done
+        → AnswersAll disk_of Told trees Ends (Ok tt) done store store_now first next
+    at_end ends = record {
+      turns = record { work = ends; store = store_ends before.store statuses.Done (λ e. cc) };
+      whole = λ h. before.store;
+      cut_short = λ e. refl;
     }
 
-    module _ (now : M) (store_now : StoreState D) (done : ℕ)
-        (before : SoFar first now store store_now done) (next : M) where
-      -- the work is at its end
-      pub at_end : (value : Unit {0}) → Ends (start_of disk_of store) first next done statuses.Done
-          → AnswersAll disk_of Told trees Ends (Ok value) done store store_now first next
-      at_end value ends = record {
-        work = ends;
-        store = store_ends disk_of (Told first) (trees first (start_of disk_of store)) statuses.Done done store
-            store_now (record { other = λ e. cc; count = λ faults. refl }) before.store;
-        whole = λ h. before.store;
-        cut_short = λ e. refl;
-      }
+    -- or ends the turns before
+    pub at_stop : {status : Status} → Stops Told trees Ends (start_of disk_of store) first next done status
+        → AnswersAll disk_of Told trees Ends (Err status) done store store_now first next
+    at_stop {status} stops = record {
+      turns = record { work = stops.ends; store = store_ends before.store status stops.disk_spared };
+      whole = λ h. absurd (false≢true h);
+      cut_short = λ e. absurd (stops.cut_short e);
+    }
 
-      -- or ends the turns before
-      pub at_stop : (status : Status) → Stops Told trees Ends (start_of disk_of store) first next done status
-          → AnswersAll disk_of Told trees Ends (Err status) done store store_now first next
-      at_stop status stops = record {
-        work = stops.ends;
-        store = store_ends disk_of (Told first) (trees first (start_of disk_of store)) status done store store_now
-            stops.spares before.store;
-        whole = λ h. absurd (false≢true h);
-        cut_short = λ e. absurd (stops.cut_short e);
-      }
+    -- something was asked for
+    module _ {Due : Start → M → M → ℕ → Result Command Refusal → Type 0} {asked : Result Command Refusal}
+        (asks : Asks Told trees Ends Due (start_of disk_of store) first next done asked)
+        (store_next : StoreState D) where
+      tree_after : Told first → disks.IsObservable (disk_of store.disk)
+          → trees first (start_of disk_of store) (done + 1)
+          ≡ (answer_by store_now.tree (reading_of asked) store_now.params).tree
+      tree_after told o =
+          asks.after told o ∙ ap (λ (t : Tree). (answer_by t (reading_of asked) store.params).tree)
+          (sym (before.store.tree told o))
+          ∙ ap (λ (p : Parameters). (answer_by store_now.tree (reading_of asked) p).tree) (sym before.store.params)
 
-      -- something was asked for
-      module _ {Due : Start → M → M → ℕ → Result Command Refusal → Type 0} (asked : Result Command Refusal)
-          (asks : Asks Told trees Ends Due (start_of disk_of store) first next done asked)
-          (store_next : StoreState D) where
-        tree_after : Told first → disks.IsObservable (disk_of store.disk)
-            → trees first (start_of disk_of store) (done + 1)
-            ≡ (answer_by store_now.tree (reading_of asked) store_now.params).tree
-        tree_after told o =
-            asks.after told o ∙ ap (λ (t : Tree). (answer_by t (reading_of asked) store.params).tree)
-            (sym (before.store.tree told o))
-            ∙ ap (λ (p : Parameters). (answer_by store_now.tree (reading_of asked) p).tree) (sym before.store.params)
-
-        -- a fault came in its answer
-        pub at_fault : (fault : ApplyFault) → AnswersReading disk_of (reading_of asked) store_now store_next (Err fault)
-            → AnswersAll disk_of Told trees Ends (Err (apply_status fault)) done store store_next first next
-        at_fault fault answers = record {
+      -- a fault came in its answer
+      pub at_fault : (fault : ApplyFault) → AnswersReading disk_of (reading_of asked) store_now store_next (Err fault)
+          → AnswersAll disk_of Told trees Ends (Err (apply_status fault)) done store store_next first next
+      at_fault fault answers = record {
+        turns = record {
           work = asks.cut fault;
-          store = turn_failed disk_of (Told first) (trees first (start_of disk_of store)) sound store store_now done
-              before.store store_next (reading_of asked) tree_after fault answers;
-          whole = λ h. absurd (false≢true h);
-          cut_short = λ e. absurd (not_done fault e);
-        }
+          store = turn_failed sound before.store store_next (reading_of asked) tree_after fault answers;
+        };
+        whole = λ h. absurd (false≢true h);
+        cut_short = λ e. absurd (not_done fault e);
+      }
 
-        -- it was answered
-        module _ (reply : Reply) (answers : AnswersReading disk_of (reading_of asked) store_now store_next (Ok reply))
-          where
-            pub replies : RepliesTo Told trees (start_of disk_of store) first done asked reply
-            replies told o =
-                reply_meant disk_of (reading_of asked) store_now store_next reply answers
-                (before.store.kept.observable ∙ o)
-                ∙ ap (λ (t : Tree). (answer_by t (reading_of asked) store_now.params).reply) (before.store.tree told o)
-                ∙ ap (λ (p : Parameters).
-                (answer_by (trees first (start_of disk_of store) done) (reading_of asked) p).reply)
-                before.store.params
+      -- it was answered
+      module _ (reply : Reply) (answers : AnswersReading disk_of (reading_of asked) store_now store_next (Ok reply))
+        where
+          pub replies : RepliesTo Told trees (start_of disk_of store) first done asked reply
+          replies = reply_meant sound before.store store_next (reading_of asked) reply answers
 
-            store_after : StoreSoFar disk_of (Told first)
-                (trees first (start_of disk_of store)) store store_next (done + 1)
-            store_after = turn_more disk_of (Told first)
-                (trees first (start_of disk_of store)) sound store store_now done
-                before.store store_next (reading_of asked) tree_after reply answers
+          -- and the reply was taken
+          pub so_far_more : {after : M} → left next < left now → left after ≤ left next → Live after
+              → Kept (start_of disk_of store) first after (done + 1)
+              → SoFar disk_of Told trees left Live Kept first after store store_next (done + 1)
+          so_far_more falls stays live kept = record {
+            work = kept;
+            store = turn_more sound before.store store_next (reading_of asked) tree_after reply answers;
+            live = live;
+            low = omega (arith, before.low, falls, stays);
+          }
 
-            -- and the reply was taken
-            pub so_far_more : (after : M) → left next < left now → left after ≤ left next → Live after
-                → Kept (start_of disk_of store) first after (done + 1) → SoFar first after store store_next (done + 1)
-            so_far_more after falls stays live kept = record {
-              work = kept;
-              store = store_after;
-              live = live;
-              low = omega (arith, before.low, falls, stays);
-            }
-
-            -- or was not
-            pub at_reply : (after : M) (status : Status)
-                → Stops Told trees Ends (start_of disk_of store) first after (done + 1) status
-                → AnswersAll disk_of Told trees Ends (Err status) (done + 1) store store_next first after
-            at_reply after status stops = record {
+          -- or was not
+          pub at_reply : {after : M} {status : Status}
+              → Stops Told trees Ends (start_of disk_of store) first after (done + 1) status
+              → AnswersAll disk_of Told trees Ends (Err status) (done + 1) store store_next first after
+          at_reply {after} {status} stops = record {
+            turns = record {
               work = stops.ends;
-              store = store_ends disk_of (Told first) (trees first (start_of disk_of store)) status
-                  (done + 1) store store_next stops.spares store_after;
-              whole = λ h. absurd (false≢true h);
-              cut_short = λ e. absurd (stops.cut_short e);
-            }
+              store = store_ends (turn_more sound before.store store_next (reading_of asked) tree_after reply answers)
+                  status
+                  stops.disk_spared;
+            };
+            whole = λ h. absurd (false≢true h);
+            cut_short = λ e. absurd (stops.cut_short e);
+          }

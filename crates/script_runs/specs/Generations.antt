@@ -20,15 +20,13 @@ use Rattle.script_lines.specs.SinkState.{SinkState, AppendsPrefix}
 use Rattle.script_lines.specs.SinkState as sinks
 use Rattle.disk_model.specs.DiskState.{DiskState}
 use Rattle.disk_model.specs.DiskState as disks
-use Rattle.gate_journal.specs.Disks.{KeepsDisk}
 use Rattle.staged_tree.specs.Groups.{step_under}
 use Rattle.store_core.specs.StoreState.{StoreState}
 use Rattle.image_subcommands.specs.declared.status.Status.{Status}
 use Rattle.image_subcommands.specs.declared.status.Status.TheVariants as statuses
 use Rattle.script_runs.specs.declared.generated.Generated.{Generated}
-use Rattle.script_runs.specs.Runs.{ChangesByLines}
-use Rattle.image_subcommands.specs.Statuses.{Subcommand as words, IsEndOf, IsSummed, disk_faults_by, sink_faults_by}
-use Rattle.script_runs.specs.Turns.{Start}
+use Rattle.image_subcommands.specs.Statuses.{Subcommand as words, IsEndOf, IsSummed, MayComeFirst, sink_faults_by}
+use Rattle.script_runs.specs.Turns.{Start, TurnsEnd}
 
 -- the first commands that a number gives
 unfoldable pub first_commands : ℕ → ℕ → List Command
@@ -78,25 +76,24 @@ pub record PrintsSummary (status : Status) (text : List ℕ) (old new : SinkStat
 
 -- ---- commands from a store on
 
--- Commands of a number were carried out from a store on, so many of them, and summed up where all were; the call
--- ended so.
-pub record AnswersGenerated {D W : Type 0} (disk_of : D → DiskState) (sink_of : W → SinkState) (number count : ℕ)
-    (status : Status) (done : ℕ)
-    (store store_new : StoreState D) (sink sink_new : W) : Type 0 where
-  pub ends : IsEndOf words.Big status
-  pub all_done : IsSummed status → done ≡ count
-  pub done_limit : done ≤ count
-  pub disk_kept : KeepsDisk (disk_of store.disk) (disk_of store_new.disk)
-  pub disk_faults : (disk_of store_new.disk).faults ≡ disk_faults_by status (disk_of store.disk).faults
-  pub sink_observable : (sink_of sink_new).is_observable ≡ (sink_of sink).is_observable
-  pub sink_faults : (sink_of sink_new).faults ≡ sink_faults_by status (sink_of sink).faults
-  pub silent : (IsSummed status → ⊥) → sink_new ≡ sink
-  pub summary : IsSummed status → sinks.IsObservable (sink_of sink) → disks.IsObservable (disk_of store.disk)
-      → PrintsSummary status (summary_text (generated_replies store.tree number count store.params)
-      (generated_trees store.tree number count store.params count) store.params) (sink_of sink) (sink_of sink_new)
-  pub changes : disks.IsObservable (disk_of store.disk)
-      → ChangesByLines status done (generated_trees store.tree number count store.params)
-      store.params (disk_of store.disk) (disk_of store_new.disk)
+module _ {D W : Type 0} (disk_of : D → DiskState) (sink_of : W → SinkState) (number count : ℕ) where
+  -- The commands ended so, and were summed up where all were carried out.
+  pub record SumsUp (store : StoreState D) (sink sink_new : W) (done : ℕ) (status : Status) : Type 0 where
+    pub ends : IsEndOf words.Big status
+    pub all_done : IsSummed status → done ≡ count
+    pub done_limit : done ≤ count
+    pub sink_observable : (sink_of sink_new).is_observable ≡ (sink_of sink).is_observable
+    pub sink_faults : (sink_of sink_new).faults ≡ sink_faults_by status (sink_of sink).faults
+    pub silent : (IsSummed status → ⊥) → sink_new ≡ sink
+    pub summary : IsSummed status → sinks.IsObservable (sink_of sink) → disks.IsObservable (disk_of store.disk)
+        → PrintsSummary status (summary_text (generated_replies store.tree number count store.params)
+        (generated_trees store.tree number count store.params count) store.params) (sink_of sink) (sink_of sink_new)
+
+  -- Commands of a number were carried out from a store on, so many of them; the call ended so.
+  abbrev pub AnswersGenerated : Status → ℕ → StoreState D → StoreState D → W → W → Type 0
+  AnswersGenerated status done store store_new sink sink_new =
+      TurnsEnd disk_of (Unit {0}) (generated_trees store.tree number count store.params) (SumsUp store sink sink_new)
+      status done store store_new
 
 -- ---- such commands as a work
 
@@ -116,18 +113,15 @@ module _ (start : Start) where
 
   -- A command was drawn, and is not answered yet.
   pub record GeneratedDue (first now : Generated) (done : ℕ) (asked : Result orders.Command Refusal) : Type 0 where
-    pub fits : first.left < 2 ^ 32
-    pub left_is : done + 1 + now.left ≡ first.left
+    pub before : Generated
+    pub kept : GeneratedKept first before done
+    pub left_is : now.left + 1 ≡ before.left
     pub state_is : now.generator ≡ state_after first.generator (done + 1)
-    pub bounded : now.refused ≤ done
-    pub refused_is : IsTrue start.tells → now.refused
-        ≡ count_refused (generated_replies start.tree first.generator done start.params)
+    pub refused_is : now.refused ≡ before.refused
     pub asked_is : reading_of asked ≡ Ok (generated first.generator done)
 
-  -- The commands ended so, with so many carried out: with the last of them, or by a fault.
+  -- The commands ended so, with so many carried out: with the last of them, or by a fault of the store.
   pub record GeneratedEnds (first new : Generated) (done : ℕ) (status : Status) : Type 0 where
-    pub ends : IsEndOf words.Big status
     pub done_limit : done ≤ first.left
-    pub cut_short : (status ≡ statuses.Done → ⊥) → IsSummed status → ⊥
-    pub sink_spared : (faults : ℕ) → faults ≡ sink_faults_by status faults
+    pub cut_short : (status ≡ statuses.Done → ⊥) → MayComeFirst status
     pub whole : status ≡ statuses.Done → GeneratedKept first new done × (done ≡ first.left)

@@ -1,14 +1,10 @@
-pub mod BigCall
-pub mod Carried
 pub mod Costs
 pub mod Generations
 pub mod Promises
-pub mod RunCall
 pub mod Runs
 pub mod ScriptCall
 pub mod ScriptLines
 pub mod ScriptWork
-pub mod SessionCall
 pub mod SessionRuns
 pub mod SessionWork
 pub mod Turns

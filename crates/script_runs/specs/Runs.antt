@@ -10,7 +10,9 @@ use Rattle.store_model.specs.Commands.{reply_text}
 use Rattle.store_model.specs.Commands.Reply.{Refused}
 use Rattle.store_model.specs.Scripts.{lines, replies, tree_after}
 unfoldable pub use Rattle.store_model.specs.Scripts.{reading}
-use Rattle.disk_model.specs.DiskState.{DiskState}
+use Rattle.disk_model.specs.DiskState.{DiskState, MayLeaveOnly}
+use Rattle.gate_journal.specs.Disks.{IsUnwritten}
+use Rattle.gate_journal.specs.Phases.{HasEmptyJournal}
 use Rattle.gate_journal.specs.Places.{ReadsOnly}
 use Rattle.script_lines.specs.SourceState.{SourceState}
 use Rattle.script_lines.specs.SourceState as sources
@@ -31,8 +33,8 @@ use Rattle.image_subcommands.specs.declared.status.Status.{Status}
 pub use Rattle.image_subcommands.specs.Limits.{HasTaken, KeepsLimit, IsUnread}
 use Rattle.image_subcommands.specs.declared.status.Status.TheVariants as statuses
 pub use Rattle.image_work.specs.Works.{IsReady}
-use Rattle.script_runs.specs.Costs.{CountsLines}
-use Rattle.script_runs.specs.Promises.{PromisesReplies, CountsReplies, PromisesCrashes}
+use Rattle.script_runs.specs.Costs.{CountsLines, CountsRun}
+use Rattle.script_runs.specs.Promises.{PromisesReplies, CountsReplies, PromisesImage, PromisesCrashes}
 
 -- the replies to the lines of a script
 abbrev pub run_replies : Tree → List ℕ → Parameters → List model.Reply
@@ -119,3 +121,19 @@ pub record ChangesByLines (status : Status) (done : ℕ) (trees : ℕ → Tree) 
   -- lines that change nothing only read it; the others write and sync just the commits of the slots that differ
   pub quiet : (status ≡ statuses.DiskFault → ⊥) → IsUnchanged trees done → ReadsOnly old new
   pub counts : CountsLines status done trees p old new
+
+-- ---- all lines of a call
+
+-- Opening an image of the tree t was tried, and so many lines with these trees were carried out, the first from t on:
+-- none where opening failed.
+pub record LeavesByLines (t : Tree) (trees : ℕ → Tree) (p : Parameters) (status : Status) (done : ℕ)
+    (old new : DiskState) : Type 0 where
+  pub image : PromisesImage status done trees old new p
+  -- Just so many writes and syncs are made as opening the image takes and the commits of the slots in which the trees
+  -- differ. So over an image with an empty journal, lines that change nothing write nothing, whatever stands between
+  -- them.
+  pub counts : CountsRun status done trees p old new
+  pub quiet : HasEmptyJournal p.slots old.bytes → (status ≡ statuses.DiskFault → ⊥) → IsUnchanged trees done
+      → IsUnwritten old new
+  -- where a crash before the call leaves no other image
+  pub crashes : MayLeaveOnly old (λ image. Represents image t p) → PromisesCrashes status done trees old new p

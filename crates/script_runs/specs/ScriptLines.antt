@@ -13,9 +13,9 @@ use Rattle.script_lines.specs.LineState.{LineState, Answers, left}
 use Rattle.store_core.specs.StoreState.{StoreState}
 use Rattle.image_subcommands.specs.declared.status.Status.{Status}
 use Rattle.image_subcommands.specs.declared.status.Status.TheVariants as statuses
-use Rattle.image_subcommands.specs.Outside.{KeepsOutside}
 use Rattle.image_subcommands.specs.Statuses.{Subcommand, IsEndOf, source_faults_by, sink_faults_by}
-use Rattle.script_runs.specs.Runs.{ChangesByLines, IsUnread, KeepsLimit, RepliesKept}
+use Rattle.script_runs.specs.Runs.{IsUnread, KeepsLimit, RepliesKept}
+use Rattle.script_runs.specs.Turns.{TurnsEnd}
 
 -- So many lines were read from the start of a script on.
 pub record Halfway {R : Type 0} (state : R → SourceState) (first now : LineState R) (done : ℕ) : Type 0 where
@@ -60,19 +60,12 @@ module _ {R W : Type 0} (source_of : R → SourceState) (sink_of : W → SinkSta
         (sink_of sink_first) (sink_of sink_new)
 
 -- The lines of a script were answered, from a store on, and the call ended so, with so many lines carried out.
-pub record AnswersLines (word : Subcommand) (texts : Tree → List ℕ → Parameters → List (List ℕ))
+module _ (word : Subcommand) (texts : Tree → List ℕ → Parameters → List (List ℕ))
     (trees : Tree → List ℕ → Parameters → ℕ → Tree)
-    {D R W : Type 0} (disk_of : D → DiskState) (source_of : R → SourceState) (sink_of : W → SinkState)
-    (status : Status) (done : ℕ)
-    (store store_new : StoreState D) (reader reader_new : LineState R) (sink sink_new : W) : Type 0 where
-  pub ends : IsEndOf word status
-  pub outside : KeepsOutside status (disk_of store.disk) (disk_of store_new.disk) (source_of reader.source)
-      (source_of reader_new.source) (sink_of sink) (sink_of sink_new)
-  pub limit : sources.IsObservable (source_of reader.source)
-      → KeepsLimit status (source_of reader.source) (source_of reader_new.source)
-  pub replies : sources.IsObservable (source_of reader.source) → disks.IsObservable (disk_of store.disk)
-      → RepliesKept status done (texts store.tree (left source_of reader) store.params) (source_of reader.source)
-      (source_of reader_new.source) (sink_of sink) (sink_of sink_new)
-  pub changes : sources.IsObservable (source_of reader.source) → disks.IsObservable (disk_of store.disk)
-      → ChangesByLines status done (trees store.tree (left source_of reader) store.params)
-      store.params (disk_of store.disk) (disk_of store_new.disk)
+    {D R W : Type 0} (disk_of : D → DiskState) (source_of : R → SourceState) (sink_of : W → SinkState) where
+  abbrev pub AnswersLines : Status → ℕ → StoreState D → StoreState D → LineState R → LineState R → W → W → Type 0
+  AnswersLines status done store store_new reader reader_new sink sink_new =
+      TurnsEnd disk_of (sources.IsObservable (source_of reader.source))
+      (trees store.tree (left source_of reader) store.params)
+      (LinesEnd source_of sink_of word (texts store.tree (left source_of reader) store.params)
+      (disks.IsObservable (disk_of store.disk)) reader reader_new sink sink_new) status done store store_new

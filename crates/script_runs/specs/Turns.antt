@@ -62,11 +62,6 @@ abbrev pub LeavesLess : {Q : Type 0} → ℕ → ℕ → Option Q → Type 0
 LeavesLess old new (Some asked) = new < old
 LeavesLess old new None = new ≤ old
 
--- a call ended so by another fault than one of the disk
-pub record SparesDisk (status : Status) : Type 0 where
-  pub other : status ≡ statuses.DiskFault → ⊥
-  pub count : (faults : ℕ) → faults ≡ disk_faults_by status faults
-
 module _ {M : Type 0} (Told : M → Type 0) (trees : M → Start → ℕ → Tree) where
   -- the reply is that of what was asked for, in the tree that stands there
   abbrev pub RepliesTo : Start → M → ℕ → Result Command Refusal → Reply → Type 0
@@ -78,7 +73,7 @@ module _ {M : Type 0} (Told : M → Type 0) (trees : M → Start → ℕ → Tre
     pub record Stops (start : Start) (first new : M) (done : ℕ) (status : Status) : Type 0 where
       pub ends : Ends start first new done status
       pub cut_short : status ≡ statuses.Done → ⊥
-      pub spares : SparesDisk status
+      pub disk_spared : status ≡ statuses.DiskFault → ⊥
 
     -- the work behind a turn, or where it could not take the reply
     abbrev pub IsTurn : (Start → M → M → ℕ → Type 0) → Start → M → M → ℕ → Result (Unit {0}) Status → Type 0
@@ -127,6 +122,12 @@ module _ {D : Type 0} (disk_of : D → DiskState) (Told : Type 0) (trees : ℕ �
     pub changes : Told → disks.IsObservable (disk_of first.disk)
         → ChangesByLines status done trees first.params (disk_of first.disk) (disk_of new.disk)
 
+  -- All turns ended so, with so many made: what ends the work, and the store.
+  pub record TurnsEnd (Ends : ℕ → Status → Type 0) (status : Status) (done : ℕ)
+      (first new : StoreState D) : Type 0 where
+    pub work : Ends done status
+    pub store : StoreEnds status done first new
+
 -- ---- all turns
 
 module _ {Q S A : Type 0} (Answers : Q → S → S → Result A ApplyFault → Type 0) where
@@ -155,9 +156,8 @@ module _ {D M : Type 0} (disk_of : D → DiskState) where
   pub record AnswersAll (Told : M → Type 0) (trees : M → Start → ℕ → Tree) (Ends : Start → M → M → ℕ → Status → Type 0)
       (ended : Result (Unit {0}) Status) (done : ℕ)
       (store_old store_new : StoreState D) (work_old work_new : M) : Type 0 where
-    pub work : Ends (start_of disk_of store_old) work_old work_new done (ended_status ended)
-    pub store : StoreEnds disk_of (Told work_old) (trees work_old (start_of disk_of store_old))
-        (ended_status ended) done store_old store_new
+    pub turns : TurnsEnd disk_of (Told work_old) (trees work_old (start_of disk_of store_old))
+        (Ends (start_of disk_of store_old) work_old work_new) (ended_status ended) done store_old store_new
     pub whole : IsOk ended → StoreSoFar disk_of (Told work_old)
         (trees work_old (start_of disk_of store_old)) store_old store_new done
     pub cut_short : ended_status ended ≡ statuses.Done → IsOk ended

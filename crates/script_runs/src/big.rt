@@ -5,9 +5,7 @@ ghost use Rattle.store_model.specs.Commands.{reply_text};
 ghost use Rattle.script_lines.specs.Replies.{reply_of};
 ghost use Rattle.script_lines.specs.SinkState.{IsPut};
 ghost use Rattle.image_subcommands.specs.Endings.{ended_status};
-ghost use Rattle.image_subcommands.specs.Statuses.{Subcommand as words};
-ghost use Rattle.image_work.specs.Works.{WorksOnStore};
-ghost use Rattle.script_runs.specs.BigCall.{KeepsBig, GeneratesFrom, IsBig};
+ghost use Rattle.script_runs.specs.ScriptCall.{IsBig};
 ghost use Rattle.script_runs.specs.Generations.{AnswersGenerated, counts_text};
 ghost use Rattle.image_subcommands.specs.Outside.{KeepsOutside, outside_of};
 ghost use Rattle.script_runs.specs.Runs.{IsReady};
@@ -15,7 +13,9 @@ ghost use Rattle.script_runs.specs.Runs.{IsReady};
 use crate::generated::Generated;
 use crate::work::answer_all;
 use disk_model::Disk;
+use image_check::AttachFault;
 use image_subcommands::{Outcome, Status, ended_status};
+use image_work::{StoreWork, open_for};
 use script_lines::{Command, Generator, Reply, Sink, SinkFault, Source, Text, write_reply};
 use std::alloc::Global;
 use store_core::Store;
@@ -80,26 +80,52 @@ fn answer_generated<D: Disk, W: Sink>(
     Ok(())
 }
 
-/// Carries out so many commands of this number on a store, and prints the four lines that sum them up.
-fn big_store<D: Disk, R: Source, W: Sink>(
+/// The work of `big`: so many commands of this number.
+#[derive(Drop)]
+struct BigWork<R: Source, W: Sink> {
     number: u32,
     count: u32,
-    store: Store<D>,
     source: R,
     sink: W,
-) -> Outcome<D, R, W>
-    requires ready { IsReady D.state store }
-    ensures { WorksOnStore D.state R.state W.state words.Big (KeepsBig count)
-        (GeneratesFrom D.state W.state number count) (source, sink) store result }
-{
-    let (mut store, mut sink, mut done) = (store, sink, 0);
-    let ended = answer_generated(&mut store, &mut sink, &mut done, number, count);
-    Outcome {
-        status: ended_status(ended),
-        done,
-        disk: store.into_disk(),
-        source,
-        sink,
+}
+
+impl<R: Source, W: Sink> StoreWork for BigWork<R, W> {
+    ghost use Rattle.image_subcommands.specs.Statuses.{Subcommand as words};
+    ghost use Rattle.script_runs.specs.ScriptCall.{KeepsBig, GeneratesFrom};
+
+    type Reads = R;
+
+    type Writes = W;
+
+    ghost word = { λ work. words.Big };
+
+    ghost given = { λ work. (work.source, work.sink) };
+
+    ghost keeps = { λ D disk_of work. KeepsBig work.count };
+
+    ghost does = { λ D disk_of work. GeneratesFrom disk_of W.state work.number work.count };
+
+    /// Carries the commands out, and prints the four lines that sum them up.
+    fn work<D: Disk>(self, store: Store<D>) -> Outcome<D, R, W> {
+        let BigWork {
+            number,
+            count,
+            source,
+            mut sink,
+        } = self;
+        let (mut store, mut done) = (store, 0);
+        let ended = answer_generated(&mut store, &mut sink, &mut done, number, count);
+        Outcome {
+            status: ended_status(ended),
+            done,
+            disk: store.into_disk(),
+            source,
+            sink,
+        }
+    }
+
+    fn give_up<D: Disk>(self, fault: AttachFault, disk: D) -> Outcome<D, R, W> {
+        Outcome::idle(fault.into(), disk, self.source, self.sink)
     }
 }
 
@@ -118,8 +144,11 @@ pub fn big_image<D: Disk, R: Source, W: Sink>(
         (D.state result.disk) (R.state source)
         (R.state result.source) (W.state sink) (W.state result.sink) }
 {
-    match Store::attach(alloc, disk) {
-        Ok(store) => big_store(number, count, store, source, sink),
-        Err((fault, disk)) => Outcome::idle(fault.into(), disk, source, sink),
-    }
+    let work = BigWork {
+        number,
+        count,
+        source,
+        sink,
+    };
+    open_for(alloc, disk, work)
 }

@@ -2,8 +2,8 @@
 //! answers a script of calls on sessions, and `big`, which carries out the commands that a number gives.
 //!
 //! Start at `run_image`. `run` and `big` share one loop, `answer_all`, over a `Work`: what asks for one thing after
-//! another. The lines of sessions have a loop of their own. Each subcommand has a file with its call, and a file of
-//! specs/ with what it promises.
+//! another. The lines of sessions have a loop of their own. Each subcommand has a file with its call; what the three
+//! promise stands in specs/ScriptCall.antt.
 #![tactic(auto)]
 
 mod big;
@@ -11,6 +11,7 @@ mod calls;
 mod generated;
 mod lines;
 mod run;
+mod script;
 mod session;
 mod work;
 

@@ -4,20 +4,23 @@ ghost use Rattle.image_subcommands.specs.Limits.{IsUnread};
 ghost use Rattle.image_subcommands.specs.Outside.{KeepsOutside, outside_of};
 ghost use Rattle.image_subcommands.specs.Statuses.{Subcommand as words};
 ghost use Rattle.image_work.specs.Works.{IsReady, WorksOnStore};
-ghost use Rattle.script_runs.specs.RunCall.{IsRun};
 ghost use Rattle.script_runs.specs.Runs.{run_texts, run_trees};
-ghost use Rattle.script_runs.specs.ScriptCall.{KeepsScript, AnswersAt};
+ghost use Rattle.script_runs.specs.ScriptCall.{KeepsScript, AnswersAt, IsRun};
 
 use crate::lines::Script;
+use crate::script::{Answering, script_image};
 use crate::work::answer_all;
 use disk_model::Disk;
-use image_subcommands::{Outcome, Status, ended_status};
-use script_lines::{LineReader, Sink, Source};
+use image_subcommands::{Outcome, ended_status};
+use script_lines::{Sink, Source};
 use std::alloc::Global;
 use store_core::Store;
 
 /// Answers the lines of a script with a store.
-fn run_store<D: Disk, R: Source, W: Sink>(store: Store<D>, script: Script<R, W>) -> Outcome<D, R, W>
+pub(crate) fn run_store<D: Disk, R: Source, W: Sink>(
+    store: Store<D>,
+    script: Script<R, W>,
+) -> Outcome<D, R, W>
     requires unread { IsUnread script.reader }
     requires ready { IsReady D.state store }
     ensures { WorksOnStore D.state R.state W.state words.Run (KeepsScript R.state)
@@ -35,8 +38,7 @@ fn run_store<D: Disk, R: Source, W: Sink>(store: Store<D>, script: Script<R, W>)
     }
 }
 
-/// Answers the script that the source has: takes the room of the reader of lines, opens the image, and answers each
-/// line.
+/// Answers the script that the source has, each line as a command.
 pub fn run_image<D: Disk, R: Source, W: Sink>(
     alloc: Global,
     disk: D,
@@ -48,12 +50,5 @@ pub fn run_image<D: Disk, R: Source, W: Sink>(
         (D.state result.disk) (R.state source)
         (R.state result.source) (W.state sink) (W.state result.sink) }
 {
-    let reader = match LineReader::new(alloc, source) {
-        Ok(reader) => reader,
-        Err((_, source)) => return Outcome::idle(Status::NoMemory, disk, source, sink),
-    };
-    match Store::attach(alloc, disk) {
-        Ok(store) => run_store(store, Script { reader, sink }),
-        Err((fault, disk)) => Outcome::idle(fault.into(), disk, reader.into_source(), sink),
-    }
+    script_image(alloc, Answering::Commands, disk, source, sink)
 }

@@ -7,15 +7,15 @@ ghost use Rattle.image_subcommands.specs.Statuses.{Subcommand as words};
 ghost use Rattle.session_core.specs.Machine.{no_places};
 ghost use Rattle.image_work.specs.Works.{WorksOnStore};
 ghost use Rattle.script_runs.specs.Runs.{IsReady, IsUnread, ReadsLine};
-ghost use Rattle.script_runs.specs.ScriptCall.{KeepsScript, AnswersAt};
+ghost use Rattle.script_runs.specs.ScriptCall.{KeepsScript, AnswersAt, IsSession};
 ghost use Rattle.script_runs.specs.ScriptLines.{AnswersLines};
-ghost use Rattle.script_runs.specs.SessionCall.{IsSession};
 ghost use Rattle.script_runs.specs.SessionRuns.{session_texts, session_trees};
 ghost use Rattle.script_runs.specs.SessionWork.{IsCallIn};
 ghost use Rattle.script_runs.specs.Turns.{asked_in};
 
 use crate::calls::answer_asked;
 use crate::lines::Script;
+use crate::script::{Answering, script_image};
 use crate::work::Asked;
 use disk_model::Disk;
 use image_subcommands::{Outcome, Status, ended_status};
@@ -98,7 +98,7 @@ fn answer_each<D: Disk, R: Source, W: Sink>(
 
 /// Answers the lines of a script as calls on the sessions of a store: takes the room of the sessions, and answers each
 /// line. The sessions that are live at the end are gone, and what they staged is not carried out.
-fn session_store<D: Disk, R: Source, W: Sink>(
+pub(crate) fn session_store<D: Disk, R: Source, W: Sink>(
     alloc: Global,
     store: Store<D>,
     script: Script<R, W>,
@@ -127,8 +127,7 @@ fn session_store<D: Disk, R: Source, W: Sink>(
     }
 }
 
-/// Answers the script that the source has, each line as a call on sessions: takes the room of the reader of lines,
-/// opens the image, and answers each line.
+/// Answers the script that the source has, each line as a call on sessions.
 pub fn session_image<D: Disk, R: Source, W: Sink>(
     alloc: Global,
     disk: D,
@@ -140,12 +139,5 @@ pub fn session_image<D: Disk, R: Source, W: Sink>(
         (D.state result.disk) (R.state source)
         (R.state result.source) (W.state sink) (W.state result.sink) }
 {
-    let reader = match LineReader::new(alloc, source) {
-        Ok(reader) => reader,
-        Err((_, source)) => return Outcome::idle(Status::NoMemory, disk, source, sink),
-    };
-    match Store::attach(alloc, disk) {
-        Ok(store) => session_store(alloc, store, Script { reader, sink }),
-        Err((fault, disk)) => Outcome::idle(fault.into(), disk, reader.into_source(), sink),
-    }
+    script_image(alloc, Answering::Calls, disk, source, sink)
 }

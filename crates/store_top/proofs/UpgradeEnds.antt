@@ -32,6 +32,7 @@ use Rattle.image_subcommands.specs.declared.status.Status.TheVariants as statuse
 use Rattle.image_subcommands.specs.Endings.{attach_status, apply_status, status_of}
 use Rattle.image_subcommands.specs.Outside.{KeepsOutside}
 use Rattle.image_subcommands.specs.Statuses.{Subcommand as words, IsEndOf, done_of_work}
+use Rattle.image_subcommands.proofs.OutsideLemmas.{kept_around}
 use Rattle.image_subcommands.proofs.ReportLemmas.{rose}
 use Rattle.image_work.specs.Works.{IsReady, IsUnopened, WorksOnStore}
 use Rattle.image_work.proofs.OpeningEnds.{never_behind, none_done, memory_left, memory_only, quiet_unopened}
@@ -52,7 +53,11 @@ tree_unopened fault old new t p o refused keeps = record {
       (λ image. old.crash_images image ⊎ RepresentsEither t p image)
       (λ image either. ⊎_elim (λ left. inl left) (λ represents. inr (inl represents)) either) keeps.crash;
   reads = inl keeps.represents;
-  no_memory = λ e. record { stands = inr (refused.unwritten o (memory_only fault e)); crash = keeps.crash };
+  no_memory = λ e. record {
+    reads = keeps.represents;
+    stands = inr (refused.unwritten o (memory_only fault e));
+    crash = keeps.crash;
+  };
   counts = record {
     done = λ e. absurd (not_done fault e);
     no_memory = λ e. inr (refused.unwritten o (memory_only fault e)).synced;
@@ -81,23 +86,20 @@ upgrade_unopened disk_of given disk fault disk_new refused = record {
 -- how an upgrade ends that answers so
 ends_so : (result : Result (Unit {0}) ApplyFault) → IsEndOf words.Upgrade (status_of apply_status result)
 ends_so (Ok value) = refl
-ends_so (Err apply.Disk) = refl
 ends_so (Err apply.NoMemory) = refl
-ends_so (Err apply.Stopped) = refl
+ends_so (Err fault) = refl
 
 when_done : {P : Type 0} (result : Result (Unit {0}) ApplyFault)
     → status_of apply_status result ≡ statuses.Done → OnOk result P → P
 when_done (Ok value) e holds = holds
-when_done (Err apply.Disk) e holds = absurd (cc)
 when_done (Err apply.NoMemory) e holds = absurd (cc)
-when_done (Err apply.Stopped) e holds = absurd (cc)
+when_done (Err fault) e holds = absurd (cc)
 
 when_no_memory : (result : Result (Unit {0}) ApplyFault) → status_of apply_status result ≡ statuses.NoMemory
     → IsErrOf result apply.NoMemory
-when_no_memory (Ok value) e = absurd (cc)
-when_no_memory (Err apply.Disk) e = absurd (cc)
 when_no_memory (Err apply.NoMemory) e = refl
-when_no_memory (Err apply.Stopped) e = absurd (cc)
+when_no_memory (Err fault) e = absurd (cc)
+when_no_memory (Ok value) e = absurd (cc)
 
 done_or_lacks : (result : Result (Unit {0}) ApplyFault) (old new : ℕ) → (result ≡ Err apply.Stopped → ⊥)
     → new ≡ apply_faults_after old result → (Rose old new → ⊥)
@@ -110,31 +112,9 @@ done_or_lacks (Err apply.Stopped) old new ran count whole = absurd (ran refl)
 outside_by : (result : Result (Unit {0}) ApplyFault) (old new : DiskState) (source : SourceState) (sink : SinkState)
     → (result ≡ Err apply.Stopped → ⊥) → KeepsDisk old new → new.faults ≡ apply_faults_after old.faults result
     → KeepsOutside (status_of apply_status result) old new source source sink sink
-outside_by (Ok value) old new source sink ran kept count = record {
-  disk_kept = kept;
-  source_observable = refl;
-  sink_observable = refl;
-  disk_faults = count;
-  source_faults = refl;
-  sink_faults = refl;
-}
-outside_by (Err apply.Disk) old new source sink ran kept count = record {
-  disk_kept = kept;
-  source_observable = refl;
-  sink_observable = refl;
-  disk_faults = count;
-  source_faults = refl;
-  sink_faults = refl;
-}
-outside_by (Err apply.NoMemory) old new source sink ran kept count = record {
-  disk_kept = kept;
-  source_observable = refl;
-  sink_observable = refl;
-  disk_faults = count;
-  source_faults = refl;
-  sink_faults = refl;
-}
 outside_by (Err apply.Stopped) old new source sink ran kept count = absurd (ran refl)
+outside_by (Err fault) old new source sink ran kept count = kept_around old new source sink kept count refl refl
+outside_by (Ok value) old new source sink ran kept count = kept_around old new source sink kept count refl refl
 
 -- What an upgrade of a store does, of whichever version its image is.
 record UpgradesStanding (t : Tree) (p : Parameters) (mid new : DiskState)
@@ -189,8 +169,10 @@ version_kept : (t : Tree) (p : Parameters) (old mid new : DiskState) → IsFitti
     → ReadsOnly mid new → KeepsVersion t p old new
 version_kept t p old mid new fitting opened reads =
     let one = λ (image : List ℕ). old.crash_images image ⊎ Represents image t p in
+    let stands = stands_reading mid new t p reads opened.stands in
     record {
-      stands = inl (stands_reading mid new t p reads opened.stands);
+      reads = standing_represents t p new.bytes fitting stands.layout_is;
+      stands = inl stands;
       crash = LeavesOnly-trans old mid new one opened.crash
           (LeavesOnly-weaken mid new mid.crash_images one
           (λ image left. inr (standing_represents t p image fitting

@@ -12,9 +12,7 @@ use Rattle.image_subcommands.specs.ScrubCall.{IsScrub}
 use Rattle.image_subcommands.specs.WipeCall.{IsWipe}
 use Rattle.listing_subcommands.specs.DumpCall.{IsDump}
 use Rattle.listing_subcommands.specs.LoadCall.{IsLoad}
-use Rattle.script_runs.specs.BigCall.{IsBig}
-use Rattle.script_runs.specs.RunCall.{IsRun}
-use Rattle.script_runs.specs.SessionCall.{IsSession}
+use Rattle.script_runs.specs.ScriptCall.{IsBig, IsRun, IsSession}
 use Rattle.store_top.specs.UpgradeCall.{IsUpgrade}
 
 module _ {D R W : Type 0} (disk_of : D → DiskState) (source_of : R → SourceState) (sink_of : W → SinkState) where

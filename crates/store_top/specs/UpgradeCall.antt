@@ -49,10 +49,11 @@ pub record CountsUpgraded (t : Tree) (p : Parameters) (status : Status) (old new
   pub limit : MadeAtMost (opening_writes p.slots old.bytes + writes_behind p.version (slots_upgraded p t))
       (opening_syncs p.slots old.bytes + syncs_behind p.version) old new
 
--- The image of the tree has the version that it had: the disk stands at it, or is as it was. An image that a crash at
--- any moment of the call may leave is one that a crash before it might have left, or represents the tree under that
--- version.
+-- The image of the tree has the version that it had: the disk reads such an image, and stands at it or is as it was.
+-- An image that a crash at any moment of the call may leave is one that a crash before it might have left, or
+-- represents the tree under that version.
 pub record KeepsVersion (t : Tree) (p : Parameters) (old new : DiskState) : Type 0 where
+  pub reads : Represents new.bytes t p
   pub stands : Stands new t p ⊎ LeavesImage old new
   pub crash : LeavesOnly old new (λ image. old.crash_images image ⊎ Represents image t p)
 

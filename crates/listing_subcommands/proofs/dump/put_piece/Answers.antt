@@ -1,25 +1,12 @@
-use Rattle.std.proofs.lemmas.Result.{err_from_is_err_and}
-use Rattle.store_model.specs.Commands.Command.{Write}
-use Rattle.listing_subcommands.proofs.LineLemmas.{sink_put, sink_unput, line_put, line_unput}
+use Rattle.tree_listing.specs.Dumps.DumpStep.{Write}
+use Rattle.listing_subcommands.proofs.LineLemmas.{line_kept, line_puts}
 use Rattle.listing_subcommands.proofs.dump.put_piece.Goals as goal
 
-pub returns-in_err-write_piece-clause-kept : goal.returns-in_err-write_piece-clause-kept
-returns-in_err-write_piece-clause-kept g c =
-    let status = err_from_is_err_and c.from_residual.result c.from_residual.ensures.1 in
-    rw (status.1, status.2) (sink_unput (g.W.Sink.state c.args.sink.now)
-    (g.W.Sink.state c.write_piece.new.sink) _ c.in_err-write_piece.field-0.0 c.in_err-write_piece.ensures)
-
-pub returns-in_err-write_piece-clause-puts : goal.returns-in_err-write_piece-clause-puts
-returns-in_err-write_piece-clause-puts g c =
-    let status = err_from_is_err_and c.from_residual.result c.from_residual.ensures.1 in
-    rw (status.1, status.2) (λ told. line_unput (g.W.Sink.state c.args.sink.now) (g.W.Sink.state c.write_piece.new.sink)
-    (Write c.args.path.now c.args.at c.args.bytes.now)
-    c.in_err-write_piece.field-0.0 c.in_err-write_piece.ensures told)
-
 pub returns-clause-kept : goal.returns-clause-kept
-returns-clause-kept g c = sink_put (g.W.Sink.state c.args.sink.now)
-    (g.W.Sink.state c.write_piece.new.sink) _ c.in_ok-write_piece.field-0 c.in_ok-write_piece.ensures
+returns-clause-kept g c = rw c.gathered_so.ensures (line_kept g.W.Sink.state c.args.sink.now
+    c.put_piece.new.self _ c.put_piece.result c.put_piece.ensures.line)
 
 pub returns-clause-puts : goal.returns-clause-puts
-returns-clause-puts g c told = line_put (g.W.Sink.state c.args.sink.now) (g.W.Sink.state c.write_piece.new.sink)
-    (Write c.args.path.now c.args.at c.args.bytes.now) c.in_ok-write_piece.field-0 c.in_ok-write_piece.ensures told
+returns-clause-puts g c = rw c.gathered_so.ensures (line_puts g.W.Sink.state c.args.sink.now
+    c.put_piece.new.self (Write c.args.path.now c.args.at c.args.bytes.now) c.put_piece.result
+    c.put_piece.ensures.line)

@@ -4,6 +4,7 @@ use Rattle.store_model.specs.Parameters.{Parameters}
 use Rattle.store_model.specs.Trees.{Tree}
 use Rattle.store_model.specs.Pairs.{Pair, pairs}
 use Rattle.ordered_pairs.specs.PairsState.{next_pair}
+use Rattle.dump_streams.specs.GatheredLines.{lines_state}
 use Rattle.listing_subcommands.specs.Dumping.{IsSpot, AreLeft, WritesNext, place_of, first_pair, spots_text}
 use Rattle.image_subcommands.specs.declared.status.Status.{Status}
 use Rattle.listing_subcommands.proofs.DumpStores.{keeps_answered, keeps_faulted, longer_front}
@@ -17,7 +18,7 @@ returns-in_err-pair-clause-kept g c =
     let old = c.args.store.now in
     rw (status.1, status.2)
     (keeps_faulted g.D.Disk.state old.tree (λ pair. pair ≡ next_pair c.args.key.now (pairs old.tree old.params)) old
-    c.next_pair.new.self (g.W.Sink.state c.args.sink.now) c.requires.runs refl
+    c.next_pair.new.self (lines_state g.W.Sink.state c.args.sink.now) c.requires.runs refl
     c.in_err-pair.field-0.0 c.in_err-pair.ensures.call)
 
 pub returns-in_default-clause-next : goal.returns-in_default-clause-next
@@ -32,8 +33,8 @@ returns-in_err-write_place-clause-next g c =
     c.from_residual-in_err-write_place.ensures.1 in
     let old = c.args.store.now in
     let mid = c.next_pair.new.self in
-    let sink = g.W.Sink.state c.args.sink.now in
-    let sink_new = g.W.Sink.state c.write_place.new.sink in
+    let sink = lines_state g.W.Sink.state c.args.sink.now in
+    let sink_new = lines_state g.W.Sink.state c.write_place.new.sink in
     λ t p tree same_tree same_params o told left are.
     let found_is = c.in_ok-pair.ensures.call.answer o
     ∙ ap₂ (λ (u : Tree) (q : Parameters). next_pair c.args.key.now (pairs u q)) same_tree same_params in
@@ -55,7 +56,7 @@ pub returns-clause-next : goal.returns-clause-next
 returns-clause-next g c t p tree same_tree same_params o told left are =
     let old = c.args.store.now in
     let mid = c.next_pair.new.self in
-    let sink = g.W.Sink.state c.args.sink.now in
+    let sink = lines_state g.W.Sink.state c.args.sink.now in
     let found_is = c.in_ok-pair.ensures.call.answer o
     ∙ ap₂ (λ (u : Tree) (q : Parameters). next_pair c.args.key.now (pairs u q)) same_tree same_params in
     let found = some_left t p c.args.key.now left c.in_ok-pair.field-0 c.in-Some.pair are found_is c.in-Some.is in

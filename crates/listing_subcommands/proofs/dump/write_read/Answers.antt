@@ -3,6 +3,7 @@ use Rattle.std.proofs.lemmas.Result.{err_from_is_err_and}
 use Rattle.store_model.specs.Commands.Command.{Read}
 use Rattle.store_model.specs.Steps.{step}
 use Rattle.script_lines.specs.Replies.{reply_of}
+use Rattle.dump_streams.specs.GatheredLines.{lines_state}
 use Rattle.listing_subcommands.proofs.DumpStores.{keeps_answered, keeps_faulted, keeps_behind, keeps_line, empty_front}
 use Rattle.listing_subcommands.proofs.ReadLemmas.{read_keeps, read_answer}
 use Rattle.listing_subcommands.proofs.dump.write_read.Goals as goal
@@ -14,7 +15,7 @@ returns-in_err-apply_into-clause-kept g c =
     let stepped = step old.tree (Read c.args.path c.args.at 2048) old.params in
     rw (status.1, status.2)
     (keeps_faulted g.D.Disk.state stepped.tree (λ reply. reply_of reply ≡ stepped.reply) old
-    c.apply_into.new.self (g.W.Sink.state c.args.sink.now)
+    c.apply_into.new.self (lines_state g.W.Sink.state c.args.sink.now)
     c.requires.runs (read_keeps old.tree old.params c.args.path c.args.at 2048)
     c.in_err-apply_into.field-0.0 c.in_err-apply_into.ensures.call)
 
@@ -23,15 +24,15 @@ returns-in_err-apply_into-clause-puts g c =
     let status = err_from_is_err_and c.from_residual.result c.from_residual.ensures.1 in
     rw (status.1, status.2) (λ o told bytes there within. record {
       appended = tt;
-      cut_off = empty_front (g.W.Sink.state c.args.sink.now).written _;
+      cut_off = empty_front (lines_state g.W.Sink.state c.args.sink.now).written _;
     })
 
 pub returns-clause-kept : goal.returns-clause-kept
 returns-clause-kept g c =
     let old = c.args.store.now in
     let new = c.apply_into.new.self in
-    let sink = g.W.Sink.state c.args.sink.now in
-    let sink_new = g.W.Sink.state c.put_read.new.sink in
+    let sink = lines_state g.W.Sink.state c.args.sink.now in
+    let sink_new = lines_state g.W.Sink.state c.put_read.new.sink in
     let stepped = step old.tree (Read c.args.path c.args.at 2048) old.params in
     let read = keeps_answered g.D.Disk.state stepped.tree (λ reply. reply_of reply ≡ stepped.reply) old new sink
     c.requires.runs (read_keeps old.tree old.params c.args.path c.args.at 2048)

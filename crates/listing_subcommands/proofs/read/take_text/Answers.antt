@@ -1,6 +1,6 @@
-use Rattle.std.proofs.Common.{Bool, Ok, refl, sym, subst, ◌∙◌}
+use Rattle.std.proofs.Common.{Bool, Ok, refl, sym, subst}
 use Rattle.listing_subcommands.specs.Listings.{TakesText}
-use Rattle.listing_subcommands.proofs.ReadingLines.{text_refused, text_offered}
+use Rattle.listing_subcommands.proofs.ReadingLines.{text_offered}
 use Rattle.listing_subcommands.proofs.read.take_text.Goals as goal
 
 pub returns-then-not-is_listing : goal.returns-then-not-is_listing
@@ -11,12 +11,11 @@ returns-then-not-is_listing c = record {
   behind = λ e. refl;
 }
 
-pub returns-then-is_err : goal.returns-then-is_err
-returns-then-is_err c = record {
+pub returns-then-not-read_step : goal.returns-then-not-read_step
+returns-then-not-read_step c = record {
   fault = tt;
   taken = λ t p listed. tt;
-  refused = λ e t p listed. text_refused c.read_command.new.command c.read_command.result c.args.text.now c.requires
-      (sym c.is_err.ensures.value ∙ c.if-is_err.true) c.read_command.ensures t p;
+  refused = λ e t p listed s same. absurd ((rw c.if-not-read_step.true at c.read_step.ensures).none s same);
   behind = λ e. refl;
 }
 
@@ -24,6 +23,5 @@ pub returns-in-Ok : goal.returns-in-Ok
 returns-in-Ok c =
     subst (λ (b : Bool). TakesText b c.args.listing.now c.add.new.self c.args.text.now (Ok c.in-Ok.taken))
     (sym c.if-not-is_listing.false)
-    (text_offered c.read_command.new.command c.read_command.result c.args.text.now c.args.listing.now c.add.new.self
-    c.in-Ok.taken c.requires (sym c.is_err.ensures.value ∙ c.if-is_err.false)
-    c.read_command.ensures c.in-Ok.ensures)
+    (text_offered c.read_step.new.step c.args.text.now c.args.listing.now c.add.new.self
+    c.in-Ok.taken (rw c.if-not-read_step.false at c.read_step.ensures) c.in-Ok.ensures)

@@ -1,11 +1,10 @@
-use Rattle.std.proofs.Common.{refl, ap, subst, ◌∙◌, arith}
+use Rattle.std.proofs.Common.{Ok, Err, refl, ap, subst, ◌∙◌, arith}
 use Rattle.std.proofs.lemmas.Result.{err_from_is_err_and}
 use Rattle.store_model.specs.Parameters.{Parameters}
 use Rattle.image_subcommands.specs.declared.status.Status.TheVariants as statuses
 use Rattle.image_subcommands.specs.Endings.{apply_status}
 use Rattle.script_runs.specs.Generations.{AnswersGenerated}
-use Rattle.script_runs.proofs.GenerationTurns.{generated_begins, number_is, loop_fault, digest_fault, summary_printed}
-use Rattle.script_runs.proofs.GenerationTurns.{summary_cut_off}
+use Rattle.script_runs.proofs.GenerationTurns.{generated_begins, number_is, loop_fault, digest_fault, summed_up}
 use Rattle.script_runs.proofs.big.answer_generated.Goals as goal
 
 pub answer_all-requires : goal.answer_all-requires
@@ -23,13 +22,7 @@ returns-in_err-answer_all g c =
     c.args.count c.in_err-answer_all.field-0.0 c.answer_all.new.done c.args.store.now c.answer_all.new.store
     c.args.sink.now c.args.sink.now)
     (number_is c.args.number c.new.result c.new.ensures)
-    (loop_fault g.D.Disk.state g.W.Sink.state g.met.D.Disk.sound c.args.store.now c.args.sink.now (record {
-      generator = c.new.result;
-      left = c.args.count;
-      refused = 0;
-    })
-    c.in_err-answer_all.field-0.0 c.answer_all.new.done c.answer_all.new.store c.answer_all.new.work
-    c.in_err-answer_all.ensures))
+    (loop_fault c.in_err-answer_all.ensures))
 
 pub returns-in_err-digest : goal.returns-in_err-digest
 returns-in_err-digest g c =
@@ -39,13 +32,7 @@ returns-in_err-digest g c =
     c.args.count (apply_status c.in_err-digest.field-0.0)
     c.answer_all.new.done c.args.store.now c.apply.new.self c.args.sink.now c.args.sink.now)
     (number_is c.args.number c.new.result c.new.ensures)
-    (digest_fault g.D.Disk.state g.W.Sink.state g.met.D.Disk.sound c.args.store.now c.args.sink.now (record {
-      generator = c.new.result;
-      left = c.args.count;
-      refused = 0;
-    })
-    c.in_ok-answer_all.field-0 c.answer_all.new.done c.answer_all.new.store c.answer_all.new.work
-    c.in_ok-answer_all.ensures c.apply.new.self c.in_err-digest.field-0.0 c.in_err-digest.ensures.call))
+    (digest_fault g.met.D.Disk.sound c.in_ok-answer_all.ensures c.in_err-digest.ensures.call))
 
 pub returns-in_err-print_summary : goal.returns-in_err-print_summary
 returns-in_err-print_summary g c =
@@ -56,32 +43,16 @@ returns-in_err-print_summary g c =
     c.args.count statuses.SinkFault c.answer_all.new.done c.args.store.now c.apply.new.self c.args.sink.now
     c.print_summary.new.sink)
     (number_is c.args.number c.new.result c.new.ensures)
-    (summary_cut_off g.D.Disk.state g.W.Sink.state g.met.D.Disk.sound c.args.store.now c.args.sink.now (record {
-      generator = c.new.result;
-      left = c.args.count;
-      refused = 0;
-    })
-    c.in_ok-answer_all.field-0 c.answer_all.new.done c.answer_all.new.store c.answer_all.new.work
-    c.in_ok-answer_all.ensures c.apply.new.self
-    c.in_ok-digest.digest c.in_ok-digest.ensures.call c.used.result c.used.ensures
-    c.slots.result (c.slots.ensures.value ∙ ap (λ (p : Parameters). p.slots) c.params.ensures.value)
-    c.counts_lines-counts.result c.counts_lines-counts.ensures
-    c.print_summary.new.sink c.in_err-print_summary.field-0.0 c.in_err-print_summary.ensures))
+    (summed_up g.met.D.Disk.sound c.in_ok-answer_all.ensures c.in_ok-digest.ensures.call c.used.ensures
+    (c.slots.ensures.value ∙ ap (λ (p : Parameters). p.slots) c.params.ensures.value) c.counts_lines-counts.ensures
+    c.print_summary.new.sink (Err c.in_err-print_summary.field-0.0) c.in_err-print_summary.ensures))
 
 pub returns : goal.returns
 returns g c =
-    (subst (λ number. AnswersGenerated g.D.Disk.state g.W.Sink.state number
+    subst (λ number. AnswersGenerated g.D.Disk.state g.W.Sink.state number
     c.args.count statuses.Done c.answer_all.new.done c.args.store.now c.apply.new.self c.args.sink.now
     c.print_summary.new.sink)
     (number_is c.args.number c.new.result c.new.ensures)
-    (summary_printed g.D.Disk.state g.W.Sink.state g.met.D.Disk.sound c.args.store.now c.args.sink.now (record {
-      generator = c.new.result;
-      left = c.args.count;
-      refused = 0;
-    })
-    c.in_ok-answer_all.field-0 c.answer_all.new.done c.answer_all.new.store c.answer_all.new.work
-    c.in_ok-answer_all.ensures c.apply.new.self
-    c.in_ok-digest.digest c.in_ok-digest.ensures.call c.used.result c.used.ensures
-    c.slots.result (c.slots.ensures.value ∙ ap (λ (p : Parameters). p.slots) c.params.ensures.value)
-    c.counts_lines-counts.result c.counts_lines-counts.ensures
-    c.print_summary.new.sink c.in_ok-print_summary.field-0 c.in_ok-print_summary.ensures))
+    (summed_up g.met.D.Disk.sound c.in_ok-answer_all.ensures c.in_ok-digest.ensures.call c.used.ensures
+    (c.slots.ensures.value ∙ ap (λ (p : Parameters). p.slots) c.params.ensures.value) c.counts_lines-counts.ensures
+    c.print_summary.new.sink (Ok c.in_ok-print_summary.field-0) c.in_ok-print_summary.ensures)

@@ -12,9 +12,9 @@ use Rattle.script_runs.proofs.session.next_asked.Goals as goal
 pub returns-in-Text : goal.returns-in-Text
 returns-in-Text g c =
     let call = c.in_ok-next_line.ensures in
-    let reads = reads_text g.R.Source.state IsCallIn
-    c.args.reader.now c.next_line.new.self c.in_ok-next_line.field-0 call.source call.ends call.answer
-    (in_place c.read_session_line.new.line c.read_session_line.result) c.in-Text.is
+    let reads = reads_text {source_of = g.R.Source.state} {IsAsked = IsCallIn} c.in_ok-next_line.field-0 c.in-Text.is
+    call.source call.ends call.answer
+    {asked = in_place c.read_session_line.new.line c.read_session_line.result}
     (c.read_session_line.ensures ∙ ap parse_session c.text.ensures.value
     ∙ sym (session_reading_short c.next_line.new.self.text
     (omega (arith, c.text.ensures.fits, ap (λ (text : List ℕ). length text) c.text.ensures.value)))) in
@@ -25,6 +25,5 @@ returns-in-Text g c =
 pub returns-in-Long : goal.returns-in-Long
 returns-in-Long g c =
     let call = c.in_ok-next_line.ensures in
-    reads_long g.R.Source.state IsCallIn c.args.reader.now c.next_line.new.self c.in_ok-next_line.field-0 call.source
-    call.ends call.answer (Err refusals.Long) c.in-Long.is
+    reads_long c.in_ok-next_line.field-0 c.in-Long.is call.source call.ends call.answer
     (λ text long. sym (session_reading_long text long))

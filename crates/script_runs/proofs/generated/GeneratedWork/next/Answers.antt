@@ -4,6 +4,6 @@ use Rattle.script_runs.proofs.generated.GeneratedWork.next.Goals as goal
 
 pub returns-clause-turn : goal.returns-clause-turn
 returns-clause-turn c =
-    λ start first done kept. generated_asks start first _ done c.args.self.now kept (omega (arith, c.if-self-eq0.false))
+    λ start first done kept. generated_asks kept (omega (arith, c.if-self-eq0.false))
     (c.next.ensures.state first.generator done kept.state_is) refl
-    _ (ap Ok (c.next.ensures.command first.generator done kept.state_is))
+    (ap Ok (c.next.ensures.command first.generator done kept.state_is))

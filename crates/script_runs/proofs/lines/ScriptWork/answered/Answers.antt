@@ -6,12 +6,10 @@ pub returns-in_err-write_reply-clause-turn : goal.returns-in_err-write_reply-cla
 returns-in_err-write_reply-clause-turn g c =
     let status = err_from_is_err_and c.from_residual.result c.from_residual.ensures.1 in
     λ start first done asked due replies. rw (status.1, status.2)
-    (line_cut_off g.R.Source.state g.W.Sink.state start first
-    due.before c.args.self.now.reader c.args.self.now.sink done due.kept asked due.reads c.args.reply.now replies
-    c.write_reply.new.sink c.in_err-write_reply.field-0.0 c.in_err-write_reply.ensures)
+    (line_cut_off start first due.kept due.reads c.args.reply.now replies c.write_reply.new.sink
+    c.in_err-write_reply.ensures)
 
 pub returns-clause-turn : goal.returns-clause-turn
 returns-clause-turn g c =
-    λ start first done asked due replies. line_more g.R.Source.state g.W.Sink.state start first
-    due.before c.args.self.now.reader c.args.self.now.sink done due.kept asked due.reads c.args.reply.now replies
-    c.write_reply.new.sink c.in_ok-write_reply.field-0 c.in_ok-write_reply.ensures
+    λ start first done asked due replies. line_more start first due.kept due.reads c.args.reply.now replies
+    c.write_reply.new.sink c.in_ok-write_reply.ensures
