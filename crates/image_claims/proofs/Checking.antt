@@ -1,7 +1,5 @@
 -- What a check says of the bytes on a disk, and what a run of the same bytes does.
-use Rattle.std.proofs.Common.{◌≡◌, ◌⊎◌, ℕ, List, [], ◌∷◌, ◌++◌, length, take, codes, refl, sym, ap, subst, ◌∙◌, inl}
-use Rattle.std.proofs.Common.{inr, arith}
-use Rattle.std.specs.Prelude.{not, ◌&&◌}
+use Rattle.std.proofs.Common.{◌≡◌, ◌⊎◌, ℕ, List, ◌++◌, length, take, codes, refl, sym, ap, subst, ◌∙◌, inl, inr, arith}
 use Rattle.std.proofs.Math.Seq.{take-length}
 use Rattle.store_model.specs.Parameters.{Parameters}
 use Rattle.store_model.specs.Trees.{Tree, empty_tree}
@@ -17,24 +15,27 @@ use Rattle.image_check.specs.Standing.{IsFitting, RepresentsSome}
 use Rattle.image_check.specs.Verdicts.{IsVerdict, IsNoImage, IsDamaged, clean_of}
 use Rattle.script_lines.specs.Memory.{SourceMemory, SinkMemory, source_state, sink_state}
 use Rattle.image_subcommands.specs.declared.status.Status.{Status}
-use Rattle.image_subcommands.specs.declared.status.Status.TheVariants.{Done, SourceFault, SinkFault, DiskFault, TooLong}
-use Rattle.image_subcommands.specs.declared.status.Status.TheVariants.{NotImage, Damaged, NoMemory}
+use Rattle.image_subcommands.specs.declared.status.Status.TheVariants.{Done, SinkFault}
 use Rattle.image_subcommands.specs.CheckCall.{IsCheck}
 use Rattle.image_subcommands.specs.Outside.{outside_of}
 use Rattle.image_subcommands.specs.Reports.{report_text, verdict_status, Reports, EndsByVerdict}
-use Rattle.image_subcommands.specs.Statuses.{Subcommand as words, row, is_among, IsOneOf, IsJudged}
-use Rattle.image_subcommands.proofs.EachStatus.{ends_in}
-use Rattle.script_runs.specs.RunCall.{IsRun}
-use Rattle.script_runs.proofs.RunLemmas.{length-run_texts, texts_joined}
+use Rattle.image_subcommands.specs.Statuses.{Subcommand as words, IsBetweenLines, IsJudged, ComesExactly}
+use Rattle.script_runs.specs.ScriptCall.{IsRun}
+use Rattle.script_runs.proofs.AnswerLemmas.{length-run_texts, texts_joined}
 use Rattle.script_claims.specs.declared.machines.Machine.{Machine}
 use Rattle.script_claims.specs.Machines.{Disk, Ended, HasImage, bytes_of, meaning}
 use Rattle.script_claims.specs.Makings.{made_tree}
 use Rattle.script_claims.proofs.MakingLemmas.{represented, made_fits}
 use Rattle.script_claims.proofs.NothingLemmas.{damaged_with}
+use Rattle.script_claims.proofs.RunWays.{found}
 use Rattle.image_claims.specs.Endings.{given}
-use Rattle.image_claims.specs.Checks.{clean_line, IsNone, IsBroken, IsSome, IsLineOn, JudgesExactly, ChecksExactly}
+use Rattle.image_claims.specs.Checks.{clean_line, IsNone, IsBroken, IsSome, IsLineOn, JudgesExactly}
 use Rattle.image_claims.specs.Checks.{ChecksTree, AgreesWithRun, AnswersByOneTree, LeavesAlone}
-use Rattle.image_claims.proofs.EndingLemmas.{has_column, lacks_column, but, comes_first, unreported, or_before, exactly}
+
+-- a status comes exactly where this holds, and so exactly where the same holds in other words
+pub exactly : {expected status : Status} {P Q : Type 0} {Before : Status → Type 0}
+    → ComesExactly expected P Before status → (P → Q) → (Q → P) → ComesExactly expected Q Before status
+exactly is to from = record { only = λ e. to (is.only e); always = λ holds. is.always (from holds) }
 
 -- ---- a verdict and its line
 
@@ -98,16 +99,6 @@ module _ {Holds : Tree → Parameters → Type 0} {disk : Disk} {Verdicts : Verd
   by_status verdict (inl fault) e = absurd (cc)
   by_status verdict (inr is) e = sym is ∙ e
 
-  -- a status that tells a verdict
-  judged : (status : Status) → IsOneOf status (Done ∷ NotImage ∷ Damaged ∷ []) → IsJudged status
-  judged = has_column (λ s. (row s).is_judged) (Done ∷ NotImage ∷ Damaged ∷ []) (refl, (refl, (refl, tt)))
-
-  not_faulty : (status : Status) → IsOneOf status (Done ∷ NotImage ∷ Damaged ∷ []) → status ≡ SinkFault → ⊥
-  not_faulty status (inl e) fault = cc
-  not_faulty status (inr (inl e)) fault = cc
-  not_faulty status (inr (inr (inl e))) fault = cc
-  not_faulty status (inr (inr (inr none))) fault = none
-
   pub judges_exactly : (status : Status) (disk_new : DiskState) (sink sink_new : SinkMemory)
       → EndsByVerdict Whole (Verdicts verdicts.Damaged) status (meaning disk) disk_new (sink_state sink)
       (sink_state sink_new)
@@ -115,25 +106,24 @@ module _ {Holds : Tree → Parameters → Type 0} {disk : Disk} {Verdicts : Verd
       → ((IsJudged status → ⊥) → sink_new ≡ sink)
       → JudgesExactly Holds (bytes_of disk) status (sink_state sink) (sink_state sink_new)
   judges_exactly status disk_new sink sink_new ends reports silent = record {
-    clean = exactly ends.clean by.some by.whole (unreported status);
-    not_image = exactly ends.not_image (λ none. none refl) (λ none observable. none) (unreported status);
-    damaged = exactly ends.damaged by.broken by.beyond (unreported status);
+    clean = exactly ends.clean by.some by.whole;
+    not_image = exactly ends.not_image (λ none. none refl) (λ none observable. none);
+    damaged = exactly ends.damaged by.broken by.beyond;
     numbers = λ e t p holds.
-        let report = reports (judged status (inl e)) in
-        report.whole refl (not_faulty status (inl e))
+        let report = reports (subst IsJudged (sym e) refl) in
+        report.whole refl (λ fault. absurd (cc))
         ∙ ap (λ (text : List ℕ). sink.written ++ text)
         (numbers_of report.verdict report.verdict_is (by_status report.verdict report.status_is e) t p holds);
-    line = λ is.
-        let report = reports (judged status is) in (
+    line = λ is well.
+        let report = reports is in (
           report_text report.verdict,
           line_on report.verdict report.verdict_is,
-          report.whole refl (not_faulty status is),
+          report.whole refl well,
         );
     in_part = λ e.
         let report = reports (subst IsJudged (sym e) refl) in
         (report_text report.verdict, line_on report.verdict report.verdict_is, report.in_part refl e);
-    silent = λ is. ap sink_state (silent (lacks_column (λ s. (row s).is_judged) (DiskFault ∷ NoMemory ∷ [])
-        (refl, (refl, tt)) status is));
+    silent = λ other. ap sink_state (silent other);
   }
 
 -- ---- a check
@@ -159,13 +149,11 @@ by_check disk = record {
 }
 
 pub check_exact : (machine : Machine) (after : Ended) → IsCheck meaning sink_state (given machine) after
-    → ChecksExactly after.status (meaning machine.disk) (meaning after.disk) (sink_state machine.sink)
+    → JudgesExactly (Represents (bytes_of machine.disk)) (bytes_of machine.disk) after.status (sink_state machine.sink)
     (sink_state after.sink)
-check_exact machine after is = record {
-  judges = judges_exactly (by_check machine.disk) after.status (meaning after.disk) machine.sink after.sink
-      (is.observed refl).ends is.report is.silent;
-  only_reads = (is.observed refl).reads;
-}
+check_exact machine after is =
+    judges_exactly (by_check machine.disk) after.status (meaning after.disk) machine.sink after.sink
+    (is.observed refl).ends is.report is.silent
 
 -- a check of a disk with the image of the tree that scripts leave
 pub check_of_made : (scripts : List SourceMemory) (p : Parameters) (machine : Machine) (after : Ended)
@@ -176,8 +164,8 @@ check_of_made scripts p machine after empty has is =
     let tree = represented machine.disk (made_tree scripts p) p (made_fits scripts p empty) has in
     let exact = check_exact machine after is in
     record {
-      ends = exact.judges.clean.always (made_tree scripts p, p, tree);
-      numbers = λ done. exact.judges.numbers done (made_tree scripts p) p tree;
+      ends = exact.clean.always (made_tree scripts p, p, tree);
+      numbers = λ done. exact.numbers done (made_tree scripts p) p tree;
     }
 
 -- ---- a check and a run
@@ -210,36 +198,25 @@ module _ (machine : Machine) (middle : Ended) (replies_sink : SinkMemory) (after
       record {
         not_image = λ e.
             let none = to_middle IsNone (ends.not_image.only e refl) in
-            or_before (runs.not_image.always (λ observable. none)) (comes_first after.status);
+            runs.not_image.always (λ observable. none);
         not_image_run = λ e.
             let none = from_middle IsNone (runs.not_image.only e refl) in
-            or_before (ends.not_image.always (λ observable. none)) (unreported middle.status);
-        damaged = λ e.
-            let is = to_middle IsBrokenImage (broken machine.disk (ends.damaged.only e)) in
-            or_before (runs.damaged.always (damaged middle.disk is)) (comes_first after.status);
-        damaged_run = λ e.
-            let is = from_middle IsBrokenImage (broken middle.disk (runs.damaged.only e)) in
-            or_before (ends.damaged.always (damaged machine.disk is)) (unreported middle.status);
+            ends.not_image.always (λ observable. none);
+        damaged = λ e. runs.damaged.always
+            (damaged middle.disk (to_middle IsBrokenImage (broken machine.disk (ends.damaged.only e))));
+        damaged_run = λ e. ends.damaged.always
+            (damaged machine.disk (from_middle IsBrokenImage (broken middle.disk (runs.damaged.only e))));
         clean = λ e.
             let some = ends.clean.only e in
-            let here = to_middle (λ (image : List ℕ). Represents image some.tree some.params) some.represents in
-            but (λ none. runs.not_image.only none refl some.params (record {
-              names = here.names;
-              length_is = here.length_is;
-            })) (λ damaged. (runs.damaged.only damaged).no_tree refl some.tree some.params here)
-            (ends_in (λ s. is_among words.Run (row s).words)
-            (NotImage ∷ Damaged ∷ Done ∷ SourceFault ∷ SinkFault ∷ DiskFault ∷ TooLong ∷ NoMemory ∷ []) refl
-            after.status run.ends);
-        clean_run = λ is.
-            let behind = has_column (λ s. not (row s).may_come_first && not (row s).refuses_image)
-            (Done ∷ SourceFault ∷ SinkFault ∷ TooLong ∷ [])
-            (refl, (refl, (refl, (refl, tt)))) after.status is in
+            found words.Run some.tree some.params middle.disk after.status run.ends runs.not_image runs.damaged
+            (to_middle (λ (image : List ℕ). Represents image some.tree some.params) some.represents);
+        clean_run = λ behind.
             let some = runs.represented behind in
-            or_before (ends.clean.always (record {
+            ends.clean.always (record {
               tree = some.tree;
               params = some.params;
               represents = from_middle (λ (image : List ℕ). Represents image some.tree some.params) some.represents;
-            })) (unreported middle.status);
+            });
       }
 
   -- bytes that hold no tree are left alone
@@ -286,8 +263,7 @@ module _ (machine : Machine) (middle : Ended) (replies_sink : SinkMemory) (after
         left = λ done.
             let all : after.done ≡ length (lines script) =
             (runs.replies.counted.all done).1 ∙ length-run_texts t script p in
-            (runs.carried.image.between (has_column (λ s. (row s).is_between_lines) (Done ∷ []) (refl, tt) after.status
-            (inl done))).layout_is
+            (runs.carried.image.between (subst IsBetweenLines (sym done) refl)).layout_is
             ∙ ap (λ (k : ℕ). layout (tree_after t (take k (lines script)) p) p) all
             ∙ ap (λ (texts : List (List ℕ)). layout (tree_after t texts p) p) (take-length (lines script));
       } in

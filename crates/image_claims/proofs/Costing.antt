@@ -1,6 +1,6 @@
 -- How many writes and syncs a call makes.
-use Rattle.std.proofs.Common.{◌≡◌, ◌+◌, ◌==◌, ◌&&◌, ℕ, true, false, not, List, [], ◌∷◌, slice_index, refl, sym, ap}
-use Rattle.std.proofs.Common.{subst, ◌∙◌, inl, inr, ⊎_elim, arith}
+use Rattle.std.proofs.Common.{◌≡◌, ◌==◌, ◌&&◌, ℕ, true, false, not, List, slice_index, sym, ap, subst, ◌∙◌, inl, inr}
+use Rattle.std.proofs.Common.{refl, arith}
 use Rattle.std.proofs.lemmas.Bool.{cases_eq, ne_eqb}
 use Rattle.std.specs.Cmp.Lexicographic.{bytes_decides}
 use Rattle.store_model.specs.Lists.{same_bytes, zeros}
@@ -10,8 +10,7 @@ use Rattle.store_model.specs.Images.{layout, bytes_at, recovered_slot, scrubbed_
 use Rattle.store_model.proofs.ImagesLemmas.{recovered-layout, length-layout}
 use Rattle.store_model.proofs.ImagesLemmasScrubbed.{scrubbed-layout, slot_of_recovered, slot_of_scrubbed}
 use Rattle.disk_model.specs.DiskState.{DiskState}
-use Rattle.gate_journal.specs.Costs.{opening_writes, opening_syncs, MadeAtMost}
-use Rattle.gate_journal.specs.Places.{Made}
+use Rattle.gate_journal.specs.Costs.{opening_writes, opening_syncs}
 use Rattle.gate_journal.proofs.Layouts.{layout-has-empty-journal}
 use Rattle.gate_journal.proofs.Openings.{opening_of_empty}
 use Rattle.scrub_free.specs.FreeSlots.{scrub_writes, is_unclean, StandClean}
@@ -20,30 +19,19 @@ use Rattle.scrub_free.specs.ScrubCalls.{ScrubsTo}
 use Rattle.scrub_free.proofs.Blocks.{free_block}
 use Rattle.scrub_free.proofs.Counting.{scrub_writes-clean}
 use Rattle.script_lines.specs.Memory.{sink_state}
-use Rattle.image_subcommands.specs.declared.status.Status.{Status}
-use Rattle.image_subcommands.specs.declared.status.Status.TheVariants.{Done, SinkFault}
 use Rattle.image_subcommands.specs.ScrubCall.{IsScrub}
+use Rattle.image_subcommands.specs.Statuses.{IsJudged}
 use Rattle.script_claims.specs.declared.machines.Machine.{Machine}
 use Rattle.script_claims.specs.Machines.{Ended, bytes_of, meaning}
 use Rattle.image_claims.specs.Endings.{given}
-use Rattle.image_claims.specs.Costs.{Costs, CostsOfScrub}
-use Rattle.image_claims.proofs.EndingLemmas.{is_judged}
-
--- ---- counts
-
--- what was made where the work is done, and no more
-pub costs_done : {writes syncs : ℕ} {status : Status} {old new : DiskState}
-    → (status ≡ Done → Made writes syncs old new) → MadeAtMost writes syncs old new
-    → Costs writes syncs (Done ∷ []) status old new
-costs_done made limit = record { just = λ so. made (⊎_elim (λ e. e) (λ none. absurd none) so); limit = limit }
+use Rattle.image_claims.specs.Costs.{Costs}
 
 -- equal counts
-pub costs_so : {writes writes_so syncs syncs_so : ℕ} {statuses : List Status} {status : Status} {old new : DiskState}
-    → writes ≡ writes_so → syncs ≡ syncs_so → Costs writes syncs statuses status old new
-    → Costs writes_so syncs_so statuses status old new
-costs_so {writes} {writes_so} {syncs} {syncs_so} {statuses} {status} {old} {new} same_writes same_syncs costs =
-    subst (λ (n : ℕ). Costs n syncs_so statuses status old new) same_writes
-    (subst (λ (n : ℕ). Costs writes n statuses status old new) same_syncs costs)
+pub costs_so : {writes writes_so syncs syncs_so : ℕ} {Holds : Type 0} {old new : DiskState}
+    → writes ≡ writes_so → syncs ≡ syncs_so → Costs writes syncs Holds old new → Costs writes_so syncs_so Holds old new
+costs_so {writes} {writes_so} {syncs} {syncs_so} {Holds} {old} {new} same_writes same_syncs costs =
+    subst (λ (n : ℕ). Costs n syncs_so Holds old new) same_writes
+    (subst (λ (n : ℕ). Costs writes n Holds old new) same_syncs costs)
 
 -- ---- scrubbing
 
@@ -86,16 +74,9 @@ module _ (t : Tree) (p : Parameters) (image : List ℕ) (to : ScrubsTo image t p
       (layout-has-empty-journal t p to.image_is.names.in_range to.tree to.fits)).1
 
 pub scrub_costs : (machine : Machine) (after : Ended) → IsScrub meaning sink_state (given machine) after
-    → CostsOfScrub after.status (meaning machine.disk) (meaning after.disk)
-scrub_costs machine after is = record {
-  scrub = costs;
-  clean = λ t p to same. costs_so (no_writes t p (bytes_of machine.disk) to same)
-      (two_syncs t p (bytes_of machine.disk) to same) (costs t p to);
-}
-  where
-    costs : (t : Tree) (p : Parameters) → ScrubsTo (bytes_of machine.disk) t p
-        → Costs (writes_to_scrub p.slots (bytes_of machine.disk)) (opening_syncs p.slots (bytes_of machine.disk))
-        (Done ∷ SinkFault ∷ []) after.status (meaning machine.disk) (meaning after.disk)
-    costs t p to =
-        let scrubs = (is.observed refl).scrubs t p to in
-        record { just = λ so. scrubs.made (is_judged after.status so); limit = scrubs.limit }
+    → (t : Tree) (p : Parameters) → ScrubsTo (bytes_of machine.disk) t p → bytes_of machine.disk ≡ layout t p
+    → Costs 0 2 (IsJudged after.status) (meaning machine.disk) (meaning after.disk)
+scrub_costs machine after is t p to same =
+    let scrubs = (is.observed refl).scrubs t p to in
+    costs_so (no_writes t p (bytes_of machine.disk) to same) (two_syncs t p (bytes_of machine.disk) to same)
+    (record { just = scrubs.made; limit = scrubs.limit })

@@ -1,7 +1,7 @@
--- What making, scrubbing and wiping an image leaves, also where it is cut short, and what it costs.
-use Rattle.std.proofs.Common.{◌≡◌, ◌≢◌, ◌<◌, ℕ, zero, suc, List, [], ◌∷◌, length, take, slice_index, refl, sym, ap}
+-- What scrubbing, wiping and making an image leaves, also where it is cut short.
+use Rattle.std.proofs.Common.{◌≡◌, ◌≢◌, ◌⊎◌, ℕ, zero, suc, List, length, take, slice_index, refl, sym, ap}
 use Rattle.std.proofs.Common.{subst, ◌∙◌, inl, inr, ⊎_elim, arith}
-use Rattle.std.proofs.lemmas.Bool.{cases_eq}
+use Rattle.std.proofs.lemmas.Bool.{cases_eq, false≢true}
 use Rattle.store_model.specs.Lists.{zeros}
 use Rattle.store_model.specs.Parameters.{Parameters, image_len}
 use Rattle.store_model.specs.Trees.{Tree}
@@ -9,11 +9,10 @@ use Rattle.store_model.specs.Images.{first_byte, Represents, scrubbed}
 use Rattle.store_model.proofs.ImagesLemmasScrubbed.{scrubbed-recovered, scrubbed-layout, take-scrubbed}
 use Rattle.store_model.proofs.TreesLemmasLayouts.{layouts_tell}
 use Rattle.store_base.specs.Counts.{Rose}
-use Rattle.disk_model.specs.DiskState.{DiskState, IsDurable}
+use Rattle.disk_model.specs.DiskState.{IsDurable}
 use Rattle.disk_model.proofs.Images.{SameOutside-empty}
 use Rattle.gate_journal.specs.Wipes.{IsWiping}
 use Rattle.gate_journal.proofs.Formatting.{no_image}
-use Rattle.image_check.specs.declared.verdict.Verdict.TheVariants as verdicts
 use Rattle.image_check.proofs.Images.{one_name}
 use Rattle.scrub_free.specs.Scrubbing.{ScrubsAs}
 use Rattle.scrub_free.specs.ScrubCalls.{ScrubsTo, IsScrubVerdict}
@@ -21,50 +20,17 @@ use Rattle.script_lines.specs.Memory.{source_state, sink_state}
 use Rattle.image_subcommands.specs.declared.status.Status.{Status}
 use Rattle.image_subcommands.specs.declared.status.Status.TheVariants.{Done, DiskFault, NoMemory, AlreadyImage}
 use Rattle.image_subcommands.specs.declared.status.Status.TheVariants.{WrongLength}
-use Rattle.image_subcommands.specs.FormatCall.{FormatsBlank, IsFormat}
+use Rattle.image_subcommands.specs.FormatCall.{FormatsDisk, IsFormat}
 use Rattle.image_subcommands.specs.Outside.{outside_of, KeepsOutside}
 use Rattle.image_subcommands.specs.ScrubCall.{IsScrub, ScrubsToSome}
-use Rattle.image_subcommands.specs.Statuses.{Subcommand as words, row, is_among, IsJudged}
+use Rattle.image_subcommands.specs.Statuses.{Subcommand as words, IsStatusOf, IsJudged, MayComeFirst}
 use Rattle.image_subcommands.specs.WipeCall.{IsWipe}
-use Rattle.image_subcommands.proofs.EachStatus.{ends_in}
 use Rattle.script_claims.specs.declared.machines.Machine.{Machine}
 use Rattle.script_claims.specs.Machines.{Disk, Ended, bytes_of, meaning}
 use Rattle.image_claims.specs.Endings.{given}
 use Rattle.image_claims.specs.Checks.{MightLeave}
-use Rattle.image_claims.specs.Costs.{CostsOfFormat, CostsOfWipe}
-use Rattle.image_claims.specs.Images.{MakesImage, MakesAllOrNone, ScrubsExactly, ScrubsAgain, WipesAll, IsGoneOrWhole}
-use Rattle.image_claims.specs.Images.{WipesAllOrNone, MakesBehindWipe}
-use Rattle.image_claims.proofs.Checking.{JudgedBy, judges_exactly}
-use Rattle.image_claims.proofs.Costing.{costs_done}
-use Rattle.image_claims.proofs.EndingLemmas.{has_column, but, is_judged, comes_first, unreported, or_before, exactly}
-use Rattle.image_claims.proofs.EndingLemmas.{done_or_lacks}
-
--- ---- an image is made
-
-module _ (p : Parameters) (machine : Machine) (after : Ended) (is : IsFormat meaning p (given machine) after) where
-  pub format_exact : MakesImage p after.status (meaning machine.disk) (meaning after.disk)
-  format_exact =
-      let seen = is.observed refl in
-      record {
-        fresh = seen.formatted;
-        wrong_length = exactly is.wrong_length (λ differs. differs) (λ differs. differs) inl;
-        already_image = exactly seen.already_image (λ begins. (begins.size_is, begins.first_is))
-            (λ has. record { size_is = has.0; first_is = has.1 }) (comes_first after.status);
-        keeps_image = seen.keeps;
-        keeps_refused = λ so. seen.refused (has_column (λ s. (row s).refuses_disk) (AlreadyImage ∷ WrongLength ∷ [])
-            (refl, (refl, tt)) after.status so);
-      }
-
-  module _ (size : (meaning machine.disk).size ≡ image_len p.slots)
-      (other : slice_index (bytes_of machine.disk) 0 ≢ first_byte) where
-    blank : FormatsBlank after.status p (meaning machine.disk) (meaning after.disk)
-    blank = (is.observed refl).blank (record { size_is = size; other_byte = other })
-
-    pub format_cut_short : MakesAllOrNone p (meaning machine.disk) (meaning after.disk)
-    format_cut_short = record { reads = blank.reads; crash = λ durable. (blank.crash durable).each }
-
-    pub format_costs : CostsOfFormat p after.status (meaning machine.disk) (meaning after.disk)
-    format_costs = costs_done blank.counts.done blank.counts.limit
+use Rattle.image_claims.specs.Images.{ScrubsExactly, ScrubsAgain, IsGoneOrWhole, WipesAllOrNone, MakesBehindWipe}
+use Rattle.image_claims.proofs.Checking.{JudgedBy, exactly, judges_exactly}
 
 -- ---- one is scrubbed
 
@@ -136,11 +102,8 @@ scrub_exact machine after is =
     record {
       judges = judges_exactly (by_scrub machine.disk) after.status (meaning after.disk) machine.sink after.sink
           seen.ends is.report is.silent;
-      scrubbed = λ so t p to. (seen.scrubs t p to).scrubbed (is_judged after.status so);
       still = λ t p to. scrubs_alike old (bytes_of after.disk) t p to (seen.scrubs t p to).reads;
-      tree = λ so t p represents. (seen.scrubs t p (represented_scrubs old t p represents)).scrubbed
-          (is_judged after.status so);
-      untouched = seen.nothing;
+      tree = λ so t p represents. (seen.scrubs t p (represented_scrubs old t p represents)).scrubbed so;
     }
 
 -- Three scrubs: one of an image on which nothing was pending, which was perhaps cut short; one of what a crash of it
@@ -164,11 +127,9 @@ scrub_cut_short cut cut_after again again_after whole whole_after first second t
     let next = (second.observed refl).scrubs t p here in
     let last = (third.observed refl).scrubs t p some.scrubs in
     record {
-      ends = or_before ((second.observed refl).ends.clean.always (record { tree = t; params = p; scrubs = here }))
-          (unreported again_after.status);
-      same = λ is. (next.scrubbed (is_judged again_after.status is)).layout_is
-          ∙ sym (last.scrubbed (subst IsJudged (sym done) refl)).layout_is;
-      durable = λ is. (next.scrubbed (is_judged again_after.status is)).durable;
+      ends = (second.observed refl).ends.clean.always (record { tree = t; params = p; scrubs = here });
+      same = λ is. (next.scrubbed is).layout_is ∙ sym (last.scrubbed (subst IsJudged (sym done) refl)).layout_is;
+      durable = λ is. (next.scrubbed is).durable;
     }
 
 -- ---- a disk is wiped
@@ -199,18 +160,9 @@ gone_or_whole old image first (inl torn) = elim (cases_eq (slice_index image 0) 
 gone_or_whole old image first (inr zeroing) = inl (no_image image (λ e. omega (arith, zeroing.1, e)))
 
 module _ (machine : Machine) (after : Ended) (is : IsWipe meaning (given machine) after) where
-  wiped_zero : after.status ≡ Done → bytes_of after.disk ≡ zeros (length (bytes_of machine.disk))
-  wiped_zero e = ((is.wipes refl).wiped e).zero
-
   pub no_first_byte : after.status ≡ Done → slice_index (bytes_of after.disk) 0 ≢ first_byte
-  no_first_byte e = zeros_are_no_image (bytes_of after.disk) (length (bytes_of machine.disk)) (wiped_zero e)
-
-  pub wipe_exact : WipesAll after.status (meaning machine.disk) (meaning after.disk)
-  wipe_exact = record {
-    zero = wiped_zero;
-    durable = λ e. ((is.wipes refl).wiped e).durable;
-    no_image = λ e. no_image (bytes_of after.disk) (no_first_byte e);
-  }
+  no_first_byte e = zeros_are_no_image (bytes_of after.disk) (length (bytes_of machine.disk))
+      ((is.wipes refl).wiped e).zero
 
   pub wipe_cut_short : slice_index (bytes_of machine.disk) 0 ≡ first_byte
       → WipesAllOrNone (meaning machine.disk) (meaning after.disk)
@@ -220,11 +172,17 @@ module _ (machine : Machine) (after : Ended) (is : IsWipe meaning (given machine
         (((is.wipes refl).crash durable).each image left);
   }
 
-  pub wipe_costs : 0 < (meaning machine.disk).size
-      → CostsOfWipe after.status (meaning machine.disk) (meaning after.disk)
-  wipe_costs some = let counts = (is.wipes refl).counts some in costs_done counts.done counts.limit
-
 -- ---- an image is made behind a wipe
+
+-- a format that does not refuse its disk
+unrefused : (status : Status) → IsStatusOf words.Format status → (status ≡ AlreadyImage → ⊥)
+    → (status ≡ WrongLength → ⊥) → (status ≡ Done) ⊎ MayComeFirst status
+unrefused Done ends image wrong = inl refl
+unrefused DiskFault ends image wrong = inr refl
+unrefused NoMemory ends image wrong = inr refl
+unrefused AlreadyImage ends image wrong = absurd (image refl)
+unrefused WrongLength ends image wrong = absurd (wrong refl)
+unrefused status ends image wrong = absurd (false≢true ends)
 
 module _ (p : Parameters) (machine : Machine) (middle after : Ended)
     (wipe : IsWipe meaning (given machine) middle)
@@ -247,23 +205,18 @@ module _ (p : Parameters) (machine : Machine) (middle after : Ended)
       let same = wipe_keeps.disk_kept.size in
       record {
         fresh = seen.formatted;
-        not_refused = λ e right. but
+        not_refused = λ e right.
+            unrefused after.status format.ends
             (λ already. no_first_byte machine middle wipe e (seen.already_image.only already).first_is)
-            (λ wrong. format.wrong_length.only wrong (same ∙ right))
-            (ends_in (λ s. is_among words.Format (row s).words)
-            (AlreadyImage ∷ WrongLength ∷ Done ∷ DiskFault ∷ NoMemory ∷ []) refl after.status format.ends);
+            (λ wrong. format.wrong_length.only wrong (same ∙ right));
         wrong_length = exactly format.wrong_length (λ differs right. differs (same ∙ right))
-            (λ differs right. differs (sym same ∙ right)) inl;
-        unwiped = λ e. subst (λ (disk : Disk). MakesImage p after.status (meaning disk) (meaning after.disk))
-            (wipe.no_memory e) (format_exact p (record {
-              disk = middle.disk;
-              source = middle.source;
-              sink = middle.sink;
-            }) after format);
+            (λ differs right. differs (sym same ∙ right));
+        unwiped = λ e. subst (λ (disk : Disk). FormatsDisk after.status p (meaning disk) (meaning after.disk))
+            (wipe.no_memory e) seen;
         made = λ right none. ⊎_elim
-            (λ e. inl (done_or_lacks ((seen.blank (record {
+            (λ e. inl ((seen.blank (record {
               size_is = same ∙ right;
               other_byte = no_first_byte machine middle wipe e;
-            })).complete (λ rose. none (rose_behind rose)))))
+            })).complete (λ rose. none (rose_behind rose))))
             (λ lacks. inr lacks) (wipe.complete (λ rose. none (rose_before rose)));
       }

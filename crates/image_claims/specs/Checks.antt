@@ -1,5 +1,5 @@
 -- What a check says of the bytes on a disk, and what a run of the same bytes does.
-use Rattle.std.specs.Prelude.{◌≡◌, ◌⊎◌, ◌+◌, ◌-◌, ◌^◌, ◌<◌, ◌≤◌, ℕ, List, [], ◌∷◌, ◌++◌, codes}
+use Rattle.std.specs.Prelude.{◌≡◌, ◌≢◌, ◌⊎◌, ◌+◌, ◌-◌, ◌^◌, ◌<◌, ◌≤◌, ℕ, List, ◌++◌, codes}
 use Rattle.std.specs.Fmt.{decimal}
 use Rattle.store_model.specs.Parameters.{Parameters}
 use Rattle.store_model.specs.Trees.{Tree}
@@ -8,15 +8,14 @@ use Rattle.store_model.specs.Commands.{line}
 use Rattle.store_model.specs.Images.{layout, Represents}
 use Rattle.store_model.specs.Scripts.{lines, replies, tree_after, replies_text}
 use Rattle.disk_model.specs.DiskState.{DiskState}
-use Rattle.gate_journal.specs.Places.{ReadsOnly}
 use Rattle.tree_reader.specs.Counts.{count_dirs, count_files, count_bytes}
 use Rattle.gate_journal.specs.Headers.{IsImageWith}
 use Rattle.script_lines.specs.SinkState.{SinkState, AppendsPrefix}
 use Rattle.image_subcommands.specs.declared.status.Status.{Status}
-use Rattle.image_subcommands.specs.declared.status.Status.TheVariants.{Done, SourceFault, SinkFault, DiskFault, TooLong}
-use Rattle.image_subcommands.specs.declared.status.Status.TheVariants.{NotImage, Damaged, NoMemory}
-use Rattle.image_subcommands.specs.Statuses.{IsOneOf}
-use Rattle.image_claims.specs.Endings.{EndsExactly}
+use Rattle.image_subcommands.specs.declared.status.Status.TheVariants.{Done, SinkFault, NotImage, Damaged}
+use Rattle.image_subcommands.specs.Reports.{IsUnreported}
+use Rattle.image_subcommands.specs.Statuses.{Subcommand as words, IsEndOf, IsJudged, MayComeFirst, ComesExactly}
+use Rattle.image_work.specs.Works.{IsAfterOpening}
 
 -- a crash at some moment between these two might have left the image
 abbrev pub MightLeave : DiskState → DiskState → List ℕ → Type 0
@@ -50,33 +49,27 @@ IsLineOn Holds bytes text =
 pub record JudgesExactly (Holds : Tree → Parameters → Type 0) (bytes : List ℕ) (status : Status)
     (sink sink_new : SinkState) : Type 0 where
   -- it says that they hold a tree, or are no image, or a damaged one, exactly where it is so
-  pub clean : EndsExactly Done (IsSome Holds) (SinkFault ∷ DiskFault ∷ NoMemory ∷ []) status
-  pub not_image : EndsExactly NotImage (IsNone bytes) (SinkFault ∷ DiskFault ∷ NoMemory ∷ []) status
-  pub damaged : EndsExactly Damaged (IsBroken Holds bytes) (SinkFault ∷ DiskFault ∷ NoMemory ∷ []) status
+  pub clean : ComesExactly Done (IsSome Holds) IsUnreported status
+  pub not_image : ComesExactly NotImage (IsNone bytes) IsUnreported status
+  pub damaged : ComesExactly Damaged (IsBroken Holds bytes) IsUnreported status
   -- it prints the numbers of the tree
   pub numbers : status ≡ Done → (t : Tree) (p : Parameters) → Holds t p
       → sink_new.written ≡ sink.written ++ clean_line t p
   -- it prints the line on the bytes, or a front of it, or nothing
-  pub line : IsOneOf status (Done ∷ NotImage ∷ Damaged ∷ [])
+  pub line : IsJudged status → status ≢ SinkFault
       → (text : List ℕ) × IsLineOn Holds bytes text × (sink_new.written ≡ sink.written ++ text)
   pub in_part : status ≡ SinkFault → (text : List ℕ) × IsLineOn Holds bytes text
       × AppendsPrefix sink.written sink_new.written text
-  pub silent : IsOneOf status (DiskFault ∷ NoMemory ∷ []) → sink_new ≡ sink
-
--- A check of the bytes on a disk: it writes nothing to it, and syncs nothing.
-pub record ChecksExactly (status : Status) (old new : DiskState) (sink sink_new : SinkState) : Type 0 where
-  pub judges : JudgesExactly (Represents old.bytes) old.bytes status sink sink_new
-  pub only_reads : ReadsOnly old new
+  pub silent : (IsJudged status → ⊥) → sink_new ≡ sink
 
 -- What a check and a run say of the same bytes.
 pub record AgreesWithRun (check run : Status) : Type 0 where
-  pub not_image : check ≡ NotImage → IsOneOf run (NotImage ∷ DiskFault ∷ NoMemory ∷ [])
-  pub not_image_run : run ≡ NotImage → IsOneOf check (NotImage ∷ SinkFault ∷ DiskFault ∷ NoMemory ∷ [])
-  pub damaged : check ≡ Damaged → IsOneOf run (Damaged ∷ DiskFault ∷ NoMemory ∷ [])
-  pub damaged_run : run ≡ Damaged → IsOneOf check (Damaged ∷ SinkFault ∷ DiskFault ∷ NoMemory ∷ [])
-  pub clean : check ≡ Done → IsOneOf run (Done ∷ SourceFault ∷ SinkFault ∷ DiskFault ∷ TooLong ∷ NoMemory ∷ [])
-  pub clean_run : IsOneOf run (Done ∷ SourceFault ∷ SinkFault ∷ TooLong ∷ [])
-      → IsOneOf check (Done ∷ SinkFault ∷ DiskFault ∷ NoMemory ∷ [])
+  pub not_image : check ≡ NotImage → (run ≡ NotImage) ⊎ MayComeFirst run
+  pub not_image_run : run ≡ NotImage → (check ≡ NotImage) ⊎ IsUnreported check
+  pub damaged : check ≡ Damaged → (run ≡ Damaged) ⊎ MayComeFirst run
+  pub damaged_run : run ≡ Damaged → (check ≡ Damaged) ⊎ IsUnreported check
+  pub clean : check ≡ Done → IsEndOf words.Run run
+  pub clean_run : IsAfterOpening run → (check ≡ Done) ⊎ IsUnreported check
 
 -- The bytes hold one tree, and a run that is done answers the script from it: its replies were written, and the image
 -- is that of the tree after its lines.
@@ -105,5 +98,5 @@ pub record LeavesAlone {R W : Type 0} (done : ℕ) (old new : DiskState) (source
 -- A check of the image of a tree ends clean, unless a call fails or memory runs out, and prints the numbers of the
 -- tree.
 pub record ChecksTree (t : Tree) (p : Parameters) (status : Status) (written written_new : List ℕ) : Type 0 where
-  pub ends : IsOneOf status (Done ∷ SinkFault ∷ DiskFault ∷ NoMemory ∷ [])
+  pub ends : (status ≡ Done) ⊎ IsUnreported status
   pub numbers : status ≡ Done → written_new ≡ written ++ clean_line t p

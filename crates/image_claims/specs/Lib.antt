@@ -4,4 +4,3 @@ pub mod Endings
 pub mod Faults
 pub mod Images
 pub mod Mirrors
-pub mod Upgrades

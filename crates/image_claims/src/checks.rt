@@ -6,8 +6,8 @@ ghost use Rattle.store_model.specs.Trees.{Tree};
 ghost use Rattle.store_model.specs.Images.{Represents};
 ghost use Rattle.store_model.specs.Words.{request_of};
 ghost use Rattle.store_model.specs.Words.Request.{Check, Run};
-ghost use Rattle.script_lines.specs.Memory.{source_state, sink_state};
-ghost use Rattle.image_claims.specs.Checks.{ChecksExactly, JudgesExactly, AgreesWithRun, AnswersByOneTree, LeavesAlone};
+ghost use Rattle.script_lines.specs.Memory.{sink_state};
+ghost use Rattle.image_claims.specs.Checks.{JudgesExactly, AgreesWithRun, AnswersByOneTree, LeavesAlone};
 ghost use Rattle.script_claims.specs.Machines.{meaning};
 
 use crate::call::call;
@@ -18,16 +18,12 @@ use store_top::{Status, Words};
 
 /// Checks any bytes, which nobody need vouch for. It says `clean` exactly of those that represent a tree, with the
 /// tree's numbers, `not-image` exactly of those that are no image, and `damaged` exactly of the others, unless a call
-/// fails or memory runs out before. It writes nothing to the disk, and takes nothing from the source. It takes no
-/// memory itself: where memory ran out, that was while the words were read, and the disk is as it was.
+/// fails or memory runs out before.
 pub fn check(alloc: Global, check: &Words, machine: Machine) -> Ended
-    ensures exact { request_of check.now ≡ Some Check
-        → ChecksExactly result.status (meaning machine.disk) (meaning result.disk)
-        (sink_state machine.sink)
+    ensures { request_of check.now ≡ Some Check →
+        JudgesExactly (Represents (meaning machine.disk).bytes)
+        (meaning machine.disk).bytes result.status (sink_state machine.sink)
         (sink_state result.sink) }
-    ensures takes_nothing { request_of check.now ≡ Some Check → result.source ≡ machine.source }
-    ensures takes_no_memory { request_of check.now ≡ Some Check → result.status ≡ Status.NoMemory
-        → result.disk ≡ machine.disk }
 {
     call(alloc, check, machine)
 }

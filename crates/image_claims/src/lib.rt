@@ -1,10 +1,10 @@
-//! The sentences on images (docs/PROMISES.md): what is promised of `format`, `check`, `scrub`, `wipe`, `upgrade` and
-//! `mirror`, of words that are not well formed, of failed calls, of statuses and of costs. Each sentence is a proved
-//! function that calls the program on disks, sources and sinks in memory. Its contract says the sentence in bytes,
-//! lines, statuses and trees. Start at `check`.
+//! The sentences on images (docs/PROMISES.md) that say more than the contracts of `top` and `top_pair`: what `check`,
+//! `scrub` and `wipe` leave and print, what a run and a check say of the same bytes, what a mirror leaves, when any
+//! call is done, and the statuses. Each sentence is a proved function that calls the program on disks, sources and
+//! sinks in memory. Its contract says the sentence in bytes, lines, statuses and trees. Start at `check`.
 //!
-//! All functions but those on mirrors come to the program by `script_claims::serve`, and all of these but one do so on
-//! one kind of machine. A mirror has two disks, and comes to it by `top_pair`.
+//! All functions but two come to the program in one way, on one kind of machine. `call_anything` calls `top` on any
+//! disk, and a mirror has two disks, and comes to the program by `top_pair`.
 #![tactic(auto)]
 
 mod call;
@@ -17,7 +17,7 @@ mod table;
 
 pub use checks::{Judged, check, check_then_run};
 pub use faults::call_anything;
-pub use images::{Remade, Scrubs, format, scrub, scrub_cut_short, upgrade, wipe, wipe_then_format};
-pub use mirrors::{Mirrored, mirror, mirror_anything};
+pub use images::{Remade, Scrubs, scrub, scrub_cut_short, wipe, wipe_then_format};
+pub use mirrors::{Mirrored, mirror};
 pub use runs::check_behind_runs;
 pub use table::{number_of, table_is_spelled_out};

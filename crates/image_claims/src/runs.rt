@@ -8,8 +8,8 @@ ghost use Rattle.script_claims.specs.Makings.{made_tree, StopsMaking};
 ghost use Rattle.image_claims.specs.Checks.{ChecksTree};
 
 use crate::call::call;
-use script_claims::{Ended, Machine, Making, make_image};
-use script_lines::{MemSink, MemSource};
+use script_claims::{Ended, Machine, Making, make_image, no_script};
+use script_lines::MemSink;
 use std::alloc::Global;
 use store_top::{Status, Words};
 
@@ -34,10 +34,9 @@ pub fn check_behind_runs(
         → IfErr result (StopsMaking p making.disk making.scripts.items making.sink) }
 {
     let disk = make_image(alloc, format, making)?;
-    let source = MemSource::new(Vec::new(alloc), Vec::new(alloc), Vec::new(alloc));
     let machine = Machine {
         disk,
-        source,
+        source: no_script(alloc),
         sink: line,
     };
     let checked = call(alloc, check, machine);

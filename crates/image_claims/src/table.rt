@@ -1,7 +1,7 @@
 //! The table of statuses, spelled out.
 
 ghost use Rattle.std.specs.Prelude.{◌≡◌, map};
-ghost use Rattle.image_subcommands.specs.Statuses.{Subcommand, every_status};
+ghost use Rattle.image_subcommands.specs.Statuses.{Subcommand, IsOneOf, IsStatusOf, every_status};
 ghost use Rattle.image_claims.specs.Endings.{endings, spelled, number, numbered};
 
 use store_top::Status;
@@ -20,4 +20,6 @@ pub fn number_of(status: Status) -> u8
 pub fn table_is_spelled_out()
     ensures numbers { map (λ s. (s, number s)) every_status ≡ numbered }
     ensures words { (word : Subcommand) → endings word ≡ spelled word }
+    ensures ends { (word : Subcommand) (status : Status) → IsStatusOf word status
+        → IsOneOf status (endings word) }
 {}

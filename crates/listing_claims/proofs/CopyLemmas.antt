@@ -8,17 +8,19 @@ use Rattle.store_model.specs.Images.{Represents}
 use Rattle.store_model.specs.Commands.{Reply, line, reply_text}
 use Rattle.store_model.specs.Commands.Reply.{Acknowledged}
 use Rattle.store_model.specs.Scripts.{answer, lines, replies, replies_by, replies_text, tree_after, script_limit}
-use Rattle.script_lines.specs.Memory.{SourceMemory, SinkMemory}
+use Rattle.script_lines.specs.Memory.{SourceMemory, SinkMemory, source_state, sink_state}
 use Rattle.tree_listing.specs.Dumps.{dump_text, IsListing}
 use Rattle.tree_listing.specs.Laws.{RunsListing}
 use Rattle.image_subcommands.specs.declared.status.Status.TheVariants as statuses
+use Rattle.image_subcommands.specs.Outside.{outside_of}
+use Rattle.listing_subcommands.specs.DumpCall.{DumpsTree}
+use Rattle.listing_subcommands.specs.LoadCall.{Lists, LoadsFrom}
 use Rattle.script_claims.specs.Answered.{AnswersScript}
-use Rattle.script_claims.specs.Machines.{Disk, HasImage, bytes_of}
+use Rattle.script_claims.specs.Machines.{Disk, HasImage, bytes_of, meaning}
+use Rattle.script_claims.proofs.RunWays.{image_of}
 use Rattle.listing_claims.specs.declared.again.Copied.{Copied}
 use Rattle.listing_claims.specs.declared.same.LoadAndRun.{LoadAndRun}
 use Rattle.listing_claims.specs.Again.{CopiesImage}
-use Rattle.listing_claims.specs.Dumped.{SaysTree}
-use Rattle.listing_claims.specs.Loaded.{Says, LoadsListing}
 use Rattle.listing_claims.specs.Same.{LoadsAsRun}
 
 -- an image of the tree holds it
@@ -32,34 +34,32 @@ pub copies_image : (t : Tree) (p : Parameters) (disk : Disk) (lines : SinkMemory
     → ((t : Tree) (p : Parameters) → IsParameters p → IsTreeUnder t p → Fits t p → length (dump_text t) ≤ script_limit)
     → ((t : Tree) (p : Parameters) → IsTreeUnder t p → IsListing t (dump_text t))
     → Represents (bytes_of disk) t p → lines.written ≡ [] → source.left ≡ copied.dump.sink.written
-    → SaysTree t p disk lines copied.dump → LoadsListing empty_tree p empty source sink copied.load
-    → CopiesImage t p empty sink copied
+    → DumpsTree t p copied.dump.status (meaning disk) (meaning copied.dump.disk) (sink_state lines)
+    (sink_state copied.dump.sink)
+    → LoadsFrom meaning source_state sink_state empty_tree p source.left (outside_of empty source sink) copied.load
+    → CopiesImage t p empty copied
 copies_image t p disk lines empty source sink copied short listing represents none left dump load = record {
   image = image;
-  same = λ dumped loaded. (image dumped loaded).bytes ∙ sym (dump.image (inl dumped)).bytes;
+  same = λ dumped loaded. (image dumped loaded).bytes ∙ sym (dump.stands (inl dumped)).layout_is;
   complete = λ dumped spared.
       let source_spared = spared.source_spared in
-      load.complete refl t (says dumped) represents.fits.room
+      load.complete refl t (lists dumped) represents.fits.room
       (subst (λ (text : List ℕ). length text ≤ script_limit) (sym (text dumped))
       (short t p represents.names.in_range (under t p (bytes_of disk) represents) represents.fits))
-      (record {
-        disk_spared = spared.disk_spared;
-        source_spared = λ rose. absurd (omega (arith, source_spared, rose));
-        sink_spared = spared.sink_spared;
-      });
+      spared.disk_spared (λ rose. absurd (omega (arith, source_spared, rose)));
 }
   where
     -- what is loaded is the dump of the tree
     text : copied.dump.status ≡ statuses.Done → source.left ≡ dump_text t
-    text dumped = left ∙ dump.whole dumped ∙ ap (λ (written : List ℕ). written ++ dump_text t) none
+    text dumped = left ∙ (dump.put refl).whole dumped ∙ ap (λ (written : List ℕ). written ++ dump_text t) none
 
-    says : copied.dump.status ≡ statuses.Done → Says p source.left t
-    says dumped =
+    lists : copied.dump.status ≡ statuses.Done → Lists t p source.left
+    lists dumped =
         let is = under t p (bytes_of disk) represents in
         record { under = is; listing = subst (IsListing t) (sym (text dumped)) (listing t p is) }
 
     image : copied.dump.status ≡ statuses.Done → copied.load.status ≡ statuses.Done → HasImage copied.load.disk t p
-    image dumped loaded = load.loaded loaded t (says dumped)
+    image dumped loaded = image_of copied.load.disk t p ((load.loads refl t (lists dumped)).loaded loaded)
 
 -- ---- a load that is a run
 
@@ -78,12 +78,13 @@ pub loads_as_run : (p : Parameters) (loaded run : Disk) (source other : SourceMe
     → ((t : Tree) (p : Parameters) (script : List ℕ) → IsTreeUnder t p → Fits t p → IsListing t script
     → RunsListing t p script)
     → other.left ≡ source.left
-    → LoadsListing empty_tree p loaded source sink both.load → AnswersScript empty_tree p run other run_sink both.run
+    → LoadsFrom meaning source_state sink_state empty_tree p source.left (outside_of loaded source sink) both.load
+    → AnswersScript empty_tree p run other run_sink both.run
     → LoadsAsRun source.left p run_sink both
 loads_as_run p loaded run source other sink run_sink both law same load answers = record {
   same = λ done ended.
-      let some = load.said done in
-      (load.loaded done some.0 some.1).bytes
+      let some = (load.done done).1 in
+      ((load.loads refl some.0 some.1).loaded done).layout_is
       ∙ sym (subst (λ (t : Tree). HasImage both.run.disk t p) (runs done).tree (image ended)).bytes;
   answered = λ done ended.
       answers.replied ended
@@ -93,11 +94,11 @@ loads_as_run p loaded run source other sink run_sink both law same load answers 
 }
   where
     -- what a run of the lines does
-    runs : (done : both.load.status ≡ statuses.Done) → RunsListing (load.said done).0 p source.left
+    runs : (done : both.load.status ≡ statuses.Done) → RunsListing ((load.done done).1).0 p source.left
     runs done =
-        let some = load.said done in
+        let some = (load.done done).1 in
         law some.0 p source.left some.1.under (record {
-          room = load.room done some.0 some.1;
+          room = (load.loads refl some.0 some.1).room done;
           bare = some.1.under.bare;
         }) some.1.listing
 

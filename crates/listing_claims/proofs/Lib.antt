@@ -1,4 +1,2 @@
-pub mod DumpLemmas
-pub mod LoadLemmas
 pub mod CopyLemmas
 pub mod CutLemmas

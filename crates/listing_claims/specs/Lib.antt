@@ -1,5 +1,3 @@
 pub mod Again
 pub mod Crashes
-pub mod Dumped
-pub mod Loaded
 pub mod Same

@@ -46,7 +46,7 @@ pub fn a_dump_is_loaded_again(
 ) -> Result<Copied, NoMemory>
     ensures { (t : Tree) (p : Parameters) → Represents (bytes_of disk) t p
         → Represents (bytes_of empty) empty_tree p → lines.written ≡ []
-        → IfOk result (CopiesImage t p empty sink) }
+        → IfOk result (CopiesImage t p empty) }
 {
     every_dump_is_a_script();
     let dump = a_dump_says_its_tree(alloc, disk, lines)?;

@@ -6,8 +6,8 @@ ghost use Rattle.store_model.specs.Trees.{Tree, empty_tree};
 ghost use Rattle.store_model.specs.Images.{Represents};
 ghost use Rattle.disk_model.specs.DiskState.{MayLeaveOnly};
 ghost use Rattle.disk_model.specs.Memory.{memory_state};
+ghost use Rattle.listing_subcommands.specs.LoadCall.{Lists};
 ghost use Rattle.listing_claims.specs.Crashes.{LeavesAllOrNothing};
-ghost use Rattle.listing_claims.specs.Loaded.{Says};
 
 use crate::loaded::a_listing_is_loaded;
 use disk_model::{FailingDisk, MemDisk};
@@ -32,7 +32,7 @@ pub fn a_crash_leaves_all_of_a_load_or_nothing(
 ) -> Result<Crash, NoMemory>
     ensures { (t : Tree) (p : Parameters)
         → MayLeaveOnly (memory_state disk) (λ image. Represents image empty_tree p)
-        → Says p source.left t
+        → Lists t p source.left
         → IfOk result (LeavesAllOrNothing t p disk left.now) }
 {
     let failing = FailingDisk::new(disk, Vec::new(alloc), Some(from));

@@ -2,7 +2,7 @@
 //! over disks, sources and sinks in memory that calls the program. Its contract says the sentence in bytes, lines,
 //! statuses and trees, and of the image of a tree. Start at `a_listing_is_loaded`.
 //!
-//! All of them come to the program by `script_claims::serve`, on one kind of machine.
+//! All of them call `top`, on the machines of `script_claims`.
 #![tactic(auto)]
 
 mod again;

@@ -1,20 +1,20 @@
 //! A listing is loaded.
 
-ghost use Rattle.std.specs.Prelude.{◌≡◌, IfOk, Some};
+ghost use Rattle.std.specs.Prelude.{IfOk};
 ghost use Rattle.store_model.specs.Parameters.{Parameters};
-ghost use Rattle.store_model.specs.Trees.{Tree, empty_tree};
+ghost use Rattle.store_model.specs.Trees.{Tree};
 ghost use Rattle.store_model.specs.Images.{Represents};
-ghost use Rattle.store_model.specs.Words.{request_of};
-ghost use Rattle.store_model.specs.Words.Request.{Load};
-ghost use Rattle.script_claims.specs.Machines.{bytes_of};
+ghost use Rattle.script_lines.specs.Memory.{source_state, sink_state};
+ghost use Rattle.image_subcommands.specs.Outside.{outside_of};
+ghost use Rattle.listing_subcommands.specs.LoadCall.{LoadsFrom, KeepsLoad};
+ghost use Rattle.script_claims.specs.Machines.{bytes_of, meaning};
 ghost use Rattle.script_claims.specs.Nothing.{HasNoTree, DoesNothing};
-ghost use Rattle.listing_claims.specs.Loaded.{LoadsAllOrNothing, LoadsListing, Says};
 
-use script_claims::{Disk, Ended, serve};
+use script_claims::{Disk, Ended, one_word};
 use script_lines::{MemSink, MemSource};
 use std::alloc::Global;
 use store_base::NoMemory;
-use store_top::Words;
+use store_top::top;
 
 /// Loads a listing into an image. With status 0 the image was empty, the lines are those of the dump of a tree, and the
 /// image is that of this tree, by one commit. 14 comes exactly where the image was not empty, and then nothing was
@@ -32,21 +32,12 @@ pub fn a_listing_is_loaded(
     sink: MemSink,
 ) -> Result<Ended, NoMemory>
     ensures loads { (u : Tree) (p : Parameters) → Represents (bytes_of disk) u p
-        → IfOk result (LoadsListing u p disk source sink) }
-    ensures whole { (t : Tree) (p : Parameters)
-        → Represents (bytes_of disk) empty_tree p → Says p source.left t
-        → IfOk result (LoadsAllOrNothing t p disk) }
+        → IfOk result (LoadsFrom meaning source_state sink_state u p source.left
+        (outside_of disk source sink)) }
+    ensures keeps { IfOk result
+        (KeepsLoad meaning source_state sink_state (outside_of disk source sink)) }
     ensures nothing { HasNoTree (bytes_of disk) → IfOk result (DoesNothing disk source sink) }
 {
-    let words = load_word(alloc)?;
-    Ok(serve(alloc, &words, disk, source, sink))
-}
-
-/// The command line of the one word `load`.
-fn load_word(alloc: Global) -> Result<Words, NoMemory>
-    ensures { IfOk result (λ words. request_of words ≡ Some Load) }
-{
-    let mut words = Words::new(alloc);
-    words.push("load")?;
-    Ok(words)
+    let words = one_word(alloc, "load")?;
+    Ok(top(alloc, &words, disk, source, sink))
 }

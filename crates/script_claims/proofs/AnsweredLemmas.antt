@@ -10,10 +10,10 @@ use Rattle.script_lines.specs.Memory.{SourceMemory, SinkMemory, source_state, si
 use Rattle.image_subcommands.specs.declared.status.Status.TheVariants as statuses
 use Rattle.image_subcommands.specs.Outside.{outside_of}
 use Rattle.image_subcommands.specs.Statuses.{Subcommand, IsBetweenLines}
-use Rattle.script_runs.specs.RunCall.{IsRun}
+use Rattle.script_runs.specs.ScriptCall.{IsRun}
 use Rattle.script_runs.specs.Runs.{run_texts}
 use Rattle.script_runs.specs.ScriptCall.{AnswersScript as Answers}
-use Rattle.script_runs.proofs.RunLemmas.{length-run_texts, texts_joined}
+use Rattle.script_runs.proofs.AnswerLemmas.{length-run_texts, texts_joined}
 use Rattle.script_claims.specs.Answered.{AnswersWhole, AnswersScript}
 use Rattle.script_claims.specs.Machines.{Disk, Ended, HasImage, bytes_of, meaning}
 use Rattle.script_claims.proofs.RunWays.{image_of}

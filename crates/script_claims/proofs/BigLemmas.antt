@@ -20,7 +20,7 @@ use Rattle.script_lines.specs.Memory.{SourceMemory, SinkMemory, sink_state}
 use Rattle.image_subcommands.specs.declared.status.Status.TheVariants as statuses
 use Rattle.image_subcommands.specs.Outside.{outside_of}
 use Rattle.image_subcommands.specs.Statuses.{IsBetweenLines, IsSummed}
-use Rattle.script_runs.specs.BigCall.{IsBig}
+use Rattle.script_runs.specs.ScriptCall.{IsBig}
 use Rattle.staged_tree.specs.Groups.{step_under}
 use Rattle.script_runs.specs.Generations.{first_commands, generated_trees, summary_text}
 use Rattle.script_claims.specs.declared.big.TwoRuns.{TwoRuns}

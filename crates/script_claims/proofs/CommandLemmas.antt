@@ -12,7 +12,7 @@ use Rattle.script_lines.specs.SinkState.{AppendsPrefix}
 use Rattle.image_subcommands.specs.declared.status.Status.{Status}
 use Rattle.image_subcommands.specs.Outside.{outside_of}
 use Rattle.image_subcommands.specs.Statuses.{Subcommand as words, IsBetweenLines, IsSummed}
-use Rattle.script_runs.specs.BigCall.{IsBig}
+use Rattle.script_runs.specs.ScriptCall.{IsBig}
 use Rattle.staged_tree.specs.Groups.{step_under}
 use Rattle.script_runs.specs.Generations.{first_commands, generated_trees}
 use Rattle.script_claims.specs.BigRuns.{summary_of}

@@ -5,10 +5,10 @@ pub mod CommandLemmas
 pub mod CrashLemmas
 pub mod MakingLemmas
 pub mod NothingLemmas
+pub mod OneWord
 pub mod RefusalLemmas
 pub mod RemovalLemmas
 pub mod RequestedParameters
-pub mod RunCostLemmas
 pub mod RunWays
 pub mod StoppingLemmas
 pub mod UpgradedLemmas

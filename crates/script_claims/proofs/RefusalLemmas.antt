@@ -27,7 +27,7 @@ use Rattle.script_lines.specs.Memory.{SourceMemory, SinkMemory, source_state, si
 use Rattle.image_subcommands.specs.declared.status.Status.TheVariants as statuses
 use Rattle.image_subcommands.specs.Outside.{outside_of}
 use Rattle.script_runs.specs.Generations.{is_refused}
-use Rattle.script_runs.specs.RunCall.{IsRun}
+use Rattle.script_runs.specs.ScriptCall.{IsRun}
 use Rattle.script_claims.specs.Answered.{AnswersScript}
 use Rattle.script_claims.specs.Machines.{Disk, Ended, bytes_of, meaning}
 use Rattle.script_claims.specs.Refusals.{IsRefusal, IsAtRest, IsUntouched, IsOneLine, NeedsMoreSlots, AnswersFull}

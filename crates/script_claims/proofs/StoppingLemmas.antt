@@ -12,7 +12,7 @@ use Rattle.image_subcommands.specs.Outside.{outside_of, KeepsOutside}
 use Rattle.image_subcommands.specs.FormatCall.{IsFormat}
 use Rattle.image_subcommands.specs.Statuses.{Subcommand as words, IsStatusOf, IsStopOf, disk_faults_by}
 use Rattle.image_subcommands.specs.Statuses.{source_faults_by, sink_faults_by}
-use Rattle.script_runs.specs.RunCall.{IsRun}
+use Rattle.script_runs.specs.ScriptCall.{IsRun}
 use Rattle.script_claims.specs.Machines.{Disk, Ended, bytes_of, meaning}
 use Rattle.script_claims.specs.Makings.{SparesCounts, StopsRuns, StopsFormat}
 use Rattle.script_claims.proofs.RunWays.{stop_of, way}

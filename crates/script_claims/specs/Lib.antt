@@ -8,6 +8,4 @@ pub mod Makings
 pub mod Nothing
 pub mod Refusals
 pub mod Removals
-pub mod RunCosts
-pub mod Serving
 pub mod Upgrades

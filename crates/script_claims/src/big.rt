@@ -8,18 +8,19 @@ ghost use Rattle.store_model.specs.Scripts.{lines};
 ghost use Rattle.store_model.specs.Words.{request_of};
 ghost use Rattle.store_model.specs.Words.Request.{Big};
 ghost use Rattle.disk_model.specs.DiskState.{MayLeaveOnly};
-ghost use Rattle.script_runs.specs.Generations.{first_commands};
+ghost use Rattle.script_runs.specs.Costs.{CountsRun};
+ghost use Rattle.script_runs.specs.Generations.{first_commands, generated_trees};
 ghost use Rattle.script_claims.specs.Answered.{AnswersScript};
 ghost use Rattle.script_claims.specs.BigRuns.{AskFor, IsRunOfCommands};
 ghost use Rattle.script_claims.specs.Commands.{KeepsCommands};
 ghost use Rattle.script_claims.specs.Machines.{bytes_of, meaning};
+ghost use Rattle.script_claims.specs.Nothing.{HasNoTree, DoesNothing};
 
 use crate::answered::a_script_is_answered;
-use crate::call::serve;
 use crate::machines::{Ended, Machine};
 use std::alloc::Global;
 use store_base::NoMemory;
-use store_top::Words;
+use store_top::{Words, top};
 
 /// `big`, and a run of the commands that it carries out.
 #[derive(Drop)]
@@ -50,20 +51,31 @@ pub fn big_is_a_run(
         → IfOk result (IsRunOfCommands t p second.source first.sink) }
 {
     let Machine { disk, source, sink } = first;
-    let big = serve(alloc, words, disk, source, sink);
+    let big = top(alloc, words, disk, source, sink);
     let Machine { disk, source, sink } = second;
     let run = a_script_is_answered(alloc, disk, source, sink)?;
     Ok(TwoRuns { big, run })
 }
 
 /// Carries out these words, `big NUMBER COUNT`, on an image. However it ends, the image is that of the tree after the
-/// commands that were carried out, as with a run of them; only the summary is printed, and nothing is taken.
+/// commands that were carried out, as with a run of them; only the summary is printed, and nothing is taken. It makes
+/// just the writes and syncs of a run of its commands; the summary takes none.
+///
+/// On bytes that are the image of no tree it does nothing, as a run.
 pub fn commands_of_big_stay(alloc: Global, words: &Words, machine: Machine) -> Ended
-    ensures { (number count : ℕ) (t : Tree) (p : Parameters)
+    ensures stay { (number count : ℕ) (t : Tree) (p : Parameters)
         → request_of words.now ≡ Some (Big number count)
         → MayLeaveOnly (meaning machine.disk) (λ image. Represents image t p)
         → KeepsCommands number count t p machine.disk machine.source machine.sink result }
+    ensures costs { (number count : ℕ) (t : Tree) (p : Parameters)
+        → request_of words.now ≡ Some (Big number count)
+        → Represents (bytes_of machine.disk) t p
+        → CountsRun result.status result.done (generated_trees t number count p) p
+        (meaning machine.disk) (meaning result.disk) }
+    ensures nothing { (number count : ℕ) → request_of words.now ≡ Some (Big number count)
+        → HasNoTree (bytes_of machine.disk)
+        → DoesNothing machine.disk machine.source machine.sink result }
 {
     let Machine { disk, source, sink } = machine;
-    serve(alloc, words, disk, source, sink)
+    top(alloc, words, disk, source, sink)
 }

@@ -11,12 +11,12 @@ ghost use Rattle.script_claims.specs.Acknowledged.{KeepsAcknowledged};
 ghost use Rattle.script_claims.specs.Crashes.{LosesNothing, RunsBehind};
 
 use crate::answered::a_script_is_answered;
-use crate::call::serve;
-use crate::machines::{Ended, calm, no_script, run_word};
+use crate::machines::{Ended, calm, no_script, one_word};
 use disk_model::{FailingDisk, MemDisk};
 use script_lines::{MemSink, MemSource};
 use std::alloc::Global;
 use store_base::NoMemory;
+use store_top::top;
 
 /// The room of the record of the disk that the second run is on, in bytes: a write takes 16 and those that it writes.
 const ROOM: usize = 4_194_304;
@@ -55,9 +55,9 @@ pub fn a_crash_loses_nothing(
         IfOk result (LosesNothing (run_texts t source.left p)
         (run_trees t source.left p) p disk sink left.now) }
 {
-    let words = run_word(alloc)?;
+    let words = one_word(alloc, "run")?;
     let failing = FailingDisk::new(disk, Vec::new(alloc), Some(from));
-    let first = serve(alloc, &words, failing, source, sink);
+    let first = top(alloc, &words, failing, source, sink);
     let next = run_behind(alloc, left)?;
     Ok(Crash { first, next })
 }

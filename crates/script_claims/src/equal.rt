@@ -11,12 +11,11 @@ ghost use Rattle.image_check.specs.Standing.{IsFitting};
 ghost use Rattle.script_claims.specs.Makings.{made_tree, EqualContentsEqualBytes, SparesCounts, StopsRuns, StopsMaking};
 ghost use Rattle.script_claims.specs.Machines.{HasImage};
 
-use crate::call::serve;
-use crate::machines::{Disk, Ended, no_script, run_word};
+use crate::machines::{Disk, Ended, no_script, one_word};
 use script_lines::{MemSink, MemSource};
 use std::alloc::Global;
 use store_base::NoMemory;
-use store_top::{Outcome, Status, Words};
+use store_top::{Outcome, Status, Words, top};
 
 /// An image that is to be made.
 #[derive(Drop)]
@@ -58,8 +57,8 @@ fn run_whole(alloc: Global, disk: Disk, source: MemSource, sink: MemSink) -> Res
     ensures stops { (t : Tree) (p : Parameters) → IsFitting t p → HasImage disk t p
         → IfErr result (StopsRuns disk (λ script. script ≡ source) sink) }
 {
-    match run_word(alloc) {
-        Ok(words) => done(serve(alloc, &words, disk, source, sink)),
+    match one_word(alloc, "run") {
+        Ok(words) => done(top(alloc, &words, disk, source, sink)),
         Err(NoMemory) => Err(Outcome::idle(Status::NoMemory, disk, source, sink)),
     }
 }
@@ -104,7 +103,7 @@ pub fn make_image(alloc: Global, format: &Words, making: Making) -> Result<Disk,
         scripts,
         sink,
     } = making;
-    let formatted = done(serve(alloc, format, disk, no_script(alloc), sink))?;
+    let formatted = done(top(alloc, format, disk, no_script(alloc), sink))?;
     run_scripts(alloc, formatted.disk, scripts, formatted.sink)
 }
 

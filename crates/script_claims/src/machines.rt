@@ -1,8 +1,7 @@
-//! The disks, sources and sinks of the sentences, all of them in memory, and the words `run` and `upgrade`.
+//! The disks, sources and sinks of the sentences, all of them in memory, and words.
 
-ghost use Rattle.std.specs.Prelude.{◌≡◌, [], IfOk, Some, None};
-ghost use Rattle.store_model.specs.Words.{request_of};
-ghost use Rattle.store_model.specs.Words.Request.{Run, Upgrade};
+ghost use Rattle.std.specs.Prelude.{◌≡◌, [], ◌∷◌, IfOk, Some, None};
+ghost use Rattle.store_model.specs.Words.{Request, request_of};
 ghost use Rattle.store_base.specs.Counts.{raised_by};
 ghost use Rattle.disk_model.specs.FailingDisk.{first_of_all, listed};
 ghost use Rattle.script_claims.specs.Machines.{meaning};
@@ -41,27 +40,19 @@ pub(crate) fn calm(alloc: Global, disk: MemDisk) -> Disk
 }
 
 /// A source that has no byte.
-pub(crate) fn no_script(alloc: Global) -> MemSource
+pub fn no_script(alloc: Global) -> MemSource
     ensures left { result.left ≡ [] }
     ensures faults { result.faults ≡ 0 }
 {
     MemSource::new(Vec::new(alloc), Vec::new(alloc), Vec::new(alloc))
 }
 
-/// The command line of the one word `run`.
-pub(crate) fn run_word(alloc: Global) -> Result<Words, NoMemory>
-    ensures { IfOk result (λ words. request_of words ≡ Some Run) }
+/// The command line of one word.
+pub fn one_word(alloc: Global, word: &str) -> Result<Words, NoMemory>
+    ensures { (request : Request) → request_of (word.now ∷ []) ≡ Some request
+        → IfOk result (λ words. request_of words ≡ Some request) }
 {
     let mut words = Words::new(alloc);
-    words.push("run")?;
-    Ok(words)
-}
-
-/// The command line of the one word `upgrade`.
-pub(crate) fn upgrade_word(alloc: Global) -> Result<Words, NoMemory>
-    ensures { IfOk result (λ words. request_of words ≡ Some Upgrade) }
-{
-    let mut words = Words::new(alloc);
-    words.push("upgrade")?;
+    words.push(word)?;
     Ok(words)
 }

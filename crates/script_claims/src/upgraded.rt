@@ -12,13 +12,12 @@ ghost use Rattle.script_claims.specs.Makings.{StopsMaking};
 ghost use Rattle.script_claims.specs.Upgrades.{HaveSameArguments, AreSameScripts, IsUpgradedAsMade, StopsUpgrade};
 ghost use Rattle.script_claims.specs.Upgrades.{StopsUpgrading};
 
-use crate::call::serve;
 use crate::equal::{Images, Making, done, make_image};
-use crate::machines::{Disk, Ended, no_script, upgrade_word};
+use crate::machines::{Disk, Ended, no_script, one_word};
 use script_lines::MemSink;
 use std::alloc::Global;
 use store_base::NoMemory;
-use store_top::{Outcome, Status, Words};
+use store_top::{Outcome, Status, Words, top};
 
 /// Upgrades the image of a tree. `Err` has an upgrade that did not end with 0.
 fn upgrade_image(alloc: Global, disk: Disk, sink: MemSink) -> Result<Ended, Ended>
@@ -28,8 +27,8 @@ fn upgrade_image(alloc: Global, disk: Disk, sink: MemSink) -> Result<Ended, Ende
     ensures stops { (t : Tree) (p : Parameters) → IsFitting t p → HasImage disk t p
         → IfErr result (StopsUpgrade disk) }
 {
-    match upgrade_word(alloc) {
-        Ok(words) => done(serve(alloc, &words, disk, no_script(alloc), sink)),
+    match one_word(alloc, "upgrade") {
+        Ok(words) => done(top(alloc, &words, disk, no_script(alloc), sink)),
         Err(NoMemory) => Err(Outcome::idle(Status::NoMemory, disk, no_script(alloc), sink)),
     }
 }

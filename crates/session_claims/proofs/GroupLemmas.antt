@@ -21,7 +21,7 @@ use Rattle.session_core.specs.Machine.Event.{Acts}
 use Rattle.session_core.specs.Traces.{Entry, IsSerial, world_after, trace, committed_by, groups, staged_since}
 use Rattle.script_runs.specs.SessionRuns.{no_sessions, session_reading, session_machines, answer_call}
 use Rattle.script_runs.specs.SessionRuns.{answer_session_line}
-use Rattle.script_runs.proofs.SessionLemmas.{answer_text_next}
+use Rattle.script_runs.proofs.AnswerLemmas.{answer_text_next}
 use Rattle.session_claims.specs.Groups.{event_of, session_events, session_trace, session_groups, committed_tree}
 use Rattle.session_claims.specs.Groups.{IsAnswered, CommitsWhole}
 use Rattle.session_claims.proofs.EventLemmas.{world_of_lines, entry_of, events_split}

@@ -1,8 +1,6 @@
 //! The one call of the program, with the word `session`. Every function of the sentences comes to the program by it.
 
-ghost use Rattle.std.specs.Prelude.{◌≡◌, IfOk, Some};
-ghost use Rattle.store_model.specs.Words.{request_of};
-ghost use Rattle.store_model.specs.Words.Request.{Session};
+ghost use Rattle.std.specs.Prelude.{IfOk};
 ghost use Rattle.script_lines.specs.Memory.{source_state, sink_state};
 ghost use Rattle.image_subcommands.specs.Outside.{outside_of};
 ghost use Rattle.image_subcommands.specs.Statuses.{Subcommand as words};
@@ -11,12 +9,12 @@ ghost use Rattle.script_runs.specs.SessionRuns.{session_texts};
 ghost use Rattle.script_claims.specs.Machines.{meaning};
 ghost use Rattle.session_claims.specs.Groups.{committed_trees};
 
-use script_claims::{Disk, Ended, serve};
+use script_claims::{Disk, Ended, one_word};
 use script_lines::{MemSink, MemSource};
 use session_core::every_history_is_serial;
 use std::alloc::Global;
 use store_base::NoMemory;
-use store_top::Words;
+use store_top::top;
 
 /// Answers a script of calls on sessions, on an image, as the program does. The trees that it leads to are those of
 /// the groups that its lines commit: so the law of sessions says.
@@ -33,15 +31,6 @@ pub(crate) fn hold(
         (outside_of disk source sink)) }
 {
     every_history_is_serial();
-    let words = session_word(alloc)?;
-    Ok(serve(alloc, &words, disk, source, sink))
-}
-
-/// The command line of the one word `session`.
-fn session_word(alloc: Global) -> Result<Words, NoMemory>
-    ensures { IfOk result (λ words. request_of words ≡ Some Session) }
-{
-    let mut words = Words::new(alloc);
-    words.push("session")?;
-    Ok(words)
+    let words = one_word(alloc, "session")?;
+    Ok(top(alloc, &words, disk, source, sink))
 }

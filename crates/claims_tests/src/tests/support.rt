@@ -10,6 +10,7 @@
 //! the image behind it.
 
 use disk_model::{FailingDisk, MemDisk};
+use image_claims::number_of;
 use script_claims::{Crash, Disk, Ended, Machine, Making};
 use script_lines::{MemSink, MemSource};
 use std::alloc::Global;
@@ -34,8 +35,11 @@ pub const BROKEN: &str = "11:1 12:1 14:1 16384:1 16516:97 16641:1 16642:1";
 pub const FORMAT: &str =
     "format 1 1 ruler 0000000000000000000000000000000000000000000000000000000000000000";
 
+/// The number of no call that is made.
+pub const NEVER: u64 = u64::MAX;
+
 /// The room of a disk's record and of a sink.
-pub const ROOM: usize = 1_048_576;
+const ROOM: usize = 1_048_576;
 
 /// The pieces in which a source gives its script.
 static PIECES: [usize; 2] = [8, 3];
@@ -73,52 +77,38 @@ pub fn memory_of(rt: &impl Abort, alloc: Global, places: &str) -> MemDisk {
     MemDisk::new(alloc, &image_of(rt, alloc, places), ROOM).expect(rt, "memory")
 }
 
-/// A disk with this image, which fails from this call on, if from any.
-pub fn disk_of(rt: &impl Abort, alloc: Global, places: &str, from: Option<u64>) -> Disk {
-    FailingDisk::new(memory_of(rt, alloc, places), Vec::new(alloc), from)
-}
-
-/// The numbers of calls that are to fail.
-pub fn numbers_of(rt: &impl Abort, alloc: Global, numbers: &[u64]) -> Vec<u64> {
-    numbers.to_vec(alloc).expect(rt, "memory")
-}
-
-/// A source that gives the script, first in a piece of 8 bytes and then in one of 3.
-pub fn source_of(rt: &impl Abort, alloc: Global, script: &str) -> MemSource {
+/// A source that gives the script, first in a piece of 8 bytes and then in one of 3; its take of this number fails.
+fn source_of(rt: &impl Abort, alloc: Global, script: &str, fails: u64) -> MemSource {
     let pieces = PIECES.to_vec(alloc).expect(rt, "memory");
     let bytes = script.as_bytes().to_vec(alloc).expect(rt, "memory");
-    MemSource::new(bytes, pieces, Vec::new(alloc))
+    MemSource::new(bytes, pieces, [fails].to_vec(alloc).expect(rt, "memory"))
+}
+
+/// A sink whose put of this number fails.
+fn sink_failing(rt: &impl Abort, alloc: Global, fails: u64) -> MemSink {
+    let fails = [fails].to_vec(alloc).expect(rt, "memory");
+    MemSink::new(alloc, ROOM, fails).expect(rt, "memory")
 }
 
 /// A sink whose puts do not fail.
 pub fn sink_of(rt: &impl Abort, alloc: Global) -> MemSink {
-    MemSink::new(alloc, ROOM, Vec::new(alloc)).expect(rt, "memory")
+    sink_failing(rt, alloc, NEVER)
 }
 
-/// What a call on a script is given: this image, this script, and a sink.
-pub fn parts_of(
-    rt: &impl Abort,
-    alloc: Global,
-    image: &str,
-    script: &str,
-) -> (Disk, MemSource, MemSink) {
-    let (disk, sink) = (disk_of(rt, alloc, image, None), sink_of(rt, alloc));
-    (disk, source_of(rt, alloc, script), sink)
-}
-
-/// What a call on words is given: these words, and a machine with this image.
-pub fn words_on(rt: &impl Abort, alloc: Global, words: &str, image: &str) -> (Words, Machine) {
-    let machine = machine_of(rt, alloc, [image, ""], None);
-    (words_of(rt, alloc, words), machine)
-}
-
-/// A machine with this image and this script, whose disk fails from this call on, if from any.
-pub fn machine_of(rt: &impl Abort, alloc: Global, given: [&str; 2], from: Option<u64>) -> Machine {
+/// A machine with this image and this script. Its disk fails from a call on; a take of its source and a put of its sink
+/// fail: these are their numbers.
+pub fn failing(rt: &impl Abort, alloc: Global, given: [&str; 2], fails: [u64; 3]) -> Machine {
+    let memory = memory_of(rt, alloc, given[0]);
     Machine {
-        disk: disk_of(rt, alloc, given[0], from),
-        source: source_of(rt, alloc, given[1]),
-        sink: sink_of(rt, alloc),
+        disk: FailingDisk::new(memory, Vec::new(alloc), Some(fails[0])),
+        source: source_of(rt, alloc, given[1], fails[1]),
+        sink: sink_failing(rt, alloc, fails[2]),
     }
+}
+
+/// A machine with this image and this script, of which no call fails.
+pub fn machine_of(rt: &impl Abort, alloc: Global, given: [&str; 2]) -> Machine {
+    failing(rt, alloc, given, [NEVER, NEVER, NEVER])
 }
 
 /// An image that is to be made by these scripts, parted by `#`.
@@ -126,13 +116,14 @@ pub fn making_of(rt: &impl Abort, alloc: Global, scripts: &str) -> Making {
     let mut sources = Vec::new(alloc);
     for script in scripts.split('#') {
         sources
-            .push(source_of(rt, alloc, script))
+            .push(source_of(rt, alloc, script, NEVER))
             .expect(rt, "memory");
     }
+    let Machine { disk, sink, .. } = machine_of(rt, alloc, ["", ""]);
     Making {
-        disk: disk_of(rt, alloc, "", None),
+        disk,
         scripts: sources,
-        sink: sink_of(rt, alloc),
+        sink,
     }
 }
 
@@ -156,7 +147,7 @@ pub fn are(found: [u64; 4], wanted: &[u64; 4]) -> bool {
 /// Looks whether a call ended so.
 pub fn expect_end(rt: &impl Abort, alloc: Global, ended: Ended, wanted: &Wanted<'_>) {
     let disk = ended.disk.into_disk();
-    let status = u64::from(ended.status.code());
+    let status = u64::from(number_of(ended.status));
     let found = [status, ended.done, disk.write_count(), disk.sync_count()];
     let is_written = ended.sink.written() == wanted.1.as_bytes();
     let is_image = disk.bytes() == image_of(rt, alloc, wanted.2).as_slice();
@@ -165,11 +156,6 @@ pub fn expect_end(rt: &impl Abort, alloc: Global, ended: Ended, wanted: &Wanted<
         "the end of {}",
         wanted.1
     );
-}
-
-/// Looks whether a call for whose words there was memory ended so.
-pub fn expect(rt: &impl Abort, alloc: Global, ended: Result<Ended, NoMemory>, wanted: &Wanted<'_>) {
-    expect_end(rt, alloc, ended.expect(rt, "memory"), wanted);
 }
 
 /// What is given where a crash comes: the image and the script before, what is written where all was acknowledged, and
@@ -190,7 +176,7 @@ fn crash_at<F: Fn(Global, MemDisk, u64, MemSource, MemSink, &[u8]) -> Result<Cra
     requires { F.IsAlwaysCallable sentence.now }
 {
     let disk = memory_of(rt, alloc, given[0]);
-    let source = source_of(rt, alloc, given[1]);
+    let source = source_of(rt, alloc, given[1], NEVER);
     let crash = sentence(alloc, disk, from, source, sink_of(rt, alloc), left);
     let Crash { first, next } = crash.expect(rt, "memory");
     let is_done = first.status.code() == 0;

@@ -18,4 +18,4 @@ returns-clause-alone c is asked =
 
 pub returns-clause-judges : goal.returns-clause-judges
 returns-clause-judges c is =
-    (check_exact c.args.machine c.call-checked.result (c.call-checked.ensures.performs _ is)).judges
+    check_exact c.args.machine c.call-checked.result (c.call-checked.ensures.performs _ is)

@@ -5,11 +5,5 @@ use Rattle.image_claims.proofs.images.scrub.Goals as goal
 pub returns-clause-exact : goal.returns-clause-exact
 returns-clause-exact c is = scrub_exact c.args.machine c.call.result (c.call.ensures.performs _ is)
 
-pub returns-clause-takes_nothing : goal.returns-clause-takes_nothing
-returns-clause-takes_nothing c is = (c.call.ensures.performs _ is).source
-
-pub returns-clause-takes_no_memory : goal.returns-clause-takes_no_memory
-returns-clause-takes_no_memory c is = (c.call.ensures.performs _ is).no_memory
-
 pub returns-clause-costs : goal.returns-clause-costs
-returns-clause-costs c is = scrub_costs c.args.machine c.call.result (c.call.ensures.performs _ is)
+returns-clause-costs c t p is = scrub_costs c.args.machine c.call.result (c.call.ensures.performs _ is) t p

@@ -1,4 +1,4 @@
-use Rattle.image_claims.proofs.Imaging.{scrub_exact, scrub_cut_short}
+use Rattle.image_claims.proofs.Imaging.{scrub_cut_short}
 use Rattle.image_claims.proofs.images.scrub_cut_short.Goals as goal
 
 pub returns-clause-same : goal.returns-clause-same
@@ -7,10 +7,10 @@ returns-clause-same c is =
     (c.call-cut.ensures.performs _ is) (c.call-again.ensures.performs _ is) (c.call-whole.ensures.performs _ is)
 
 pub returns-clause-cut : goal.returns-clause-cut
-returns-clause-cut c is = scrub_exact c.args.machine c.call-cut.result (c.call-cut.ensures.performs _ is)
+returns-clause-cut c is = c.call-cut.ensures.performs _ is
 
 pub returns-clause-again : goal.returns-clause-again
-returns-clause-again c is = scrub_exact c.args.left c.call-again.result (c.call-again.ensures.performs _ is)
+returns-clause-again c is = c.call-again.ensures.performs _ is
 
 pub returns-clause-whole : goal.returns-clause-whole
-returns-clause-whole c is = scrub_exact c.args.twin c.call-whole.result (c.call-whole.ensures.performs _ is)
+returns-clause-whole c is = c.call-whole.ensures.performs _ is

@@ -6,7 +6,7 @@ use Rattle.image_claims.proofs.runs.check_behind_runs.Goals as goal
 pub returns-clause-checks : goal.returns-clause-checks
 returns-clause-checks c p is checking =
     check_of_made c.args.making.scripts.items p
-    (record { disk = c.in_ok-disk.disk; source = c.new-source.result; sink = c.args.line }) c.call-checked.result
+    (record { disk = c.in_ok-disk.disk; source = c.no_script.result; sink = c.args.line }) c.call-checked.result
     (requested_fits c.args.format.now p is) (c.in_ok-disk.ensures.image p is)
     (c.call-checked.ensures.performs _ checking)
 

@@ -18,5 +18,5 @@ returns c t p only says =
     let crash : Crash = record { first = c.in_ok-first.first; next = c.in_ok-next.next } in
     subst (λ (disk : Memory). LeavesAllOrNothing t p disk c.args.left.now crash) below
     (leaves_all_or_nothing t p c.new-failing.result c.args.source c.args.sink c.args.left.now crash leaves says
-    (c.in_ok-first.ensures.loads empty_tree p read) (c.in_ok-first.ensures.whole t p read says)
+    (c.in_ok-first.ensures.loads empty_tree p read)
     (λ u is. c.in_ok-next.ensures u p is))

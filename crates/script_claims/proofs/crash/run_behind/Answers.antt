@@ -20,4 +20,4 @@ returns c t p is =
     (c.calm-disk.ensures.faults ∙ ap (λ (memory : Memory). raised_by memory.faults 0) c.in_ok-new.ensures)
     c.no_script.ensures.faults
     (ap (λ (sink : SinkMemory). sink.faults) c.in_ok-sink.ensures))
-    (c.a_script_is_answered.ensures t p (subst (λ (image : List ℕ). Represents image t p) (sym bytes) is))
+    (c.a_script_is_answered.ensures.answered t p (subst (λ (image : List ℕ). Represents image t p) (sym bytes) is))

@@ -14,26 +14,26 @@ returns-clause-image c p asked =
     let ok = c.in_ok-formatted.ensures.ok in
     c.run_scripts.ensures.image empty_tree p (requested_fits c.args.format.now p asked)
     (subst (λ (ended : Ended). HasImage ended.disk empty_tree p) (sym ok.0)
-    (formatted p c.args.making.disk c.no_script.result c.args.making.sink c.serve.result
-    (c.serve.ensures.performs _ asked) ok.1))
+    (formatted p c.args.making.disk c.no_script.result c.args.making.sink c.top.result
+    (c.top.ensures.performs _ asked) ok.1))
 
 pub returns-in_err-formatted-clause-stops : goal.returns-in_err-formatted-clause-stops
 returns-in_err-formatted-clause-stops c p asked =
     let other = c.in_err-formatted.ensures.ended in
     handed_on _ c.in_err-formatted.field-0.0 c.from_residual.result c.from_residual.ensures.1
     (inl (subst (StopsFormat p c.args.making.disk) (sym other.0)
-    (format_stops c.args.making.disk c.no_script.result c.args.making.sink c.serve.result c.serve.ensures.outside p
-    (c.serve.ensures.performs _ asked) other.1)))
+    (format_stops c.args.making.disk c.no_script.result c.args.making.sink c.top.result c.top.ensures.outside p
+    (c.top.ensures.performs _ asked) other.1)))
 
 pub returns-clause-stops : goal.returns-clause-stops
 returns-clause-stops c p asked =
     let ok = c.in_ok-formatted.ensures.ok in
-    let format = c.serve.ensures.performs _ asked in
+    let format = c.top.ensures.performs _ asked in
     let spared = subst (λ (ended : Ended). SparesCounts c.args.making.disk c.args.making.sink ended) (sym ok.0)
-    (spares_counts c.args.making.disk c.no_script.result c.args.making.sink c.serve.result
-    c.serve.ensures.outside ok.1) in
+    (spares_counts c.args.making.disk c.no_script.result c.args.making.sink c.top.result
+    c.top.ensures.outside ok.1) in
     let image = subst (λ (ended : Ended). HasImage ended.disk empty_tree p) (sym ok.0)
-    (formatted p c.args.making.disk c.no_script.result c.args.making.sink c.serve.result format ok.1) in
+    (formatted p c.args.making.disk c.no_script.result c.args.making.sink c.top.result format ok.1) in
     IfErr-weaker c.run_scripts.result _ _
     (λ ended stops.
     inr (stops_behind c.args.making.disk c.in_ok-formatted.formatted.disk

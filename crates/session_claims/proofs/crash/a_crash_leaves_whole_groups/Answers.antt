@@ -3,7 +3,7 @@ use Rattle.store_model.specs.Images.{Represents}
 use Rattle.disk_model.specs.DiskState.{MayLeaveOnly}
 use Rattle.disk_model.specs.Memory.{Memory, memory_state}
 use Rattle.script_runs.specs.SessionRuns.{session_texts}
-use Rattle.script_runs.proofs.SessionLemmas.{length-session_texts}
+use Rattle.script_runs.proofs.AnswerLemmas.{length-session_texts}
 use Rattle.script_claims.specs.declared.crash.Crash.{Crash}
 use Rattle.script_claims.specs.Crashes.{LosesNothing}
 use Rattle.script_claims.specs.Machines.{bytes_of}
@@ -34,12 +34,3 @@ returns-clause-next c t p only =
     c.in_ok-first.ensures leaves
     (committed_laid_out t p (bytes_of c.new-failing.result) c.args.source.left)
     (λ u is. c.in_ok-next.ensures u p is))
-
-pub returns-clause-groups : goal.returns-clause-groups
-returns-clause-groups c t p count = c.groups_are_whole.ensures t p c.args.source.left count
-
-pub returns-in_err-first-clause-groups : goal.returns-in_err-first-clause-groups
-returns-in_err-first-clause-groups c t p count = c.groups_are_whole.ensures t p c.args.source.left count
-
-pub returns-in_err-next-clause-groups : goal.returns-in_err-next-clause-groups
-returns-in_err-next-clause-groups c t p count = c.groups_are_whole.ensures t p c.args.source.left count

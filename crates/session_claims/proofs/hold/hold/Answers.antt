@@ -7,6 +7,7 @@ use Rattle.image_subcommands.specs.Statuses.{Subcommand as words}
 use Rattle.script_runs.specs.ScriptCall.{AnswersScript}
 use Rattle.script_runs.specs.SessionRuns.{session_texts}
 use Rattle.script_claims.specs.Machines.{meaning}
+use Rattle.script_claims.proofs.OneWord.{asks_session}
 use Rattle.session_claims.proofs.TreeLemmas.{same_trees}
 use Rattle.session_claims.proofs.hold.hold.Goals as goal
 
@@ -14,5 +15,5 @@ pub returns : goal.returns
 returns c =
     subst (λ (trees : Tree → List ℕ → Parameters → ℕ → Tree).
     AnswersScript words.Session session_texts trees meaning source_state sink_state
-    (outside_of c.args.disk c.args.source c.args.sink) c.serve.result)
-    (same_trees c.every_history_is_serial.ensures.law) (c.serve.ensures.performs _ c.in_ok-words.ensures)
+    (outside_of c.args.disk c.args.source c.args.sink) c.top.result)
+    (same_trees c.every_history_is_serial.ensures.law) (c.top.ensures.performs _ (c.in_ok-words.ensures _ asks_session))
