@@ -1,11 +1,10 @@
-//! Tests of dumps as streams, of what is listed of them, and of their differences, over what `dump_streams`,
-//! `dump_views` and `dump_diff` make public.
+//! Tests of listings: dumps as streams, what is listed of them, their differences, the folders of the host of which
+//! they are made, and pictures of images, over what `dump_streams`, `dump_views`, `dump_diff`, `host_folders`,
+//! `host_files` and `slot_map` make public.
 //!
-//! They hold what no clause says: listings, views and scripts that were worked out by hand, and that a call succeeds. A
-//! source or a sink that fails comes once for each crate that hands it on.
-//!
-//! They stand apart from those of folders, since one crate with both would come near the six processor minutes that a
-//! crate may take.
+//! They hold what no clause says and no program on real files shows: listings, views and scripts that were worked out
+//! by hand; that a call succeeds; and a folder, a disk, a source or a sink that fails, once for each crate that hands
+//! that on. What `hstore-tree` does on real folders is tried by `.ci/folders`.
 #![tactic(auto)]
 
 #[cfg(test)]

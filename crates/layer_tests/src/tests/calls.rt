@@ -4,12 +4,12 @@
 //! once more: for each child of a directory that is listed, or each attribute.
 
 use super::counted_pairs::CountedPairs;
-use super::samples::path;
-use script_lines::{Command, MAX_LINE, Reply, parse_command};
+use script_lines::{Command, Reply};
 use std::alloc::Global;
 use std::process::Abort;
 use store_base::{Bytes, Fault};
 use store_model::Version;
+use test_tools::{NEVER, command_of, number, numbers, path_of};
 use tree_commands::{answer, change};
 use tree_upgrade::inline_short_files;
 
@@ -40,22 +40,20 @@ static UPGRADES: &str = "\
     make /d#fill /d/a 0 0#fill /d/c 0 200#fill /d/e 0 300#upgrade|9#upgrade|5";
 
 /// The command that fills a file, by its words behind the first.
-fn fill_of(rt: &impl Abort, words: &str) -> Command {
-    let (to, numbers) = words.split_once(' ').expect(rt, "a path");
-    let (at, count) = numbers.split_once(' ').expect(rt, "two numbers");
-    let at = at.parse::<u32>().expect(rt, "a number");
-    let count = count.parse::<usize>().expect(rt, "a number");
-    let bytes = Bytes::new(&[7; Bytes::MAX_LEN][..count.min(Bytes::MAX_LEN)]);
-    Command::Write(path(rt, to), at, bytes)
+fn fill_of(words: &str) -> Command {
+    let (to, range) = words.split_once(' ').unwrap_or((words, ""));
+    let [at, count]: [u64; 2] = numbers(range);
+    let at = u32::try_from(at).unwrap_or(u32::MAX);
+    let count = (count as usize).min(Bytes::MAX_LEN);
+    Command::Write(path_of(to), at, Bytes::new(&[7; Bytes::MAX_LEN][..count]))
 }
 
-/// The command of a line.
-fn command_of(rt: &impl Abort, line: &str) -> Command {
-    if let Some(words) = line.strip_prefix("fill ") {
-        return fill_of(rt, words);
+/// The command of the line of a row.
+fn read_line(line: &str) -> Command {
+    match line.strip_prefix("fill ") {
+        Some(words) => fill_of(words),
+        None => command_of(line),
     }
-    assert!(rt; line.len() <= MAX_LINE, "{line}");
-    parse_command(line.as_bytes()).ok().expect(rt, "a command")
 }
 
 /// Carries the command out.
@@ -85,12 +83,12 @@ fn calls_of(
     pairs: &mut CountedPairs,
     version: Version,
     line: &str,
-) -> u32 {
+) -> u64 {
     pairs.calls();
     let done = if line == "upgrade" {
         inline_short_files(pairs)
     } else {
-        carry_out(alloc, pairs, version, &command_of(rt, line), &mut Reply::Ok)
+        carry_out(alloc, pairs, version, &read_line(line), &mut Reply::Ok)
     };
     assert!(rt; done.is_ok(), "{line}");
     pairs.calls()
@@ -102,8 +100,8 @@ fn expect_calls(rt: &impl Abort, alloc: Global, version: Version, lines: &str) {
     for row in lines.split('#') {
         let (line, wanted) = row.split_once('|').unwrap_or((row, ""));
         let calls = calls_of(rt, alloc, &mut pairs, version, line);
-        let is_wanted = wanted.is_empty() || wanted.parse::<u32>() == Ok(calls);
-        assert!(rt; is_wanted, "{line}: {calls} calls");
+        let wanted = number(wanted);
+        assert!(rt; wanted == NEVER || wanted == calls, "{line}: {calls} calls");
     }
 }
 

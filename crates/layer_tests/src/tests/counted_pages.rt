@@ -25,11 +25,6 @@ impl CountedPages {
         }
     }
 
-    /// How many pages there are.
-    pub(super) fn len(&self) -> usize {
-        self.pages.len()
-    }
-
     /// How often a page was asked for since this was asked last.
     pub(super) fn lookups(&mut self) -> u64 {
         let lookups = self.lookups;

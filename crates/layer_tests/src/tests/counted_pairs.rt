@@ -11,7 +11,7 @@ use store_base::{Fault, Key, Value};
 #[derive(Drop)]
 pub(super) struct CountedPairs {
     pairs: Vec<(Key, Value)>,
-    calls: u32,
+    calls: u64,
 }
 
 impl CountedPairs {
@@ -23,13 +23,8 @@ impl CountedPairs {
         }
     }
 
-    /// How many pairs there are.
-    pub(super) fn len(&self) -> usize {
-        self.pairs.len()
-    }
-
     /// How many calls were made since this was asked last.
-    pub(super) fn calls(&mut self) -> u32 {
+    pub(super) fn calls(&mut self) -> u64 {
         let calls = self.calls;
         self.calls = 0;
         calls

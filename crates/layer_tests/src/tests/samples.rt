@@ -1,4 +1,4 @@
-//! Keys, labels and paths that tests work with.
+//! Keys and labels that tests work with.
 
 ghost use Rattle.std.specs.Prelude.{◌≡◌, ◌-◌, ◌≤◌, ◌++◌, length};
 ghost use Rattle.store_model.specs.Lists.{zeros};
@@ -7,8 +7,6 @@ ghost use Rattle.store_model.specs.Labels.{IsLabel};
 ghost use Rattle.store_base.specs.Keys.{IsKey};
 
 use node_pages::reveal_key;
-use path_keys::Path;
-use std::process::Abort;
 use store_base::{Key, Label, Lead};
 
 /// The key that begins with these bytes, at most 124, and has zeros behind them.
@@ -45,9 +43,4 @@ pub(super) fn start_label(level: u8, index: u32) -> Label
         lead: Lead::Start,
         index,
     }
-}
-
-/// The path that a text spells.
-pub(super) fn path(rt: &impl Abort, text: &str) -> Path {
-    Path::parse(text.as_bytes()).expect(rt, "a path")
 }

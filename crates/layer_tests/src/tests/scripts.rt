@@ -1,13 +1,14 @@
 //! A reply of many lines, and streams of std that fail in the middle.
 
 use script_lines::{
-    Line, LineReader, MAX_SCRIPT, MemSink, Reply, Sink, Source, StdSink, StdSource, write_reply,
+    Line, LineReader, MAX_SCRIPT, Reply, Sink, Source, StdSink, StdSource, write_reply,
 };
 use std::alloc::Global;
 use std::io;
 use std::io::{Read, Write};
 use std::process::Abort;
 use store_base::Entries;
+use test_tools::sink_of;
 
 /// The reader's next answer: a line, or words in capitals for another one.
 fn answer_of<R: Source>(reader: &mut LineReader<R>) -> &str {
@@ -118,8 +119,7 @@ fn long_listing(rt: &impl Abort, alloc: Global) -> Reply {
 
 /// Whether the reply is written to a sink that fails at this put, and how many bytes it has then.
 fn written(rt: &impl Abort, alloc: Global, reply: &Reply, failing: u64) -> (bool, usize) {
-    let failing = vec![in alloc; failing].expect(rt, "memory");
-    let mut sink = MemSink::new(alloc, 30_000, failing).expect(rt, "memory");
+    let mut sink = sink_of(alloc, &[failing]).expect(rt, "memory");
     (write_reply(&mut sink, reply).is_ok(), sink.written().len())
 }
 

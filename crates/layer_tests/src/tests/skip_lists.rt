@@ -2,20 +2,21 @@
 //! program.
 
 use super::counted_pages::CountedPages;
-use super::samples::path;
 use ordered_pairs::{MapPairs, OrderedPairs};
 use seeded_draw::AnyDraw;
 use skip_levels::SkipList;
 use std::alloc::Global;
 use std::process::Abort;
 use store_base::{DrawKind, Fault, Key, Params, Value};
+use test_tools::{NEVER, number, path_of};
 
-/// The key that a word spells: its path, and the block number 1 where `#1` stands behind it.
-fn key_of(rt: &impl Abort, word: &str) -> Key {
-    match word.strip_suffix("#1") {
-        Some(text) => path(rt, text).key(1),
-        None => path(rt, word).key(0),
-    }
+/// A list over counted pages.
+type CountedList = SkipList<CountedPages, AnyDraw>;
+
+/// The key that a word spells: its path, and the number of a block where one stands behind it, as in `/a@1`.
+fn key_of(word: &str) -> Key {
+    let (path, block) = word.split_once('@').unwrap_or((word, "0"));
+    path_of(path).key(block.parse::<u32>().unwrap_or(0))
 }
 
 /// The value of one byte.
@@ -24,27 +25,28 @@ fn value_of(byte: u8) -> Value {
 }
 
 /// Takes a key out, and once more, where there is nothing left to take. Answers whether that was so.
-fn take(list: &mut SkipList<CountedPages, AnyDraw>, key: &Key) -> Result<bool, Fault> {
+fn take(list: &mut CountedList, key: &Key) -> Result<bool, Fault> {
     let is_taken = list.take(key)? == Some(value_of(1));
     Ok(is_taken && list.take(key)?.is_none())
 }
 
-/// Puts the value 1 under the key of a change such as `+/a`, or takes the key of one such as `-/a` out, and once more
-/// where there is nothing left to take. Answers whether that was done.
-fn change(
-    rt: &impl Abort,
-    list: &mut SkipList<CountedPages, AnyDraw>,
-    word: &str,
-) -> Result<bool, Fault> {
-    match word.strip_prefix('+') {
-        Some(word) => {
-            list.put(key_of(rt, word), value_of(1))?;
-            Ok(true)
-        }
-        None => take(
-            list,
-            &key_of(rt, word.strip_prefix('-').expect(rt, "a change")),
-        ),
+/// Puts the value of this byte under a key. Answers that it is done.
+fn put(list: &mut CountedList, key: Key, byte: u8) -> Result<bool, Fault> {
+    list.put(key, value_of(byte))?;
+    Ok(true)
+}
+
+/// Does what a word of a row says, and answers whether it comes to what is wanted.
+fn is_done(list: &mut CountedList, word: &str) -> Result<bool, Fault> {
+    let (what, key) = word.split_once(' ').unwrap_or(("", word));
+    let key = key_of(key);
+    match what {
+        "put1" => put(list, key, 1),
+        "put2" => put(list, key, 2),
+        "take" => take(list, &key),
+        "get1" => Ok(list.get(&key)? == Some(value_of(1))),
+        "get2" => Ok(list.get(&key)? == Some(value_of(2))),
+        _ => Ok(list.get(&key)?.is_none()),
     }
 }
 
@@ -53,144 +55,97 @@ fn ruler(rt: &impl Abort) -> AnyDraw {
     AnyDraw::new(&Params::new(8, 3, DrawKind::Ruler, [0; 32]).expect(rt, "parameters"))
 }
 
-/// The pages after this change of a list.
-fn changed(rt: &impl Abort, alloc: Global, pages: CountedPages, word: &str) -> CountedPages {
+/// The pages after these words on a list over them, which knows none of them at first.
+fn changed(rt: &impl Abort, alloc: Global, pages: CountedPages, words: &str) -> CountedPages {
     let mut list = SkipList::new(alloc, pages, ruler(rt));
-    assert!(rt; change(rt, &mut list, word) == Ok(true), "{word}");
+    for word in words.split(',') {
+        assert!(rt; is_done(&mut list, word) == Ok(true), "{words}");
+    }
     list.into_pages()
 }
 
-/// Changes of a list, each of the one before, and how many pages each puts and drops.
+/// Changes of a list. Rows are parted by `#`, each on the pages of the one before. A row has the words for one list,
+/// which knows no page at first; how many pages these put and drop; and how many they ask for. A count that is left out
+/// is not looked at. The words, parted by `,`, put the value 1 or 2 under a key, take a key out, and once more, where
+/// there is nothing left to take, or find a value or, with `none`, no value.
 static CHANGES: &str = "\
-    +/aaU:2 +/UU:4 +/U:2 +/bU:2 +/aU:2 +/b:1 +/UUU:4 +/a:1 +/Ua:3 +/ab:1 +/aUb:2 +/Ub:3 +/aa:1 +/abU:3 +/Uab:2 \
-    +/aaU#1:1 +/a#1:1 +/Uab#1:1 -/bU:2 -/U:2 -/aUb:3 -/UU:3 -/abU:3 -/UUU:4 -/Uab:3 -/aa:1 -/b:1 -/a:1";
+    put1 /aaU|2#put1 /UU|4#put1 /U|2#put1 /bU|2#put1 /aU|2#put1 /b|1#put1 /UUU|4#put1 /a|1#put1 /Ua|3#put1 /ab|1#\
+    put1 /aUb|2#put1 /Ub|3#put1 /aa|1#put1 /abU|3#put1 /Uab|2#put1 /aaU@1|1#put1 /a@1|1#put1 /Uab@1|1#take /bU|2#\
+    take /U|2#take /aUb|3#take /UU|3#take /abU|3#take /UUU|4#take /Uab|3#take /aa|1#take /b|1#take /a|1";
 
-#[test]
-fn pages_that_each_change_puts_and_drops(rt: HostRuntime) {
-    let mut pages = CountedPages::new(rt.alloc());
-    for row in CHANGES.split_whitespace() {
-        let (word, count) = row.split_once(':').expect(&rt, "a count");
-        pages = changed(&rt, rt.alloc(), pages, word);
-        assert!(rt; count.parse::<u64>() == Ok(pages.changes()), "{word}");
-    }
+/// Searches. Of each of the three groups of the path its page is asked for, which has room, so that none is asked for
+/// behind it. A put asks for the same. The lowest group is known then, so that the search behind it asks for the page
+/// of that one alone: 3 and 1, and 3 and 3 were it forgotten.
+static SEARCHES: &str = "\
+    put1 /UU#put1 /Ua#put1 /b#none /A|0|3#get1 /UU|0|3#get1 /Ua|0|3#get1 /b|0|3#\
+    put2 /UU,get2 /UU|1|4#put2 /Ua,get2 /Ua|1|4#put2 /b,get2 /b|1|4";
+
+/// Searches in a known group, of 25 blocks in three pages. The way down asks for a page of each of two levels above,
+/// and each search for the pages of the group up to that of its block: the first page has 10, and so has the second.
+static BLOCKS: &str = "\
+    put1 /a@1,put1 /a@2,put1 /a@3,put1 /a@4,put1 /a@5,put1 /a@6,put1 /a@7,put1 /a@8,put1 /a@9,put1 /a@10,\
+    put1 /a@11,put1 /a@12,put1 /a@13,put1 /a@14,put1 /a@15,put1 /a@16,put1 /a@17,put1 /a@18,put1 /a@19,\
+    put1 /a@20,put1 /a@21,put1 /a@22,put1 /a@23,put1 /a@24,put1 /a@25#\
+    get1 /a@25|0|5#get1 /a@25,get1 /a@24|0|8#get1 /a@25,get1 /a@24,get1 /a@1|0|9#\
+    get1 /a@1,get1 /a@2,get1 /a@15,get1 /a@16|0|8";
+
+/// Whether a count is the one that a row says, if it says one.
+fn is_so(count: u64, wanted: &str) -> bool {
+    let wanted = number(wanted);
+    wanted == NEVER || count == wanted
 }
 
-/// The list of the directories /UU, /Ua and /b, whose pages were not asked for yet.
-fn list_of_three(rt: &impl Abort, alloc: Global) -> SkipList<CountedPages, AnyDraw> {
+/// Looks whether a row counts so as it says, and answers the pages behind it.
+fn counted(rt: &impl Abort, alloc: Global, pages: CountedPages, row: &str) -> CountedPages {
+    let (words, counts) = row.split_once('|').unwrap_or((row, ""));
+    let (changes, lookups) = counts.split_once('|').unwrap_or((counts, ""));
+    let mut pages = changed(rt, alloc, pages, words);
+    assert!(rt;
+        is_so(pages.changes(), changes) & is_so(pages.lookups(), lookups),
+        "{row}"
+    );
+    pages
+}
+
+/// Looks whether each row of a table counts so as it says.
+fn expect_counts(rt: &impl Abort, alloc: Global, table: &str) {
     let mut pages = CountedPages::new(alloc);
-    for word in ["+/UU", "+/Ua", "+/b"] {
-        pages = changed(rt, alloc, pages, word);
+    for row in table.split('#') {
+        pages = counted(rt, alloc, pages, row);
     }
-    pages.lookups();
-    pages.changes();
-    SkipList::new(alloc, pages, ruler(rt))
-}
-
-/// The columns are: a key, by which the row is named; and whether it is there.
-static SEARCHES: [(&str, bool); 4] = [("/A", false), ("/UU", true), ("/Ua", true), ("/b", true)];
-
-/// Whether the key is found or not, as is told, and three pages are asked for.
-fn is_found_in_three(rt: &impl Abort, alloc: Global, word: &str, is_here: bool) -> bool {
-    let mut list = list_of_three(rt, alloc);
-    let found = list.get(&key_of(rt, word)).expect(rt, "memory");
-    found.is_some() == is_here && list.into_pages().lookups() == 3
 }
 
 #[test]
-fn pages_of_a_search(rt: HostRuntime) {
-    // Of each of the three groups of the path its page, which has room, so that none is asked for behind it.
-    for (word, is_here) in &SEARCHES {
-        assert!(rt;
-            is_found_in_three(&rt, rt.alloc(), *word, *is_here),
-            "{word}"
-        );
-    }
-}
-
-/// Keys that are there.
-static KEPT: [&str; 3] = ["/UU", "/Ua", "/b"];
-
-/// Puts the value 2 under the key, and answers whether it is found then.
-fn overwrite(rt: &impl Abort, list: &mut SkipList<CountedPages, AnyDraw>, word: &str) -> bool {
-    let key = key_of(rt, word);
-    list.put(key, value_of(2)).expect(rt, "memory");
-    list.get(&key) == Ok(Some(value_of(2)))
-}
-
-/// Whether the key is overwritten by one change of a page, with four pages asked for.
-fn is_overwritten_by_four(rt: &impl Abort, alloc: Global, word: &str) -> bool {
-    let mut list = list_of_three(rt, alloc);
-    let is_there = overwrite(rt, &mut list, word);
-    let mut pages = list.into_pages();
-    is_there && pages.changes() == 1 && pages.lookups() == 4
-}
-
-#[test]
-fn value_that_is_overwritten(rt: HostRuntime) {
-    // The put asks for the page of each of the three groups of the path. The lowest group is known then, so that the
-    // search behind it asks for the page of that one alone: 3 and 1, and 3 and 3 were it forgotten.
-    for word in &KEPT {
-        assert!(rt; is_overwritten_by_four(&rt, rt.alloc(), *word), "{word}");
-    }
-}
-
-/// The list of the first 25 blocks of /a, three pages of one group, which were not asked for yet.
-fn list_of_blocks(rt: &impl Abort, alloc: Global) -> SkipList<CountedPages, AnyDraw> {
-    let mut list = SkipList::new(alloc, CountedPages::new(alloc), ruler(rt));
-    for block in 1..26 {
-        list.put(path(rt, "/a").key(block), value_of(1))
-            .expect(rt, "memory");
-    }
-    let mut pages = list.into_pages();
-    pages.lookups();
-    SkipList::new(alloc, pages, ruler(rt))
-}
-
-/// How many pages are asked for where these blocks are found one after another.
-fn looks_for(rt: &impl Abort, alloc: Global, blocks: &[u32]) -> u64 {
-    let mut list = list_of_blocks(rt, alloc);
-    for block in blocks {
-        let found = list.get(&path(rt, "/a").key(*block));
-        assert!(rt; found == Ok(Some(value_of(1))));
-    }
-    list.into_pages().lookups()
-}
-
-#[test]
-fn searches_in_a_known_group(rt: HostRuntime) {
-    // The way down asks for a page of each of two levels above, and each search for the pages of the group up to that
-    // of its block: of the 25 blocks the first page has 10, and so has the second.
-    let alloc = rt.alloc();
-    assert!(rt; looks_for(&rt, alloc, &[25]) == 5);
-    assert!(rt; looks_for(&rt, alloc, &[25, 24]) == 8);
-    assert!(rt; looks_for(&rt, alloc, &[25, 24, 1]) == 9);
-    assert!(rt; looks_for(&rt, alloc, &[1, 2, 15, 16]) == 8);
+fn pages_that_a_list_puts_drops_and_asks_for(rt: HostRuntime) {
+    expect_counts(&rt, rt.alloc(), CHANGES);
+    expect_counts(&rt, rt.alloc(), SEARCHES);
+    expect_counts(&rt, rt.alloc(), BLOCKS);
 }
 
 /// The pairs of /a with the value 1 and of /b with the value 2.
-fn two_pairs(rt: &impl Abort, alloc: Global) -> Result<MapPairs, Fault> {
+fn two_pairs(alloc: Global) -> Result<MapPairs, Fault> {
     let mut pairs = MapPairs::new(alloc)?;
-    pairs.put(key_of(rt, "/b"), value_of(2))?;
-    pairs.put(key_of(rt, "/a"), value_of(1))?;
+    pairs.put(key_of("/b"), value_of(2))?;
+    pairs.put(key_of("/a"), value_of(1))?;
     Ok(pairs)
 }
 
 /// Whether the key has this value, of one byte.
-fn has(rt: &impl Abort, pairs: &mut MapPairs, word: &str, byte: u8) -> bool {
-    pairs.get(&key_of(rt, word)) == Ok(Some(value_of(byte)))
+fn has(pairs: &mut MapPairs, word: &str, byte: u8) -> bool {
+    pairs.get(&key_of(word)) == Ok(Some(value_of(byte)))
 }
 
 /// Whether the key can be taken out, once.
-fn is_taken(rt: &impl Abort, pairs: &mut MapPairs, word: &str) -> bool {
-    let key = key_of(rt, word);
+fn is_taken(pairs: &mut MapPairs, word: &str) -> bool {
+    let key = key_of(word);
     let is_taken = pairs.take(&key) == Ok(Some(value_of(1)));
     is_taken && pairs.take(&key) == Ok(None)
 }
 
 /// Whether the first pair behind /aa is that of /b.
-fn is_next(rt: &impl Abort, pairs: &mut MapPairs) -> bool {
-    let next = pairs.next_from(&key_of(rt, "/aa"));
-    next == Ok(Some((key_of(rt, "/b"), value_of(2))))
+fn is_next(pairs: &mut MapPairs) -> bool {
+    let next = pairs.next_from(&key_of("/aa"));
+    next == Ok(Some((key_of("/b"), value_of(2))))
 }
 
 /// A list of the pairs of this one, which are taken out of it by themselves.
@@ -200,9 +155,9 @@ fn rebuilt(rt: &impl Abort, list: &MapPairs) -> MapPairs {
 
 #[test]
 fn list_in_memory_and_a_copy(rt: HostRuntime) {
-    let mut pairs = two_pairs(&rt, rt.alloc()).expect(&rt, "memory");
+    let mut pairs = two_pairs(rt.alloc()).expect(&rt, "memory");
     let mut other = pairs.copy().expect(&rt, "memory");
-    assert!(rt; is_taken(&rt, &mut other, "/a"));
-    assert!(rt; has(&rt, &mut pairs, "/a", 1));
-    assert!(rt; is_next(&rt, &mut rebuilt(&rt, &pairs)));
+    assert!(rt; is_taken(&mut other, "/a"));
+    assert!(rt; has(&mut pairs, "/a", 1));
+    assert!(rt; is_next(&mut rebuilt(&rt, &pairs)));
 }

@@ -14,6 +14,7 @@ use std::marker::Brand;
 use std::process::Abort;
 use std::sync::ledger::{Blank, Ledger};
 use store_base::{DrawKind, Fault, Label, Params, Value};
+use test_tools::number;
 
 /// Tables, each with how many free slots it begins with, and then its calls, with how many reads and writes were made
 /// in all when each ends. A page is named by the key that leads it, on level 0; `-` is the first one of level 1. The
@@ -135,10 +136,7 @@ fn expect_count(rt: &impl Abort, slots: &mut MemSlots, draw: &RulerDraw, row: &s
     let (word, words) = call.split_once(' ').unwrap_or((call, ""));
     let (first, second) = words.split_once(' ').unwrap_or((words, ""));
     let is_made = make(slots, draw, word, first, second).is_ok();
-    assert!(rt;
-        is_made && wanted.parse::<u64>() == Ok(slots.calls()),
-        "{row}"
-    );
+    assert!(rt; is_made && number(wanted) == slots.calls(), "{row}");
 }
 
 /// Makes the calls of a table on its free slots, and looks how many reads and writes there were behind each.

@@ -1,7 +1,7 @@
 //! Pairs of listings written by hand, with their differences and the very script from one to the other; and streams and
 //! a sink that fail.
 
-use super::support::{NEVER, sink_of, stream_of};
+use super::support::stream_of;
 use dump_diff::{
     AdditionTaker, CompareFault, Differences, compare, write_differences, write_removals,
 };
@@ -9,6 +9,7 @@ use dump_streams::{DrainFault, StreamFault, TakerFault, drain};
 use script_lines::{MemSink, SinkFault};
 use std::alloc::Global;
 use std::process::Abort;
+use test_tools::{NEVER, fields, sink_of};
 
 /// How many bytes a source gives at a time.
 const PIECE: usize = 10;
@@ -28,14 +29,14 @@ fn found_in(rt: &impl Abort, alloc: Global, first: &[u8], second: &[u8]) -> Diff
 
 /// Whether the differences are told by these lines.
 fn are_told(rt: &impl Abort, alloc: Global, found: &Differences, lines: &[u8]) -> bool {
-    let mut sink = sink_of(rt, alloc, NEVER);
+    let mut sink = sink_of(alloc, &[]).expect(rt, "memory");
     let is_told = write_differences(found, &mut sink).is_ok();
     is_told & (sink.written() == lines) & (found.is_empty() == lines.is_empty())
 }
 
 /// A sink to which the removals are written.
 fn removed(rt: &impl Abort, alloc: Global, found: &Differences) -> MemSink {
-    let mut sink = sink_of(rt, alloc, NEVER);
+    let mut sink = sink_of(alloc, &[]).expect(rt, "memory");
     write_removals(found, &mut sink).ok().expect(rt, "a sink");
     sink
 }
@@ -86,20 +87,9 @@ const PAIRS: &str = "make /a\nwrite /a-b 0 61\n|\
     M /a\n|\
     cut /a 0\nunset /a k\nwrite /a 0 62\nset /a k 02\n";
 
-/// The fields of a row, and no text for each that it does not have.
-fn fields(row: &str) -> [&str; 4] {
-    let mut fields = [""; 4];
-    for (at, field) in row.split('|').enumerate() {
-        if at < 4 {
-            fields[at] = field;
-        }
-    }
-    fields
-}
-
 /// Looks whether two listings differ so as a row says.
 fn expect_row(rt: &impl Abort, alloc: Global, row: &str) {
-    let [first, second, lines, script] = fields(row);
+    let [first, second, lines, script, ..] = fields(row);
     let is_so = differ_so(
         rt,
         alloc,
@@ -135,14 +125,14 @@ fn a_stream_fails_midway(rt: HostRuntime) {
 
 /// Whether the differences are not told, nor removals written, where the second put fails.
 fn fail_to_be_written(rt: &impl Abort, alloc: Global, found: &Differences) -> bool {
-    let told = write_differences(found, &mut sink_of(rt, alloc, 1));
-    let removed = write_removals(found, &mut sink_of(rt, alloc, 1));
+    let told = write_differences(found, &mut sink_of(alloc, &[1]).expect(rt, "memory"));
+    let removed = write_removals(found, &mut sink_of(alloc, &[1]).expect(rt, "memory"));
     (told == Err(SinkFault)) & (removed == Err(SinkFault))
 }
 
 /// How additions end where the first put fails.
 fn additions_end(rt: &impl Abort, alloc: Global, found: Differences) -> Result<(), DrainFault> {
-    let mut taker = AdditionTaker::new(found, sink_of(rt, alloc, 0));
+    let mut taker = AdditionTaker::new(found, sink_of(alloc, &[0]).expect(rt, "memory"));
     let mut stream = stream_of(rt, alloc, b"make /z\n", PIECE, NEVER);
     drain(&mut stream, &mut taker)
 }

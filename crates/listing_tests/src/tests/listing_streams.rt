@@ -1,13 +1,15 @@
 //! Listings written by hand, in pieces of several sizes, good and bad, and sources and sinks that fail.
 
-use super::support::{NEVER, long_listing, sink_of, stream_of};
+use super::support::{long_listing, stream_of};
 use dump_streams::{
     DrainFault, DumpStream, GatheredSink, LineTaker, ListingSource, ListingStream, NoTaker,
     StreamFault, TakerFault, drain,
 };
-use script_lines::{Command, MemSink, MemSource, Sink, Source};
+use script_lines::{MemSink, MemSource, Sink, Source};
 use std::alloc::Global;
 use std::process::Abort;
+use test_tools::{NEVER, number, sink_of};
+use tree_listing::DumpStep;
 
 /// A listing with attributes, as `dump` writes it.
 static LISTING: &[u8] =
@@ -17,10 +19,10 @@ static LISTING: &[u8] =
 static LOOSE: &[u8] =
     b"\nmake /a\nset /a k 616263\nset /a l -\n\n\nwrite /a/b 0 00Ff\nset /a/b k 01\nwrite /c 0 -";
 
-/// Whether the commands of the text are those of a dump, which is written so.
+/// Whether the steps of the text are those of a dump, which is written so.
 fn is_written(rt: &impl Abort, alloc: Global, text: &[u8], piece: usize, written: &[u8]) -> bool {
     let mut stream = stream_of(rt, alloc, text, piece, NEVER);
-    let mut taker = LineTaker::new(sink_of(rt, alloc, NEVER));
+    let mut taker = LineTaker::new(sink_of(alloc, &[]).expect(rt, "memory"));
     let drained = drain(&mut stream, &mut taker);
     drained == Ok(()) && taker.into_sink().written() == written
 }
@@ -60,9 +62,9 @@ const NO_DUMPS: &str = "2|make /a\nmake /a/..\n#\
 
 /// Looks whether the line of that number is refused.
 fn expect_refused(rt: &impl Abort, alloc: Global, row: &str) {
-    let (number, text) = row.split_once('|').expect(rt, "two fields");
+    let (wanted, text) = row.split_once('|').expect(rt, "two fields");
     let line = refused_line(rt, alloc, text.as_bytes());
-    assert!(rt; number.parse::<u64>() == Ok(line), "line {line} of {row}");
+    assert!(rt; number(wanted) == line, "line {line} of {row}");
 }
 
 #[test]
@@ -74,8 +76,7 @@ fn lines_that_no_dump_has_are_refused(rt: HostRuntime) {
 
 /// What a stream answers next.
 fn next_of<S: DumpStream>(stream: &mut S) -> Result<bool, StreamFault> {
-    let mut command = Command::Space;
-    stream.next(&mut command)
+    stream.next(&mut DumpStep::new())
 }
 
 /// How many bytes a source gives next, of a hundred at most.
@@ -97,7 +98,7 @@ fn a_source_that_fails_ends_the_stream(rt: HostRuntime) {
 #[test]
 fn a_taker_that_fails_ends_the_draining(rt: HostRuntime) {
     let mut stream = stream_of(&rt, rt.alloc(), LISTING, 4096, NEVER);
-    let mut taker = LineTaker::new(sink_of(&rt, rt.alloc(), 2));
+    let mut taker = LineTaker::new(sink_of(rt.alloc(), &[2]).expect(&rt, "memory"));
     let drained = drain(&mut stream, &mut taker);
     assert!(rt; drained == Err(DrainFault::Taker(TakerFault::Failed)));
     assert!(rt; taker.into_sink().written() == b"make /a\nset /a k 616263\n".as_slice());
@@ -105,7 +106,7 @@ fn a_taker_that_fails_ends_the_draining(rt: HostRuntime) {
 
 /// A sink that gathers, above one whose put of that number fails.
 fn gathered_of(rt: &impl Abort, alloc: Global, failing: u64) -> GatheredSink<MemSink> {
-    GatheredSink::new(alloc, sink_of(rt, alloc, failing))
+    GatheredSink::new(alloc, sink_of(alloc, &[failing]).expect(rt, "memory"))
         .ok()
         .expect(rt, "memory")
 }

@@ -1,12 +1,12 @@
 //! The times of a listing at the ends of what has one, and a sink that fails.
 
-use super::support::{NEVER, sink_of};
 use dump_streams::{Taker, TakerFault};
 use dump_views::{ContentTaker, TreeLister};
-use path_keys::Path;
-use script_lines::{Command, MAX_LINE, parse_command};
+use script_lines::MAX_LINE;
 use std::alloc::Global;
 use std::process::Abort;
+use test_tools::{path_of, sink_of};
+use tree_listing::{DumpStep, read_step};
 
 /// A file of three bytes, in two pieces, behind another one.
 const DUMP: &str = "write /a 0 7a7a\nwrite /b 0 6162\nset /b mtime 30\nwrite /b 2048 63\n";
@@ -17,17 +17,13 @@ const TIMES: &str = "write /f 0 00\nset /f mtime 2d31\n|/:\n-        1 f\n#\
     write /f 0 -\nset /f mtime 323533343032333030373939\n|/:\n-        0 9999-12-31 23:59:59 f\n#\
     write /f 0 -\nset /f mtime 323533343032333030383030\n|/:\n-        0                     f\n";
 
-/// The command that a line spells.
-fn command(rt: &impl Abort, line: &str) -> Command {
-    let line = line.as_bytes();
-    assert!(rt; line.len() <= MAX_LINE, "a line");
-    parse_command(line).ok().expect(rt, "a command")
-}
-
-/// Has the taker take the commands of these lines; the fault with which it ends, if it does.
+/// Has the taker take the steps of these lines; the fault with which it ends, if it does.
 fn fault_of<T: Taker>(rt: &impl Abort, taker: &mut T, lines: &str) -> Option<TakerFault> {
+    let mut step = DumpStep::new();
     for line in lines.lines() {
-        if let Err(fault) = taker.take(&command(rt, line)) {
+        assert!(rt; line.len() <= MAX_LINE, "a line");
+        assert!(rt; read_step(line.as_bytes(), &mut step), "a step");
+        if let Err(fault) = taker.take(&step) {
             return Some(fault);
         }
     }
@@ -38,7 +34,7 @@ fn fault_of<T: Taker>(rt: &impl Abort, taker: &mut T, lines: &str) -> Option<Tak
 fn lists(rt: &impl Abort, alloc: Global, lines: &str, text: &[u8]) -> bool {
     let mut lister = TreeLister::new(alloc);
     assert!(rt; fault_of(rt, &mut lister, lines).is_none(), "no dump");
-    let mut sink = sink_of(rt, alloc, NEVER);
+    let mut sink = sink_of(alloc, &[]).expect(rt, "memory");
     lister.write_list(alloc, &mut sink).expect(rt, "room");
     sink.written() == text
 }
@@ -53,8 +49,8 @@ fn times_go_to_the_year_9999(rt: HostRuntime) {
 
 #[test]
 fn a_put_that_fails_is_told(rt: HostRuntime) {
-    let path = Path::parse(b"/b").expect(&rt, "a path");
-    let mut taker = ContentTaker::new(path, sink_of(&rt, rt.alloc(), 1));
+    let sink = sink_of(rt.alloc(), &[1]).expect(&rt, "memory");
+    let mut taker = ContentTaker::new(path_of("/b"), sink);
     assert!(rt; fault_of(&rt, &mut taker, DUMP) == Some(TakerFault::Failed));
     assert!(rt; taker.into_sink().written() == b"ab".as_slice());
 }

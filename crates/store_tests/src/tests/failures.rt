@@ -1,8 +1,9 @@
 //! Calls of which one take or one put fails, or each call of the disk from one on.
 
-use super::support::{Machine, NEVER, Outside, fields, numbers};
+use super::support::{Machine, Outside};
 use disk_model::StopChoice;
 use std::process::Abort;
+use test_tools::{NEVER, fields, numbers};
 
 /// The words for the image of the empty tree with one slot.
 const LEAST: &str = "format 1 1 ruler zeros";
@@ -83,7 +84,7 @@ fn expect_row(rt: &impl Abort, machine: &mut Machine, row: [&str; 8]) {
     machine.make(rt, LEAST, row[5]);
     machine.keep_first(rt);
     let tree = machine.copy(rt);
-    let [call, piece, take, put, status, done] = numbers(row[3]);
+    let [call, piece, take, put, status, done]: [u64; 6] = numbers(row[3]);
     machine.make(rt, LEAST, "");
     machine.call_in(rt, row[1], row[2], &outside_of(call, piece, take, put));
     expect_end(rt, machine, status, done, row);

@@ -1,7 +1,7 @@
 //! The calls of a store, and of `session_core`, over a disk of which one call fails: whether the store or a session
 //! lives on, or the store is stopped.
 
-use super::support::{MOST_CALLS, Machine, disk_of};
+use super::support::{MOST_CALLS, Machine, failing_disk};
 use disk_model::{FailingDisk, MemDisk};
 use script_lines::{Change, Question, Reply, SessionLine, parse_session};
 use session_core::{Committed, SessionFault, Sessions, every_history_is_serial};
@@ -132,7 +132,7 @@ fn failed_at(
     call: u64,
 ) -> Failed {
     let [found, made] = images;
-    let Ok(store) = Store::attach(alloc, disk_of(rt, alloc, found, call, None)) else {
+    let Ok(store) = Store::attach(alloc, failing_disk(rt, alloc, found, call, None)) else {
         return Failed::Attach;
     };
     let (failed, disk) = if is_alone {

@@ -1,9 +1,10 @@
 //! Calls whose disk fails at each of its calls in turn, with a crash behind it or without, and what the next call finds
 //! and makes of what is left.
 
-use super::support::{CALM, MOST_CALLS, Machine, NEVER, Outside, STOPS, fields, stopped_at};
+use super::support::{CALM, MOST_CALLS, Machine, Outside, STOPS, stopped_at};
 use disk_model::StopChoice;
 use std::process::Abort;
+use test_tools::{NEVER, fields};
 
 /// The columns are:
 ///

@@ -1,32 +1,21 @@
-//! What the tests share: a machine in memory, on which the program is called, and the fields of a row of a table.
+//! What the tests share: a machine in memory, on which the program is called.
 //!
-//! Tables are texts, each with rows parted by `#` and fields parted by `|`: a text is a constant by itself, and the
-//! proof of a function takes long for many constants. The first field of a row is its name, which stands once in its
-//! table; what the others are is said above the table. A failure names the row.
+//! The first field of a table's row is its name, which stands once in its table; what the others are is said above the
+//! table. A failure names the row.
 //!
 //! What a call comes to stays in the machine, so that nothing is handed out that owns memory.
 
 use disk_model::{FailingDisk, MemDisk, StopChoice};
-use script_lines::{MemSink, MemSource};
 use std::alloc::Global;
 use std::process::Abort;
 use store_top::{Wanted, Words, top, top_pair, wanted_file};
+use test_tools::{NEVER, disk_of, number, sink_of, source_of};
 
 /// A seed of zeros, which the word `zeros` stands for.
 const ZEROS: &str = "0000000000000000000000000000000000000000000000000000000000000000";
 
-/// What never comes: the number of a call that is to fail, where none is.
-pub const NEVER: u64 = u64::MAX;
-
 /// More calls of a disk than any call here makes.
 pub const MOST_CALLS: u64 = 400;
-
-/// The room of a disk's record, in bytes, beside three times the length of its image: a write takes 16 bytes and those
-/// that it writes, a sync 16.
-const DISK_ROOM: usize = 131_072;
-
-/// The room of a sink, in bytes.
-const SINK_ROOM: usize = 4096;
 
 /// The ways in which a call of the disk fails: by itself, or with all behind it. Then a crash comes, which makes this
 /// of bytes that are not durable.
@@ -106,34 +95,15 @@ fn bytes_of(rt: &impl Abort, alloc: Global, bytes: &[u8]) -> Vec<u8> {
     bytes.to_vec(alloc).expect(rt, "memory")
 }
 
-/// The number by itself.
-fn listed(rt: &impl Abort, alloc: Global, number: u64) -> Vec<u64> {
-    [number].to_vec(alloc).expect(rt, "memory")
-}
-
 /// A disk with these bytes, of which this call fails in this way.
-pub fn disk_of(
+pub fn failing_disk(
     rt: &impl Abort,
     alloc: Global,
     bytes: &[u8],
     call: u64,
     crash: Option<StopChoice>,
 ) -> FailingDisk<MemDisk> {
-    let room = bytes.len().saturating_mul(3).saturating_add(DISK_ROOM);
-    let disk = MemDisk::new(alloc, bytes, room).expect(rt, "memory");
-    FailingDisk::new(disk, listed(rt, alloc, call), crash.map(|_| call))
-}
-
-/// A source that gives the input.
-fn source_of(rt: &impl Abort, alloc: Global, input: &str, outside: &Outside) -> MemSource {
-    let pieces = [outside.piece as usize].to_vec(alloc).expect(rt, "memory");
-    let input = bytes_of(rt, alloc, input.as_bytes());
-    MemSource::new(input, pieces, listed(rt, alloc, outside.take))
-}
-
-/// A sink to which nothing was written.
-fn sink_of(rt: &impl Abort, alloc: Global, put: u64) -> MemSink {
-    MemSink::new(alloc, SINK_ROOM, listed(rt, alloc, put)).expect(rt, "memory")
+    disk_of(alloc, bytes, &[call], crash.map(|_| call)).expect(rt, "memory")
 }
 
 impl Machine {
@@ -186,9 +156,11 @@ impl Machine {
     /// A call on one image.
     fn call_alone(&mut self, rt: &impl Abort, words: &str, input: &str, outside: &Outside) {
         let alloc = self.alloc;
-        let disk = disk_of(rt, alloc, &self.image, outside.call, outside.crash);
-        let source = source_of(rt, alloc, input, outside);
-        let sink = sink_of(rt, alloc, outside.put);
+        let disk = failing_disk(rt, alloc, &self.image, outside.call, outside.crash);
+        let pieces = [outside.piece as usize];
+        let source = source_of(alloc, input.as_bytes(), &pieces, &[outside.take]);
+        let source = source.expect(rt, "memory");
+        let sink = sink_of(alloc, &[outside.put]).expect(rt, "memory");
         let left = top(alloc, &words_of(rt, alloc, words), disk, source, sink);
         self.ended.status = left.status.code();
         self.ended.done = left.done;
@@ -199,9 +171,10 @@ impl Machine {
     /// A mirror of the first image onto this one. Looks whether the first one was only read.
     fn mirror(&mut self, rt: &impl Abort, outside: &Outside) {
         let alloc = self.alloc;
-        let from = disk_of(rt, alloc, &self.first, outside.first, None);
-        let to = disk_of(rt, alloc, &self.image, outside.call, outside.crash);
-        let left = top_pair(alloc, from, to, sink_of(rt, alloc, outside.put));
+        let from = failing_disk(rt, alloc, &self.first, outside.first, None);
+        let to = failing_disk(rt, alloc, &self.image, outside.call, outside.crash);
+        let sink = sink_of(alloc, &[outside.put]).expect(rt, "memory");
+        let left = top_pair(alloc, from, to, sink);
         self.ended.status = left.status.code();
         self.ended.done = left.done;
         self.written = bytes_of(rt, alloc, left.sink.written());
@@ -257,29 +230,4 @@ impl Machine {
             "the image of {what}, {row}"
         );
     }
-}
-
-/// The number that a text spells, and where it spells none what never comes.
-fn number(text: &str) -> u64 {
-    text.parse::<u64>().unwrap_or(NEVER)
-}
-
-/// The numbers that a text spells, parted by blanks, with what never comes for each that it does not have.
-pub fn numbers(text: &str) -> [u64; 6] {
-    let mut numbers = [NEVER; 6];
-    for (place, word) in numbers.iter_mut().zip(text.split_whitespace()) {
-        *place = number(word);
-    }
-    numbers
-}
-
-/// The fields of a row, and no text for each that it does not have.
-pub fn fields(row: &str) -> [&str; 8] {
-    let mut fields = [""; 8];
-    for (at, field) in row.split('|').enumerate() {
-        if at < 8 {
-            fields[at] = field;
-        }
-    }
-    fields
 }
