@@ -1,0 +1,2 @@
+pub mod GroupReads
+pub mod Streams

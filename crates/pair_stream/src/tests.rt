@@ -1,0 +1,144 @@
+//! Lists of 300 pairs, read to their end. The counts of lookups were worked out by hand.
+
+ghost use Rattle.std.specs.Prelude.{◌≤◌, ◌<◌, length};
+ghost use Rattle.store_model.specs.Parameters.{height_limit};
+
+use crate::PairStream;
+use node_pages::{Cell, Page, Pages};
+use ordered_pairs::OrderedPairs;
+use seeded_draw::AnyDraw;
+use skip_levels::SkipList;
+use std::alloc::Global;
+use std::process::Abort;
+use store_base::{DrawKind, Fault, Key, Label, Params, Value};
+
+/// Pages in memory that count how often one is asked for. Contracts know nothing of them, so that every call may be
+/// made on a list over them.
+#[derive(Drop)]
+struct CountedPages {
+    pages: Vec<Page>,
+    lookups: u64,
+}
+
+impl CountedPages {
+    /// The place of the page of a label, if there is one.
+    fn place(&self, label: &Label) -> Option<usize> {
+        self.pages.iter().position(|page| page.label() == *label)
+    }
+}
+
+impl Pages for CountedPages {
+    ghost use Rattle.std.specs.FinMap as maps;
+
+    ghost state = { λ p. record {
+      is_observable = ⊥;
+      pages = maps.empty;
+      faults = 0;
+      lookups = p.lookups;
+      at_hand = λ _. Unit {0};
+    } };
+
+    ghost follows = { λ _ _. Unit {0} };
+
+    ghost valid = { λ p seen. absurd seen };
+
+    ghost follows_refl = { λ _. tt };
+
+    ghost follows_trans = { λ _ _ _ _ _. tt };
+
+    fn get(&mut self, label: &Label) -> Result<Option<Page>, Fault> {
+        Ok(self.look(label)?.copied())
+    }
+
+    fn look(&mut self, label: &Label) -> Result<Option<&Page>, Fault> {
+        self.lookups = self.lookups.saturating_add(1);
+        match self.place(label) {
+            Some(at) => Ok(self.pages.get(at)),
+            None => Ok(None),
+        }
+    }
+
+    fn put(&mut self, page: Page) -> Result<(), Fault> {
+        let place = self.place(&page.label());
+        match place {
+            Some(at) if at < self.pages.len() => self.pages[at] = page,
+            _ => self.pages.push(page)?,
+        }
+        Ok(())
+    }
+
+    fn insert_cell(&mut self, label: &Label, at: u32, cell: &Cell) -> Result<(), Fault> {
+        match self.place(label) {
+            Some(place) if place < self.pages.len() && self.pages[place].insert(at, cell) => Ok(()),
+            _ => Err(Fault::NoMemory),
+        }
+    }
+
+    fn drop_page(&mut self, label: &Label) -> Result<(), Fault> {
+        if let Some(at) = self.place(label) {
+            if at < self.pages.len() {
+                self.pages.remove(at);
+            }
+        }
+        Ok(())
+    }
+}
+
+/// The key of a number below 300. Under `ruler` it stands on level 1 where 7 divides the number, and on level 2 where
+/// 49 does.
+fn key(number: u32) -> Key
+    requires { number < 300 }
+{
+    let mut bytes = [0; 124];
+    bytes[0] = (number / 20) as u8;
+    bytes[1] = (number % 20) as u8;
+    bytes[2] = if number % 7 == 0 { b'U' } else { 0 };
+    bytes[3] = if number % 49 == 0 { b'U' } else { 0 };
+    Key::new(bytes)
+}
+
+/// The pages of the list of the 300 keys, which were not asked for yet.
+fn pages_of(rt: &impl Abort, alloc: Global, height: u8) -> CountedPages {
+    let params = Params::new(64, height, DrawKind::Ruler, [0; 32]).expect(rt, "parameters");
+    let pages = CountedPages {
+        pages: Vec::new(alloc),
+        lookups: 0,
+    };
+    let mut list = SkipList::new(alloc, pages, AnyDraw::new(&params));
+    for number in 0..300 {
+        list.put(key(number), Value::new(&[1])).expect(rt, "memory");
+    }
+    let mut pages = list.into_pages();
+    pages.lookups = 0;
+    pages
+}
+
+/// Whether a stream gives the 300 pairs in order, each once, and then no more.
+fn gives_all(pages: &mut CountedPages, height: u8) -> bool
+    requires { height ≤ height_limit }
+{
+    let mut stream = PairStream::new(height);
+    for number in 0..300 {
+        if stream.next(pages) != Ok(Some((key(number), Value::new(&[1])))) {
+            return false;
+        }
+    }
+    stream.next(pages) == Ok(None)
+}
+
+#[test]
+fn one_level(rt: HostRuntime) {
+    // 30 pages of the one group, all full, and one that is not there.
+    let mut pages = pages_of(&rt, rt.alloc(), 1);
+    assert!(rt; gives_all(&mut pages, 1));
+    assert!(rt; pages.lookups == 31);
+}
+
+#[test]
+fn three_levels(rt: HostRuntime) {
+    // Level 0 has no group of the start, which is one lookup. Of the 43 keys above level 0 each of the 7 on level 2
+    // takes three lookups, and each other two. The end takes one on level 1 and one on level 2.
+    let mut pages = pages_of(&rt, rt.alloc(), 3);
+    assert!(rt; gives_all(&mut pages, 3));
+    assert!(rt; pages.lookups == 1 + 7 * 3 + 36 * 2 + 2);
+}
