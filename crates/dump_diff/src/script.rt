@@ -1,6 +1,6 @@
 //! The script that leads from the first tree to the second.
 
-ghost use Rattle.std.specs.Prelude.{◌≡◌, [], true, false, Ok};
+ghost use Rattle.std.specs.Prelude.{◌≡◌, [], true, false, Ok, ⊤};
 ghost use Rattle.std.specs.List.{flat_map};
 ghost use Rattle.std.specs.FinMap.{find};
 ghost use Rattle.store_model.specs.Paths.{parent, path_cmp};
@@ -136,6 +136,8 @@ impl<W: Sink> AdditionTaker<W> {
 
 impl<W: Sink> Taker for AdditionTaker<W> {
     ghost took = { TookAdditions W.state };
+
+    ghost broke = { λ first now step fault. ⊤ };
 
     /// `Failed`: the put of its line failed, and a prefix of it may have been written.
     fn take(&mut self, step: &DumpStep) -> Result<(), TakerFault>

@@ -1,9 +1,10 @@
 mod TextSteps
+pub mod ReadingSteps
 mod ListingSteps
-mod TakenLines
+pub mod TakenLines
 mod GatherSteps
 mod RoomSteps
 mod SourceSteps
-mod DrainSteps
+pub mod DrainSteps
 mod WrittenDumps
-mod ReadDumps
+pub mod ReadDumps

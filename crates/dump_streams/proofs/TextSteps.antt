@@ -1,5 +1,5 @@
 -- What the text of a line asks for, offered to a reader of listings.
-use Rattle.std.proofs.Common.{◌≡◌, ℕ, Bool, true, false, List, Ok, refl, sym, ap, subst, ◌∙◌}
+use Rattle.std.proofs.Common.{◌≡◌, ℕ, Bool, true, false, List, Ok, refl, subst}
 use Rattle.store_model.specs.Scripts.{reading}
 use Rattle.tree_listing.specs.declared.reader.ListingReader.{ListingReader}
 use Rattle.tree_listing.specs.Dumps.{DumpStep, command_of_step}

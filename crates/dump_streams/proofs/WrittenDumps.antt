@@ -3,7 +3,7 @@ use Rattle.std.proofs.Common.{◌≡◌, [], Result, Ok, Err, sym, ap, subst, �
 use Rattle.store_model.specs.Trees.{Tree, empty_tree}
 use Rattle.script_lines.specs.SinkState.{SinkState}
 use Rattle.tree_listing.specs.Dumps.{dump}
-use Rattle.dump_streams.specs.Lines.{TookLines}
+use Rattle.dump_streams.specs.Lines.{TookLines, BreaksLine}
 use Rattle.dump_streams.specs.Draining.{Drains, WritesDump, HasWritten}
 use Rattle.dump_streams.specs.declared.fault.StreamFault.{StreamFault}
 use Rattle.dump_streams.specs.declared.draining.DrainFault.{DrainFault}
@@ -18,7 +18,7 @@ module _ {W : Type 0} (sink_of : W → SinkState) where
   module _ {S : Type 0} (came whole : S → Tree → Type 0) (fails : S → Tree → StreamFault → Type 0) where
     to_taker : (old stream : S) (sink : W) (first now : LineTaker W) (result : Result (Unit {0}) DrainFault)
         → came old empty_tree → first.sink ≡ sink → TookLines sink_of first first []
-        → Drains came whole fails (TookLines sink_of) old stream first now result
+        → Drains came whole fails (TookLines sink_of) (BreaksLine sink_of) old stream first now result
         → WritesDump came whole fails sink_of stream sink now.sink result
     to_taker old stream sink first now (Ok done) none is took drains = let all = drains none took in record {
       tree = all.tree;
@@ -41,6 +41,7 @@ module _ {W : Type 0} (sink_of : W → SinkState) where
           extends = stop.extends;
           before = (stop.before).sink;
           written = lines_written sink first stop.before stop.tree is stop.took_is;
+          broken = stop.broke_is;
         }
 
 module _ {S W : Type 0} (came whole : S → Tree → Type 0) (fails : S → Tree → StreamFault → Type 0)
@@ -48,7 +49,7 @@ module _ {S W : Type 0} (came whole : S → Tree → Type 0) (fails : S → Tree
   pub dump_written : (old stream : S) (sink : W) (first now : LineTaker W) (given : W)
       (result : Result (Unit {0}) DrainFault) → came old empty_tree → first.sink ≡ sink
       → TookLines sink_of first first [] → given ≡ now.sink
-      → Drains came whole fails (TookLines sink_of) old stream first now result
+      → Drains came whole fails (TookLines sink_of) (BreaksLine sink_of) old stream first now result
       → WritesDump came whole fails sink_of stream sink given result
   dump_written old stream sink first now given result none is took same drains =
       subst (λ (s : W). WritesDump came whole fails sink_of stream sink s result) (sym same)

@@ -3,6 +3,7 @@ pub mod Streams
 pub mod Takers
 pub mod Draining
 pub mod Lines
+pub mod SourceLines
 pub mod Listings
 pub mod Gathered
 pub mod GatheredLines

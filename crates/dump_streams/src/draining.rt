@@ -45,7 +45,7 @@ impl From<TakerFault> for DrainFault {
 /// `Stream`: the stream ended before its dump did, and what came of it was taken. `Taker`: what came before the step
 /// was taken; a part of the step may be carried out.
 pub fn drain<S: DumpStream, T: Taker>(stream: &mut S, taker: &mut T) -> Result<(), DrainFault>
-    ensures drains { Drains S.came S.whole S.fails T.took stream.old stream.new
+    ensures drains { Drains S.came S.whole S.fails T.took T.broke stream.old stream.new
         taker.old taker.new result }
     ensures keeps { (start : S) → S.keeps start stream.old → S.keeps start stream.new }
 {

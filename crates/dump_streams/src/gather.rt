@@ -1,22 +1,20 @@
-//! A sink that gathers bytes, and one that gathers the lines of commands.
+//! A sink that gathers bytes, and a taker that gathers the lines of steps.
 
 ghost use Rattle.std.specs.Prelude.{◌≡◌, ◌+◌, ◌≤◌, ◌<◌, [], false, IsTrue, IfOk, IfErr, OnOk, length};
-ghost use Rattle.store_model.specs.Commands.{command_text, line};
-ghost use Rattle.store_model.specs.Commands.Command.{Write};
 ghost use Rattle.store_base.specs.Counts.{raised};
 ghost use Rattle.script_lines.specs.SinkState.{IsPut, IsObservable};
-ghost use Rattle.script_lines.specs.Parsing.{command_of};
+ghost use Rattle.tree_listing.specs.Dumps.{step_line};
 ghost use Rattle.dump_streams.specs.Gathered.{gathered_state, gathers_none, CallsSink, IsFlushed, IsFrontOf, GrewFrom};
-ghost use Rattle.dump_streams.specs.GatheredLines.{lines_state, GathersLine};
+ghost use Rattle.dump_streams.specs.GatheredLines.{lines_state, GathersLine, TookGathered, BreaksGathered};
 
 use crate::room::LineRoom;
-use crate::taker::TakerFault;
-use path_keys::Path;
-use script_lines::{Command, Sink, SinkFault, write_command, write_piece};
+use crate::taker::{Taker, TakerFault};
+use script_lines::{Sink, SinkFault};
 use std::alloc::Global;
 use std::marker::Model;
 use std::snapshot::Snapshot;
-use store_base::{Bytes, NoMemory};
+use store_base::NoMemory;
+use tree_listing::{DumpStep, write_step};
 
 /// So many bytes are gathered.
 const ROOM: usize = 65_536;
@@ -190,11 +188,12 @@ impl<W: Sink> Sink for GatheredSink<W> {
     }
 }
 
-/// Gathers the lines of commands, as `GatheredSink` gathers bytes.
+/// Takes steps, and gathers their lines as `GatheredSink` gathers bytes. When the steps end, `flush` has to put those
+/// that are still held.
 #[derive(Drop)]
 pub struct GatheredLines<W: Sink> {
     gathered: GatheredSink<W>,
-    /// The line of a command, before it is gathered.
+    /// The line of a step, before it is gathered.
     line: LineRoom,
 }
 
@@ -212,29 +211,14 @@ impl<W: Sink> GatheredLines<W> {
         Ok(GatheredLines { gathered, line })
     }
 
-    /// Gathers the line of a command.
+    /// Gathers the line of a step.
     /// `NoMemory`: the line has no room, and nothing was done. `Failed`: a put into the sink failed, now or before.
-    pub fn put_command(&mut self, command: &Command) -> Result<(), TakerFault>
-        ensures line { GathersLine W.state self.old self.new
-            (line (command_text (command_of command.now))) result }
+    fn take_step(&mut self, step: &DumpStep) -> Result<(), TakerFault>
+        ensures line { GathersLine W.state self.old self.new (step_line step.now) result }
         ensures same { self.new.gathered.first ≡ self.old.gathered.first }
     {
         self.line.clear();
-        if write_command(&mut self.line, command).is_err() {
-            return Err(TakerFault::NoMemory);
-        }
-        self.put_line()
-    }
-
-    /// Gathers the line of the `write` that puts these bytes into a file from an offset on, as `put_command`.
-    pub fn put_piece(&mut self, path: &Path, at: u32, bytes: &[u8]) -> Result<(), TakerFault>
-        requires { length bytes.now ≤ Bytes.MAX_LEN }
-        ensures line { GathersLine W.state self.old self.new
-            (line (command_text (Write path.now at bytes.now))) result }
-        ensures same { self.new.gathered.first ≡ self.old.gathered.first }
-    {
-        self.line.clear();
-        if write_piece(&mut self.line, path, at, bytes).is_err() {
+        if write_step(&mut self.line, step).is_err() {
             return Err(TakerFault::NoMemory);
         }
         self.put_line()
@@ -273,5 +257,17 @@ impl<W: Sink> GatheredLines<W> {
     {
         let GatheredLines { gathered, line: _ } = self;
         gathered.into_sink()
+    }
+}
+
+impl<W: Sink> Taker for GatheredLines<W> {
+    ghost took = { TookGathered W.state };
+
+    ghost broke = { BreaksGathered W.state };
+
+    /// Gathers the line of the step.
+    /// `NoMemory`: the line has no room, and nothing was done. `Failed`: a put into the sink failed, now or before.
+    fn take(&mut self, step: &DumpStep) -> Result<(), TakerFault> {
+        self.take_step(step)
     }
 }

@@ -9,6 +9,7 @@ mod fault;
 mod gather;
 mod lines;
 mod listing;
+mod pairs;
 mod reading;
 mod room;
 mod source;

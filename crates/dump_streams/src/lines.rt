@@ -1,7 +1,7 @@
 //! Takers that write the lines of steps, or nothing.
 
-ghost use Rattle.std.specs.Prelude.{◌≡◌, [], List, ⊤};
-ghost use Rattle.dump_streams.specs.Lines.{TookLines, PutsLine};
+ghost use Rattle.std.specs.Prelude.{◌≡◌, [], List, IfErr, ⊤};
+ghost use Rattle.dump_streams.specs.Lines.{TookLines, BreaksLine, PutsLine};
 ghost use Rattle.dump_streams.specs.Takers.{IsTaken};
 
 use crate::taker::{Taker, TakerFault};
@@ -35,12 +35,15 @@ impl<W: Sink> LineTaker<W> {
 impl<W: Sink> Taker for LineTaker<W> {
     ghost took = { TookLines W.state };
 
+    ghost broke = { BreaksLine W.state };
+
     /// Writes the line of the step.
     /// `Failed`: the sink failed. A prefix of the line may have been written.
     fn take(&mut self, step: &DumpStep) -> Result<(), TakerFault>
         ensures taken { (first : LineTaker W)
             → IsTaken (TookLines W.state first self.old) (TookLines W.state first self.new)
             step.now result }
+        ensures broken { IfErr result (BreaksLine W.state self.old self.new step.now) }
         ensures put { PutsLine W.state self.old self.new step.now result }
     {
         match write_step(&mut self.sink, step) {
@@ -56,6 +59,8 @@ pub struct NoTaker;
 
 impl Taker for NoTaker {
     ghost took = { λ first now steps. ⊤ };
+
+    ghost broke = { λ first now step fault. ⊤ };
 
     /// Never fails.
     fn take(&mut self, step: &DumpStep) -> Result<(), TakerFault>

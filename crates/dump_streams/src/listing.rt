@@ -1,10 +1,10 @@
 //! A stream of the steps of a listing.
 
-ghost use Rattle.std.specs.Prelude.{◌≡◌, ◌≤◌, IfOk, IfErr, length};
+ghost use Rattle.std.specs.Prelude.{◌≡◌, ◌≤◌, IfOk, IfErr, MatchResult, length};
 ghost use Rattle.store_model.specs.Trees.{Tree, empty_tree};
-ghost use Rattle.script_lines.specs.LineState.{LineState, left};
 ghost use Rattle.dump_streams.specs.Streams.{IsNext};
-ghost use Rattle.dump_streams.specs.Listings.{CameOf, IsListed, TakesText, EndsBy};
+ghost use Rattle.dump_streams.specs.SourceLines.{IsReading, IsReadOut, StopsReading};
+ghost use Rattle.dump_streams.specs.Listings.{CameOf, IsListed, IsOfSame, TakesText, EndsBy};
 
 use crate::fault::StreamFault;
 use crate::stream::DumpStream;
@@ -14,8 +14,8 @@ use std::snapshot::Snapshot;
 use store_base::{NoMemory, Version};
 use tree_listing::{DumpStep, ListingReader, read_step};
 
-/// The steps of a listing, which a source has: a script that says the dump of a tree. Digits may be of either case,
-/// empty lines may stand between, and the last LF may be missing.
+/// The steps of a listing, which a source has: a script that says the dump of a tree that may stand under one version.
+/// Digits may be of either case, empty lines may stand between, and the last LF may be missing.
 #[derive(Drop)]
 pub struct ListingStream<R: Source> {
     /// The lines that are still to come.
@@ -29,18 +29,19 @@ pub struct ListingStream<R: Source> {
 }
 
 impl<R: Source> ListingStream<R> {
-    /// The stream of the listing that this source has, of at most 1,073,741,824 bytes.
+    /// The stream of the listing that this source has, of at most 1,073,741,824 bytes, under this version.
     /// `NoMemory`: the source is given back, and nothing was taken from it.
-    pub fn new(alloc: Global, source: R) -> Result<Self, (NoMemory, R)>
+    pub fn new(alloc: Global, source: R, version: Version) -> Result<Self, (NoMemory, R)>
         ensures came { IfOk result (λ stream. CameOf R.state stream empty_tree) }
         ensures first { IfOk result (λ stream. stream.first.value ≡ source) }
+        ensures version { IfOk result (λ stream. stream.reader.version ≡ version) }
         ensures err { IfErr result (λ refused. refused.1 ≡ source) }
     {
         let first = Snapshot::of(&source);
         let lines = LineReader::new(alloc, source)?;
         Ok(ListingStream {
             lines,
-            reader: ListingReader::new(Version::Two),
+            reader: ListingReader::new(version),
             count: 0,
             first,
         })
@@ -66,6 +67,23 @@ impl<R: Source> ListingStream<R> {
         lines.into_source()
     }
 
+    /// Reads all lines that are still to come, and takes nothing of them. After `NoDump` this tells whether the source
+    /// can be read to its end; `line` stays as it is.
+    /// `Unreadable`: a take failed now or before. `TooLong`: the source has more bytes than a script may have.
+    pub fn read_to_end(&mut self) -> Result<(), StreamFault>
+        ensures read { IsReading R.state self.old.first.value self.old.lines
+            → MatchResult result (λ done. IsReadOut R.state self.old.first.value self.new.lines)
+            (StopsReading R.state self.old.first.value self.new.lines) }
+        ensures same { self.new ≡ record self.old { lines = self.new.lines } }
+    {
+        'lines: while self.lines.is_live() {
+            if let Line::End = self.lines.next_line()? {
+                return Ok(());
+            }
+        }
+        Err(StreamFault::Unreadable)
+    }
+
     /// The next step, as `next` of the stream. `NoDump`: the line asks for no step, or no dump goes on with it. What
     /// the source has is no listing, and `line` tells the line. `Unreadable`: a take failed now or before. `TooLong`:
     /// the source has more bytes than a script may have.
@@ -73,7 +91,7 @@ impl<R: Source> ListingStream<R> {
         ensures next { IsNext (CameOf R.state self.old) (CameOf R.state self.new)
             (IsListed R.state self.new)
             (EndsBy R.state self.new) into.new result }
-        ensures same { self.new.first ≡ self.old.first }
+        ensures same { IsOfSame self.old self.new }
     {
         if !self.lines.is_live() {
             return Err(StreamFault::Unreadable);
@@ -112,7 +130,7 @@ impl<R: Source> DumpStream for ListingStream<R> {
 
     ghost whole = { IsListed R.state };
 
-    ghost keeps = { λ start now. now.first ≡ start.first };
+    ghost keeps = { IsOfSame };
 
     ghost fails = { EndsBy R.state };
 

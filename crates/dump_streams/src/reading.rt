@@ -1,7 +1,6 @@
 //! Leads a listing into a taker.
 
-ghost use Rattle.std.specs.Prelude.{◌≡◌};
-ghost use Rattle.dump_streams.specs.Listings.{CameOf, IsListed, EndsBy};
+ghost use Rattle.dump_streams.specs.Listings.{CameOf, IsListed, IsOfSame, EndsBy};
 ghost use Rattle.dump_streams.specs.Draining.{Drains};
 ghost use Rattle.dump_streams.specs.ReadListings.{TakesListing};
 
@@ -19,8 +18,8 @@ pub fn drain_listing<R: Source, T: Taker>(
 ) -> Result<(), DrainFault>
     ensures listing { TakesListing R.state T.took stream.old taker.old taker.new result }
     ensures drains { Drains (CameOf R.state) (IsListed R.state)
-        (EndsBy R.state) T.took stream.old stream.new taker.old taker.new result }
-    ensures same { stream.new.first ≡ stream.old.first }
+        (EndsBy R.state) T.took T.broke stream.old stream.new taker.old taker.new result }
+    ensures same { IsOfSame stream.old stream.new }
 {
     drain(stream, taker)
 }

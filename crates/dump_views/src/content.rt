@@ -1,6 +1,6 @@
 //! The bytes of one file of a dump.
 
-ghost use Rattle.std.specs.Prelude.{◌≡◌, [], IfErr};
+ghost use Rattle.std.specs.Prelude.{◌≡◌, [], IfErr, ⊤};
 ghost use Rattle.store_model.specs.Trees.{empty_tree, node_at};
 ghost use Rattle.tree_listing.specs.Dumps.DumpStep.{Make, Write};
 ghost use Rattle.dump_streams.specs.Takers.{IsTaken};
@@ -120,6 +120,8 @@ impl<W: Sink> ContentTaker<W> {
 
 impl<W: Sink> Taker for ContentTaker<W> {
     ghost took = { TookContents W.state };
+
+    ghost broke = { λ first now step fault. ⊤ };
 
     /// `Failed`: the sink failed. The first bytes of the step may have been put.
     fn take(&mut self, step: &DumpStep) -> Result<(), TakerFault>

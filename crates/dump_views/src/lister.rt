@@ -1,6 +1,6 @@
 //! What stands in each folder of a dump.
 
-ghost use Rattle.std.specs.Prelude.{◌≡◌, [], IfErr, IfOk, OnErr, OnOk};
+ghost use Rattle.std.specs.Prelude.{◌≡◌, [], IfErr, IfOk, OnErr, OnOk, ⊤};
 ghost use Rattle.tree_listing.specs.Dumps.DumpStep.{Make, Write, Set};
 ghost use Rattle.dump_streams.specs.Takers.{IsTaken};
 ghost use Rattle.dump_streams.specs.declared.taker.TakerFault.TheVariants as faults;
@@ -127,6 +127,8 @@ impl TreeLister {
 
 impl Taker for TreeLister {
     ghost took = { TookEntries };
+
+    ghost broke = { λ first now step fault. ⊤ };
 
     /// `NoMemory`: there was no room for one entry more. `Failed`: a file has 4,294,967,296 bytes or more, which no
     /// dump has. After an error the same is kept as before.

@@ -363,6 +363,8 @@ impl<W: Sink + Drop> StdBuilder<W> {
 impl<W: Sink + Drop> Taker for StdBuilder<W> {
     ghost took = { λ first now steps. ⊤ };
 
+    ghost broke = { λ first now step fault. ⊤ };
+
     fn take(&mut self, step: &DumpStep) -> Result<(), TakerFault> {
         match step.parts() {
             Step::Make(path) => self.make(path),

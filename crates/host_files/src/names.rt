@@ -51,6 +51,8 @@ impl<W: Sink + Drop> NameTaker<W> {
 impl<W: Sink + Drop> Taker for NameTaker<W> {
     ghost took = { λ first now steps. ⊤ };
 
+    ghost broke = { λ first now step fault. ⊤ };
+
     fn take(&mut self, step: &DumpStep) -> Result<(), TakerFault> {
         match step.parts() {
             Step::Make(path) | Step::Write(path, _, _) => self.look(path),

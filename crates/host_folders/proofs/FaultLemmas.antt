@@ -9,7 +9,6 @@ use Rattle.tree_listing.specs.Dumps.{DumpStep}
 use Rattle.store_model.specs.Trees.{Tree}
 use Rattle.tree_listing.specs.Reading.{AddsStep}
 use Rattle.tree_listing.specs.declared.reader.ListingReader.{ListingReader}
-use Rattle.dump_streams.specs.Streams.{IsNext}
 use Rattle.dump_streams.specs.declared.fault.StreamFault.{StreamFault}
 use Rattle.dump_streams.specs.declared.fault.StreamFault.TheVariants as faults
 use Rattle.host_folders.specs.FolderState.{FolderState}
@@ -26,18 +25,6 @@ pub err_of : {T E : Type 0} (result : Result T E) (cause : E) (P : E → Type 0)
     → P cause → IfErr result P
 err_of (Ok x) cause P told holds = tt
 err_of (Err e) cause P told holds = subst P (sym told) holds
-
-pub next_failed : (old new done : Tree → Type 0) (failed_by : Tree → StreamFault → Type 0) (c : DumpStep)
-    (result : Result Bool StreamFault) (cause : StreamFault) → IsErrAnd result (λ e. e ≡ cause)
-    → ((t : Tree) → old t → failed_by t cause)
-    → IsNext old new done failed_by c result
-next_failed old new done failed_by c (Ok b) cause told fails = absurd told
-next_failed old new done failed_by c (Err e) cause told fails = record {
-  came = λ t was. tt;
-  extends = λ t was. tt;
-  whole = λ t was. tt;
-  failed = λ t was. subst (failed_by t) (sym told) (fails t was);
-}
 
 -- the entry behind those that were begun
 here_is : {X : Type 0} (xs : List X) (n : ℕ) (x : X) → take (suc n) xs ≡ take n xs ++ x ∷ [] → slice_get xs n ≡ Some x

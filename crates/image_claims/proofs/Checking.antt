@@ -28,7 +28,7 @@ use Rattle.script_claims.specs.Makings.{made_tree}
 use Rattle.script_claims.proofs.MakingLemmas.{represented, made_fits}
 use Rattle.script_claims.proofs.NothingLemmas.{damaged_with}
 use Rattle.script_claims.proofs.RunWays.{found}
-use Rattle.image_claims.specs.Endings.{given}
+use Rattle.image_claims.specs.Machines.{given}
 use Rattle.image_claims.specs.Checks.{clean_line, IsNone, IsBroken, IsSome, IsLineOn, JudgesExactly}
 use Rattle.image_claims.specs.Checks.{ChecksTree, AgreesWithRun, AnswersByOneTree, LeavesAlone}
 

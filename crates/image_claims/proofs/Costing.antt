@@ -23,7 +23,7 @@ use Rattle.image_subcommands.specs.ScrubCall.{IsScrub}
 use Rattle.image_subcommands.specs.Statuses.{IsJudged}
 use Rattle.script_claims.specs.declared.machines.Machine.{Machine}
 use Rattle.script_claims.specs.Machines.{Ended, bytes_of, meaning}
-use Rattle.image_claims.specs.Endings.{given}
+use Rattle.image_claims.specs.Machines.{given}
 use Rattle.image_claims.specs.Costs.{Costs}
 
 -- equal counts

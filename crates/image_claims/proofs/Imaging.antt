@@ -27,7 +27,7 @@ use Rattle.image_subcommands.specs.Statuses.{Subcommand as words, IsStatusOf, Is
 use Rattle.image_subcommands.specs.WipeCall.{IsWipe}
 use Rattle.script_claims.specs.declared.machines.Machine.{Machine}
 use Rattle.script_claims.specs.Machines.{Disk, Ended, bytes_of, meaning}
-use Rattle.image_claims.specs.Endings.{given}
+use Rattle.image_claims.specs.Machines.{given}
 use Rattle.image_claims.specs.Checks.{MightLeave}
 use Rattle.image_claims.specs.Images.{ScrubsExactly, ScrubsAgain, IsGoneOrWhole, WipesAllOrNone, MakesBehindWipe}
 use Rattle.image_claims.proofs.Checking.{JudgedBy, exactly, judges_exactly}

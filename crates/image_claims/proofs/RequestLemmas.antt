@@ -1,7 +1,7 @@
 -- A call with any well-formed words is done where it can be.
-use Rattle.std.proofs.Common.{ℕ, List, refl, inl, inr, ⊎_elim}
+use Rattle.std.proofs.Common.{ℕ, List, inl, inr, ⊎_elim}
 use Rattle.store_model.specs.Parameters.{Parameters}
-use Rattle.store_model.specs.Trees.{Tree, empty_tree}
+use Rattle.store_model.specs.Trees.{Tree}
 use Rattle.store_model.specs.Words.{Request}
 use Rattle.store_model.specs.Words.Request.{Format, Run, Session, Check, Scrub, Wipe, Upgrade, Load}
 use Rattle.disk_model.specs.DiskState.{DiskState}
@@ -40,10 +40,8 @@ module _ {D R W : Type 0} (disk_of : D → DiskState) (source_of : R → SourceS
   is_done Wipe is can = is.complete none.disk_well
   is_done Upgrade is can = ((is.observed can.0).does can.1.0 can.1.1 can.1.2).complete none.disk_well
   is_done Load is can =
-      let script = can.0 in
       let loads = can.2 in
-      let listed = loads.2 in
-      ((is.observed can.1).does empty_tree loads.0 loads.1 script.0).complete refl listed.0
-      (record { under = listed.1; listing = listed.2 }) listed.3 script.1 none.disk_well none.source_well
+      ((is.observed can.1).does loads.0 loads.2 loads.3 can.0.0).tells.complete loads.1 loads.4 can.0.1
+      none.disk_well none.source_well
   is_done request is can =
       ((is.observed can.0).does can.1.0 can.1.1 can.1.2).complete none.disk_well none.sink_well

@@ -1,8 +1,7 @@
 -- When a call is done.
 use Rattle.std.specs.Prelude.{◌≡◌, ◌≢◌, ◌⊎◌, ◌≤◌, ℕ, List, length, slice_index}
 use Rattle.store_model.specs.Parameters.{Parameters, image_len}
-use Rattle.store_model.specs.Trees.{Tree, empty_tree}
-use Rattle.store_model.specs.Pages.{page_count, IsTreeUnder}
+use Rattle.store_model.specs.Trees.{Tree}
 use Rattle.store_model.specs.Images.{first_byte, Represents}
 use Rattle.store_model.specs.Scripts.{script_limit}
 use Rattle.store_model.specs.Words.{Request}
@@ -16,7 +15,7 @@ use Rattle.script_lines.specs.SourceState as sources
 use Rattle.script_lines.specs.SinkState.{SinkState}
 use Rattle.image_subcommands.specs.declared.status.Status.{Status}
 use Rattle.image_subcommands.specs.declared.status.Status.TheVariants.{Done, NoMemory}
-use Rattle.tree_listing.specs.Dumps.{IsListing}
+use Rattle.listing_subcommands.specs.LoadCall.{CanBeLoaded}
 
 -- no call of the disk, the source or the sink failed
 pub record NoneFailed (disk disk_new : DiskState) (source source_new : SourceState)
@@ -29,10 +28,10 @@ pub record NoneFailed (disk disk_new : DiskState) (source source_new : SourceSta
 abbrev pub IsDoneOrLacks : Status → Type 0
 IsDoneOrLacks status = (status ≡ Done) ⊎ (status ≡ NoMemory)
 
--- a tree whose listing the script is can be loaded: the image is that of the empty tree, and it fits
-abbrev pub CanBeLoaded : DiskState → List ℕ → Type 0
-CanBeLoaded disk script = (p : Parameters) × Represents disk.bytes empty_tree p
-    × ((t : Tree) × IsTreeUnder t p × IsListing t script × (page_count t p ≤ p.slots))
+-- the disk holds an image into which a listing that the script is can be loaded
+abbrev pub TakesListing : DiskState → List ℕ → Type 0
+TakesListing disk script =
+    (u : Tree) × (t : Tree) × (p : Parameters) × Represents disk.bytes u p × CanBeLoaded u t p script
 
 -- the disk tells its bytes, and they represent a tree
 abbrev pub HoldsTree : DiskState → Type 0
@@ -44,8 +43,8 @@ HasScript source = sources.IsObservable source × (length source.left ≤ script
 
 -- What is asked for can be done. A disk of the image's length that does not begin as one can be formatted. An image
 -- that represents a tree can be run, checked, upgraded and dumped, and can answer a script of sessions and the commands
--- of a number. An image of which scrubbing leaves a tree's can be scrubbed. Into an image of the empty tree a listing
--- can be loaded. Any disk can be wiped.
+-- of a number. An image of which scrubbing leaves a tree's can be scrubbed. Into an image a listing can be loaded as
+-- `CanBeLoaded` says. Any disk can be wiped.
 abbrev pub CanBeDone : Request → DiskState → SourceState → Type 0
 CanBeDone (Format p) disk source = disks.IsObservable disk × (disk.size ≡ image_len p.slots)
     × (slice_index disk.bytes 0 ≢ first_byte)
@@ -53,5 +52,5 @@ CanBeDone Run disk source = HasScript source × HoldsTree disk
 CanBeDone Session disk source = HasScript source × HoldsTree disk
 CanBeDone Scrub disk source = disks.IsObservable disk × ((t : Tree) × (p : Parameters) × ScrubsTo disk.bytes t p)
 CanBeDone Wipe disk source = Unit {0}
-CanBeDone Load disk source = HasScript source × disks.IsObservable disk × CanBeLoaded disk source.left
+CanBeDone Load disk source = HasScript source × disks.IsObservable disk × TakesListing disk source.left
 CanBeDone request disk source = HoldsTree disk

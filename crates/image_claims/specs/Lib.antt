@@ -1,6 +1,6 @@
 pub mod Checks
 pub mod Costs
-pub mod Endings
 pub mod Faults
 pub mod Images
+pub mod Machines
 pub mod Mirrors

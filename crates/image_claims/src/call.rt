@@ -6,7 +6,7 @@ ghost use Rattle.script_lines.specs.Memory.{source_state, sink_state};
 ghost use Rattle.image_subcommands.specs.Outside.{KeepsOutside};
 ghost use Rattle.store_top.specs.Performing.{Performs};
 ghost use Rattle.script_claims.specs.Machines.{meaning};
-ghost use Rattle.image_claims.specs.Endings.{given};
+ghost use Rattle.image_claims.specs.Machines.{given};
 
 use script_claims::{Ended, Machine};
 use std::alloc::Global;

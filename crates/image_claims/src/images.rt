@@ -14,7 +14,7 @@ ghost use Rattle.image_subcommands.specs.ScrubCall.{IsScrub};
 ghost use Rattle.image_subcommands.specs.Statuses.{IsJudged};
 ghost use Rattle.image_claims.specs.Checks.{MightLeave};
 ghost use Rattle.image_claims.specs.Costs.{Costs};
-ghost use Rattle.image_claims.specs.Endings.{given};
+ghost use Rattle.image_claims.specs.Machines.{given};
 ghost use Rattle.image_claims.specs.Images.{ScrubsExactly, ScrubsAgain, WipesAllOrNone, MakesBehindWipe};
 ghost use Rattle.script_claims.specs.Machines.{meaning};
 

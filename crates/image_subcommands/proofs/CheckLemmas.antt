@@ -5,13 +5,17 @@ use Rattle.store_model.specs.Trees.{Tree}
 use Rattle.store_base.specs.declared.store_fault.Fault.{Fault}
 use Rattle.store_base.specs.declared.store_fault.Fault.TheVariants as causes
 use Rattle.disk_model.specs.DiskState.{DiskState, IsObservable}
+use Rattle.gate_journal.specs.Disks.{KeepsDisk}
 use Rattle.image_check.specs.declared.verdict.Verdict.{Verdict}
 use Rattle.image_check.specs.declared.verdict.Verdict.TheVariants as verdicts
-use Rattle.image_check.specs.Verdicts.{IsNoImage, IsDamaged}
+use Rattle.image_check.specs.ImageCalls.{ReadsDisk, ChecksImage}
+use Rattle.image_check.specs.Standing.{RepresentsSome}
+use Rattle.image_check.specs.Verdicts.{IsVerdict, IsNoImage, IsDamaged}
 use Rattle.script_lines.specs.SinkState.{SinkState}
 use Rattle.scrub_free.specs.ScrubCalls.{ScrubsTo, IsScrubVerdict, IsBeyondScrubbing, Scrubs}
 use Rattle.image_subcommands.specs.declared.status.Status.{Status}
 use Rattle.image_subcommands.specs.declared.status.Status.TheVariants as statuses
+use Rattle.image_subcommands.specs.CheckCall.{IsCheck}
 use Rattle.image_subcommands.specs.Endings.{fault_status}
 use Rattle.image_subcommands.specs.Outside.{Outside}
 use Rattle.image_subcommands.specs.Reports.{verdict_status, PrintsVerdict, PrintsReport}
@@ -54,6 +58,17 @@ reported_in_memory sink_of (Err fault) sink sink_new status memory prints e =
 
 -- ---- check
 
+-- what reads keep of a disk
+pub read_keeps : {T : Type 0} (old new : DiskState) (result : Result T Fault) → ReadsDisk old new result
+    → KeepsDisk old new
+read_keeps old new result reads = record {
+  size = reads.size;
+  observable = reads.observable;
+  faults = reads.rise;
+  writes = reads.writes;
+  syncs = reads.syncs;
+}
+
 fails_check : (fault : Fault) → IsStatusOf words.Check (fault_status fault)
 fails_check causes.Disk = refl
 fails_check causes.NoMemory = refl
@@ -64,8 +79,60 @@ judges_check verdicts.NotImage = refl
 judges_check verdicts.Damaged = refl
 
 module _ (old : DiskState) (observable : IsObservable old) where
+  found_by_check : (verdict : Verdict) → IsVerdict old verdict → Found (RepresentsSome old) (IsDamaged old) old verdict
+  found_by_check (verdicts.Clean pages dirs files bytes) is = record {
+    tree = (is.image observable).tree;
+    params = is.params;
+    represents = (is.image observable).represents;
+  }
+  found_by_check verdicts.NotImage is = is
+  found_by_check verdicts.Damaged is = is
+
+  found_by_check_of : (result : Result Verdict Fault) → IfOk result (IsVerdict old)
+      → IfOk result (Found (RepresentsSome old) (IsDamaged old) old)
+  found_by_check_of (Ok verdict) is = found_by_check verdict is
+  found_by_check_of (Err fault) is = is
+
+  image_represents : RepresentsSome old → IsNoImage old → ⊥
+  image_represents some none = none observable some.params (record {
+    names = some.represents.names;
+    length_is = some.represents.length_is;
+  })
+
+  whole_represents : RepresentsSome old → IsDamaged old → ⊥
+  whole_represents some broken = broken.no_tree observable some.tree some.params some.represents
+
   pub image_damaged : IsNoImage old → IsDamaged old → ⊥
   image_damaged none broken = none observable broken.params (broken.has_parameters.named observable)
+
+module _ {D R W : Type 0} (disk_of : D → DiskState) (sink_of : W → SinkState) (before : Outside D R W) where
+  pub check_ends : (disk : D) (result : Result Verdict Fault) (sink : W) (status : Status)
+      → ChecksImage (disk_of before.disk) (disk_of disk) result → PrintsReport sink_of result before.sink sink status
+      → IsCheck disk_of sink_of before (record {
+        status = status;
+        done = done_of_verdict status;
+        disk = disk;
+        source = before.source;
+        sink = sink;
+      })
+  check_ends disk result sink status call prints =
+      let old = disk_of before.disk in
+      record {
+        ends = ends_in sink_of (IsStatusOf words.Check) fails_check refl judges_check result
+            before.sink sink status prints;
+        done = refl;
+        observed = λ observable. record {
+          ends = ends_by_verdict (RepresentsSome old) (IsDamaged old) old (disk_of disk)
+              (image_represents old observable) (whole_represents old observable) (image_damaged old observable)
+              sink_of result before.sink sink status
+              (found_by_check_of old observable result call.verdict) call.reads.faults prints;
+          reads = call.reads.reads observable;
+        };
+        source = refl;
+        no_memory = λ e. absurd (reported_in_memory sink_of result before.sink sink status call.memory prints e);
+        report = is_reported sink_of (IsVerdict old) result before.sink sink status call.verdict prints;
+        silent = is_silent sink_of result before.sink sink status prints;
+      }
 
 -- ---- scrub
 

@@ -1,21 +1,26 @@
 -- Lemmas on calls that judge a disk and print a report: what is printed, and how they end.
-use Rattle.std.proofs.Common.{◌≡◌, ◌⊎◌, ℕ, ◌≤◌, Result, Ok, Err, IfOk, refl, sym, subst, arith, inl, inr, ⊎_elim}
+use Rattle.std.proofs.Common.{◌≡◌, ◌⊎◌, ℕ, ◌≤◌, Result, Ok, Err, IfOk, refl, sym, subst, ◌∙◌, arith, inl, inr}
+use Rattle.std.proofs.Common.{⊎_elim}
 use Rattle.std.proofs.lemmas.Bool.{false≢true}
 use Rattle.store_base.specs.Counts.{raised, Rose}
 use Rattle.store_base.specs.Faults.{disk_faults_after}
 use Rattle.store_base.specs.declared.store_fault.Fault.{Fault}
 use Rattle.store_base.specs.declared.store_fault.Fault.TheVariants as causes
 use Rattle.disk_model.specs.DiskState.{DiskState}
+use Rattle.gate_journal.specs.Disks.{KeepsDisk}
 use Rattle.image_check.specs.declared.verdict.Verdict.{Verdict}
 use Rattle.image_check.specs.declared.verdict.Verdict.TheVariants as verdicts
 use Rattle.image_check.specs.Verdicts.{IsNoImage}
+use Rattle.script_lines.specs.SourceState.{SourceState}
 use Rattle.script_lines.specs.SinkState.{SinkState}
 use Rattle.image_subcommands.specs.declared.status.Status.{Status}
 use Rattle.image_subcommands.specs.declared.status.Status.TheVariants as statuses
 use Rattle.image_subcommands.specs.Endings.{fault_status}
+use Rattle.image_subcommands.specs.Outside.{KeepsOutside}
 use Rattle.image_subcommands.specs.Reports.{verdict_status, IsUnreported, PrintsReport, Reports}
 use Rattle.image_subcommands.specs.Reports.{EndsByVerdict}
-use Rattle.image_subcommands.specs.Statuses.{IsJudged, sink_faults_by}
+use Rattle.image_subcommands.specs.Statuses.{IsJudged, disk_faults_by, source_faults_by, sink_faults_by}
+use Rattle.image_subcommands.proofs.OutsideLemmas.{kept_around}
 
 -- a count of failed calls that was raised rose
 pub rose : (old new : ℕ) → new ≡ raised old → Rose old new
@@ -141,3 +146,51 @@ module _ (IsWhole IsBroken : Type 0) (old new : DiskState) where
     ends_by_verdict sink_of (Err fault) sink sink_new status found faults prints =
         let P : Status → Type 0 = λ s. EndsByVerdict IsWhole IsBroken s old new (sink_of sink) (sink_of sink_new) in
         subst P (sym prints.status_is) (ends_by_fault fault (sink_of sink) (sink_of sink_new) faults)
+
+-- ---- what stands around it
+
+-- no call of the disk or of the source failed
+record SparesCounts (status : Status) : Type 0 where
+  pub disk : (count : ℕ) → disk_faults_by status count ≡ count
+  pub source : (count : ℕ) → source_faults_by status count ≡ count
+
+spares_counts : (verdict : Verdict) → SparesCounts (verdict_status verdict)
+spares_counts (verdicts.Clean pages dirs files bytes) = record { disk = λ n. refl; source = λ n. refl }
+spares_counts verdicts.NotImage = record { disk = λ n. refl; source = λ n. refl }
+spares_counts verdicts.Damaged = record { disk = λ n. refl; source = λ n. refl }
+
+sink_spares_counts : SparesCounts statuses.SinkFault
+sink_spares_counts = record { disk = λ n. refl; source = λ n. refl }
+
+-- a fault came in place of a verdict
+outside_fault : (fault : Fault) (old new : DiskState) (source : SourceState) (sink : SinkState) → KeepsDisk old new
+    → new.faults ≡ disk_faults_after {T = Verdict} old.faults (Err fault)
+    → KeepsOutside (fault_status fault) old new source source sink sink
+outside_fault causes.Disk old new source sink kept faults =
+    kept_around {status = statuses.DiskFault} old new source sink kept faults refl refl
+outside_fault causes.NoMemory old new source sink kept faults =
+    kept_around {status = statuses.NoMemory} old new source sink kept faults refl refl
+
+-- a disk was judged, and the report printed, or not
+pub outside_report : {W : Type 0} (sink_of : W → SinkState) (result : Result Verdict Fault) (old new : DiskState)
+    (source : SourceState) (sink sink_new : W) (status : Status)
+    → KeepsDisk old new → new.faults ≡ disk_faults_after old.faults result
+    → PrintsReport sink_of result sink sink_new status
+    → KeepsOutside status old new source source (sink_of sink) (sink_of sink_new)
+outside_report sink_of (Ok verdict) old new source sink sink_new status kept faults prints =
+    let counts : SparesCounts status =
+    ⊎_elim (λ e. subst SparesCounts (sym e) sink_spares_counts)
+    (λ e. subst SparesCounts (sym e) (spares_counts verdict)) prints.status_is in
+    record {
+      disk_kept = kept;
+      source_observable = refl;
+      sink_observable = prints.observable;
+      disk_faults = faults ∙ sym (counts.disk old.faults);
+      source_faults = sym (counts.source source.faults);
+      sink_faults = prints.faults;
+    }
+outside_report {W} sink_of (Err fault) old new source sink sink_new status kept faults prints =
+    subst (λ (s : Status). KeepsOutside s old new source source (sink_of sink) (sink_of sink_new))
+    (sym prints.status_is)
+    (subst (λ (w : W). KeepsOutside (fault_status fault) old new source source (sink_of sink) (sink_of w))
+    (sym prints.same) (outside_fault fault old new source (sink_of sink) kept faults))

@@ -1,6 +1,6 @@
--- The statuses of a call, in one table. What other records ask of a status follows from it; those of a dump and of a
--- load stand beside their records.
+-- The statuses of a call, in one table. What other records ask of a status follows from it.
 use Rattle.std.specs.Prelude.{◌≡◌, ◌⊎◌, ℕ, List, [], ◌∷◌, Bool, true, false, IsTrue, not, ◌&&◌, if◌then◌else◌}
+use Rattle.std.specs.List.{filter}
 use Rattle.store_base.specs.Counts.{raised}
 use Rattle.image_subcommands.specs.declared.status.Status.{Status}
 use Rattle.image_subcommands.specs.declared.status.Status.TheVariants.{Done, Usage, SourceFault, SinkFault, DiskFault}
@@ -61,6 +61,10 @@ pub data Failed : Type 0 where
   TheSource : Failed
   TheSink : Failed
 
+abbrev spares_disk : Failed → Bool
+spares_disk TheDisk = false
+spares_disk failed = true
+
 -- a line of the table
 pub record Row : Type 0 where
   -- the number that the program ends with
@@ -89,6 +93,8 @@ pub record Row : Type 0 where
   pub is_cut_short : Bool
   -- the call may end so before it has judged its disk
   pub may_come_first : Bool
+  -- a load that ends so has read its source to the end
+  pub is_read_whole : Bool
 
 -- a line with a code alone
 abbrev with_code : ℕ → Row
@@ -106,6 +112,7 @@ with_code code = record {
   is_between_lines = false;
   is_cut_short = false;
   may_come_first = false;
+  is_read_whole = false;
 }
 
 abbrev pub row : Status → Row
@@ -116,6 +123,7 @@ row Done = record (with_code 0) {
   is_past_header = true;
   is_between_lines = true;
   is_mirrored = true;
+  is_read_whole = true;
 }
 row Usage = with_code 2
 row SourceFault = record (with_code 3) {
@@ -132,6 +140,7 @@ row SinkFault = record (with_code 4) {
   is_past_header = true;
   is_between_lines = true;
   is_mirrored = true;
+  is_read_whole = true;
 }
 row DiskFault = record (with_code 5) {
   words = λ word. true;
@@ -168,8 +177,8 @@ row AlreadyImage = record (with_code 10) { words = is_format; refuses_disk = tru
 row WrongLength = record (with_code 11) { words = is_format; refuses_disk = true }
 row Unequal = record (with_code 13) { words = is_mirror; spares_second = true }
 row NotEmpty = record (with_code 14) { words = is_load; is_past_header = true }
-row BadListing = record (with_code 15) { words = is_load; is_past_header = true }
-row TooFull = record (with_code 16) { words = is_load; is_past_header = true }
+row BadListing = record (with_code 15) { words = is_load; is_past_header = true; is_read_whole = true }
+row TooFull = record (with_code 16) { words = is_load; is_past_header = true; is_read_whole = true }
 
 -- all statuses, of which each predicate below is a filter
 abbrev pub every_status : List Status
@@ -187,6 +196,22 @@ IsOneOf status (first ∷ others) = (status ≡ first) ⊎ IsOneOf status others
 abbrev pub IsStatusOf : Subcommand → Status → Type 0
 IsStatusOf word status = IsTrue (is_among word (row status).words)
 
+-- the statuses by which one may end
+abbrev pub endings : Subcommand → List Status
+endings word = filter (λ status. is_among word (row status).words) every_status
+
+-- the same, spelled out: the most end as a check
+abbrev pub spelled : Subcommand → List Status
+spelled Format = Done ∷ DiskFault ∷ NoMemory ∷ AlreadyImage ∷ WrongLength ∷ []
+spelled Wipe = Done ∷ DiskFault ∷ NoMemory ∷ []
+spelled Upgrade = Done ∷ DiskFault ∷ NotImage ∷ Damaged ∷ NoMemory ∷ []
+spelled Mirror = Done ∷ SinkFault ∷ DiskFault ∷ NotImage ∷ Damaged ∷ NoMemory ∷ Unequal ∷ []
+spelled Run = Done ∷ SourceFault ∷ SinkFault ∷ DiskFault ∷ TooLong ∷ NotImage ∷ Damaged ∷ NoMemory ∷ []
+spelled Session = Done ∷ SourceFault ∷ SinkFault ∷ DiskFault ∷ TooLong ∷ NotImage ∷ Damaged ∷ NoMemory ∷ []
+spelled Load = Done ∷ SourceFault ∷ SinkFault ∷ DiskFault ∷ TooLong ∷ NotImage ∷ Damaged ∷ NoMemory ∷ NotEmpty
+    ∷ BadListing ∷ TooFull ∷ []
+spelled word = Done ∷ SinkFault ∷ DiskFault ∷ NotImage ∷ Damaged ∷ NoMemory ∷ []
+
 -- how a call with this subcommand may end, once its image was taken
 abbrev pub IsEndOf : Subcommand → Status → Type 0
 IsEndOf word status = IsTrue (is_among word (row status).words && not (row status).refuses_image)
@@ -195,6 +220,19 @@ IsEndOf word status = IsTrue (is_among word (row status).words && not (row statu
 abbrev pub IsStopOf : Subcommand → Status → Type 0
 IsStopOf word status =
     IsTrue (is_among word (row status).words && not (row status).refuses_image && not (row status).is_done)
+
+-- A load loaded nothing, and no call on its disk failed: the image stays that of the tree that it was.
+abbrev pub LoadsNothing : Status → Type 0
+LoadsNothing status = IsTrue (is_among Load (row status).words && not (row status).refuses_image
+    && not (row status).is_done && spares_disk (row status).failed)
+
+-- it may end so before its listing is judged
+abbrev pub EndsBeforeListing : Status → Type 0
+EndsBeforeListing status = IsTrue (is_among Load (row status).words && not (row status).refuses_image
+    && not (row status).is_read_whole)
+
+abbrev pub IsReadWhole : Status → Type 0
+IsReadWhole status = IsTrue (row status).is_read_whole
 
 -- they were all carried out, and summed up
 abbrev pub IsSummed : Status → Type 0

@@ -14,6 +14,7 @@ mod outcome;
 mod report;
 mod scrub;
 mod status;
+pub mod table;
 mod wipe;
 
 pub use check::check_disk;

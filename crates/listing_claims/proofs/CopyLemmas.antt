@@ -43,7 +43,7 @@ copies_image t p disk lines empty source sink copied short listing represents no
   same = λ dumped loaded. (image dumped loaded).bytes ∙ sym (dump.stands (inl dumped)).layout_is;
   complete = λ dumped spared.
       let source_spared = spared.source_spared in
-      load.complete refl t (lists dumped) represents.fits.room
+      load.tells.complete t (record { empty = refl; lists = lists dumped; room = represents.fits.room })
       (subst (λ (text : List ℕ). length text ≤ script_limit) (sym (text dumped))
       (short t p represents.names.in_range (under t p (bytes_of disk) represents) represents.fits))
       spared.disk_spared (λ rose. absurd (omega (arith, source_spared, rose)));
@@ -83,8 +83,8 @@ pub loads_as_run : (p : Parameters) (loaded run : Disk) (source other : SourceMe
     → LoadsAsRun source.left p run_sink both
 loads_as_run p loaded run source other sink run_sink both law same load answers = record {
   same = λ done ended.
-      let some = (load.done done).1 in
-      ((load.loads refl some.0 some.1).loaded done).layout_is
+      let some = load.tells.done done in
+      ((load.loads refl some.0 some.1.lists).loaded done).layout_is
       ∙ sym (subst (λ (t : Tree). HasImage both.run.disk t p) (runs done).tree (image ended)).bytes;
   answered = λ done ended.
       answers.replied ended
@@ -94,13 +94,11 @@ loads_as_run p loaded run source other sink run_sink both law same load answers 
 }
   where
     -- what a run of the lines does
-    runs : (done : both.load.status ≡ statuses.Done) → RunsListing ((load.done done).1).0 p source.left
+    runs : (done : both.load.status ≡ statuses.Done) → RunsListing (load.tells.done done).0 p source.left
     runs done =
-        let some = (load.done done).1 in
-        law some.0 p source.left some.1.under (record {
-          room = (load.loads refl some.0 some.1).room done;
-          bare = some.1.under.bare;
-        }) some.1.listing
+        let some = load.tells.done done in
+        let lists = some.1.lists in
+        law some.0 p source.left lists.under (record { room = some.1.room; bare = lists.under.bare }) lists.listing
 
     image : both.run.status ≡ statuses.Done → HasImage both.run.disk (tree_after empty_tree (lines source.left) p) p
     image ended = subst (λ (script : List ℕ). HasImage both.run.disk (tree_after empty_tree (lines script) p) p)

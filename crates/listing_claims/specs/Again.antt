@@ -17,6 +17,7 @@ pub record CopiesImage (t : Tree) (p : Parameters) (empty : Disk) (copied : Copi
   pub image : copied.dump.status ≡ statuses.Done → copied.load.status ≡ statuses.Done → HasImage copied.load.disk t p
   pub same : copied.dump.status ≡ statuses.Done → copied.load.status ≡ statuses.Done
       → bytes_of copied.load.disk ≡ bytes_of copied.dump.disk
-  -- a whole dump is loaded where neither the disk nor the source of the load failed and memory was there
+  -- a whole dump is loaded where neither the disk nor the source of the load failed and memory was there: no dump is
+  -- too long
   pub complete : copied.dump.status ≡ statuses.Done → SparesLoad empty copied
       → (copied.load.status ≡ statuses.Done) ⊎ (copied.load.status ≡ statuses.NoMemory)

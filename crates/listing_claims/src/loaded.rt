@@ -16,11 +16,10 @@ use std::alloc::Global;
 use store_base::NoMemory;
 use store_top::top;
 
-/// Loads a listing into an image. With status 0 the image was empty, the lines are those of the dump of a tree, and the
-/// image is that of this tree, by one commit. 14 comes exactly where the image was not empty, and then nothing was
-/// taken from the source; 15 exactly where the lines are the dump of no tree; 16 exactly where the tree has more pages
-/// than the image has slots, and then both numbers are printed. After each of these the image is that of the tree that
-/// it had. However the load ends, and whenever a crash comes, all of the tree is loaded or nothing of it.
+/// Loads a listing into an image. With status 0 the lines are those of the dump of a tree that could be loaded
+/// (`CanBeLoaded`), and the image is that of this tree, by one commit. `TellsLoad` says exactly where each status comes
+/// that refuses the image or the listing. After these the image is that of the tree that it had. However the load ends,
+/// and whenever a crash comes, all of the tree is loaded or nothing of it.
 ///
 /// On bytes that are the image of no tree it does nothing, as a run, and takes nothing either.
 ///

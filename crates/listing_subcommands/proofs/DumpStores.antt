@@ -30,18 +30,6 @@ pub record HasWritten (old new text left : List ℕ) : Type 0 where
   pub text_is : text ≡ part ++ left
   pub written : new ≡ old ++ part
 
-pub none_written : (old text : List ℕ) → HasWritten old old text text
-none_written old text = record { part = []; text_is = refl; written = sym (append-nil old) }
-
--- one more part is written
-pub more_written : (old mid new text left part rest : List ℕ) → HasWritten old mid text left → left ≡ part ++ rest
-    → new ≡ mid ++ part → HasWritten old new text rest
-more_written old mid new text left part rest has left_is more = record {
-  part = has.part ++ part;
-  text_is = has.text_is ∙ ap (λ (xs : List ℕ). has.part ++ xs) left_is ∙ sym (append_assoc has.part part rest);
-  written = more ∙ ap (λ (xs : List ℕ). xs ++ part) has.written ∙ append_assoc old has.part part;
-}
-
 -- or a front of what is left
 pub front_written : (old mid new text left : List ℕ) → HasWritten old mid text left → AppendsPrefix mid new left
     → AppendsPrefix old new text
@@ -63,11 +51,6 @@ longer_front old new part rest text is front = record {
   appended = front.appended;
 }
 
--- nothing is left
-pub all_written : (old new text : List ℕ) → HasWritten old new text [] → new ≡ old ++ text
-all_written old new text has = has.written
-    ∙ ap (λ (xs : List ℕ). old ++ xs) (sym (append-nil has.part) ∙ sym has.text_is)
-
 -- the whole text is written, and no byte behind it
 pub none_behind : {T E : Type 0} (first old new : SinkState) (text : List ℕ) (result : Result T E)
     → old.written ≡ first.written ++ text → PutsBytes old new [] result → PutsBytes first new text result
@@ -88,22 +71,6 @@ empty_front old text = record { part = []; rest = text; is_prefix = refl; append
 -- ---- the store
 
 module _ {D : Type 0} (disk_of : D → DiskState) where
-  -- nothing was called
-  pub keeps_still : {T : Type 0} (store : StoreState D) (sink : SinkState) (value : T)
-      → (disks.IsObservable (disk_of store.disk) → IsSound (disk_of store.disk)) → store.is_stopped ≡ false
-      → KeepsStore disk_of store store sink sink (Ok value)
-  keeps_still store sink value sound runs = record {
-    tree = refl;
-    params = refl;
-    fault = tt;
-    runs = runs;
-    disk_kept = keeps_itself (disk_of store.disk);
-    disk_faults = refl;
-    reads = λ o. ReadsOnly-refl (disk_of store.disk) (sound o);
-    sink_observable = refl;
-    sink_faults = refl;
-  }
-
   -- one part behind another
   pub keeps_behind : {T U : Type 0} (old mid new : StoreState D) (first between last : SinkState) (value : T)
       (result : Result U Status)
@@ -121,93 +88,6 @@ module _ {D : Type 0} (disk_of : D → DiskState) where
     sink_observable = two.sink_observable ∙ one.sink_observable;
     sink_faults = two.sink_faults ∙ ap (sink_faults_by (status_so_far result)) one.sink_faults;
   }
-
-  -- the same, of which another value is told
-  pub keeps_as : {T U : Type 0} (old new : StoreState D) (sink sink_new : SinkState) (value : T) (other : U)
-      → KeepsStore disk_of old new sink sink_new (Ok value) → KeepsStore disk_of old new sink sink_new (Ok other)
-  keeps_as old new sink sink_new value other kept = record {
-    tree = kept.tree;
-    params = kept.params;
-    fault = tt;
-    runs = kept.runs;
-    disk_kept = kept.disk_kept;
-    disk_faults = kept.disk_faults;
-    reads = kept.reads;
-    sink_observable = kept.sink_observable;
-    sink_faults = kept.sink_faults;
-  }
-
-  -- and the same fault, of which no value is told
-  pub fault_as : {T U : Type 0} (old new : StoreState D) (sink sink_new : SinkState) (status : Status)
-      → KeepsStore {T = T} disk_of old new sink sink_new (Err status)
-      → KeepsStore {T = U} disk_of old new sink sink_new (Err status)
-  fault_as old new sink sink_new status kept = record {
-    tree = kept.tree;
-    params = kept.params;
-    fault = kept.fault;
-    runs = tt;
-    disk_kept = kept.disk_kept;
-    disk_faults = kept.disk_faults;
-    reads = kept.reads;
-    sink_observable = kept.sink_observable;
-    sink_faults = kept.sink_faults;
-  }
-
-  -- ---- a step of the store that keeps its tree
-
-  module _ {A : Type 0} (next : Tree) (IsAnswer : A → Type 0) (old new : StoreState D) (sink : SinkState)
-      (runs : old.is_stopped ≡ false) (same : next ≡ old.tree) where
-    step_reads : (result : Result A ApplyFault) → StepsStore disk_of next IsAnswer old new result
-        → disks.IsObservable (disk_of old.disk) → ReadsOnly (disk_of old.disk) (disk_of new.disk)
-    step_reads result steps o = (steps.observed o runs).still same
-
-    pub keeps_answered : {T : Type 0} (answer : A) (value : T) → StepsStore disk_of next IsAnswer old new (Ok answer)
-        → KeepsStore disk_of old new sink sink (Ok value)
-    keeps_answered answer value steps = record {
-      tree = by_told (disk_of old.disk).is_observable refl;
-      params = steps.params;
-      fault = tt;
-      runs = steps.runs runs (λ e. absurd (cc));
-      disk_kept = steps.kept;
-      disk_faults = steps.faults;
-      reads = step_reads (Ok answer) steps;
-      sink_observable = refl;
-      sink_faults = refl;
-    }
-      where
-        by_told : (b : Bool) → (disk_of old.disk).is_observable ≡ b → new.tree ≡ old.tree
-        by_told true o = steps.tree o ∙ same
-        by_told false h = steps.hidden (λ o. false≢true (sym h ∙ o))
-
-    pub keeps_faulted : {T : Type 0} (fault : ApplyFault) → StepsStore disk_of next IsAnswer old new (Err fault)
-        → KeepsStore {T = T} disk_of old new sink sink (Err (apply_status fault))
-    keeps_faulted fault steps = by_fault fault steps
-      where
-        by_fault : {T : Type 0} (f : ApplyFault) → StepsStore disk_of next IsAnswer old new (Err f)
-            → KeepsStore {T = T} disk_of old new sink sink (Err (apply_status f))
-        by_fault apply.Disk s = record {
-          tree = s.fault;
-          params = s.params;
-          fault = Disk;
-          runs = tt;
-          disk_kept = s.kept;
-          disk_faults = s.faults;
-          reads = step_reads (Err apply.Disk) s;
-          sink_observable = refl;
-          sink_faults = refl;
-        }
-        by_fault apply.NoMemory s = record {
-          tree = s.fault;
-          params = s.params;
-          fault = NoMemory;
-          runs = tt;
-          disk_kept = s.kept;
-          disk_faults = s.faults;
-          reads = step_reads (Err apply.NoMemory) s;
-          sink_observable = refl;
-          sink_faults = refl;
-        }
-        by_fault apply.Stopped s = absurd (false≢true (sym runs ∙ s.stopped.0 refl))
 
   -- ---- a line
 

@@ -1,13 +1,8 @@
-pub mod AttributeSpots
+pub mod DrainedDumps
 pub mod GatheredDumps
 pub mod DumpEnds
 pub mod DumpStores
-pub mod LeftLemmas
 pub mod LoadCalls
 pub mod LoadEnds
 pub mod LineLemmas
-pub mod NodeLemmas
-pub mod PieceLemmas
-pub mod ReadLemmas
-pub mod SpotLemmas
-pub mod ReadingLines
+pub mod ReadListings

@@ -17,10 +17,6 @@ use Rattle.dump_streams.specs.Gathered.{Gathered, gathered_state}
 use Rattle.dump_streams.specs.GatheredLines.{lines_state, GathersLine}
 use Rattle.listing_subcommands.specs.Dumping.{KeepsSink, line_ended}
 
-one_line : (s : DumpStep) → step_line s ≡ steps_text (s ∷ [])
-unfolding steps_text
-one_line s = sym (append-nil (step_line s))
-
 -- what holds where a line was gathered
 pub told_flushed : (put : Result (Unit {0}) TakerFault) (P : Type 0) → OnOk put P → OnOk (line_ended put) P
 told_flushed (Ok value) P holds = holds
@@ -55,31 +51,3 @@ module _ {W : Type 0} (sink_of : W → SinkState) (old new : GatheredLines W) wh
           ∙ sym (append-nil (lines_state sink_of old).written);
     };
   }
-
-  pub line_puts : (s : DumpStep) (put : Result (Unit {0}) TakerFault)
-      → GathersLine sink_of old new (step_line s) put → IsObservable (lines_state sink_of old)
-      → PutsBytes (lines_state sink_of old) (lines_state sink_of new) (steps_text (s ∷ [])) (line_ended put)
-  line_puts s put is told = subst (λ (text : List ℕ). PutsBytes (lines_state sink_of old)
-      (lines_state sink_of new) text (line_ended put)) (one_line s)
-      (text_puts (step_line s) put is told)
-
-module _ {T E : Type 0} (old new : SinkState) (result : Result T E) where
-  -- the line of bytes that were read
-  pub read_put : (path : Path) (at : ℕ) (bytes read slice : List ℕ) (reply : Reply)
-      → PutsBytes old new (steps_text (Write path at slice ∷ [])) result → slice ≡ read → reply ≡ replies.Bytes read
-      → reply_of reply ≡ Content bytes
-      → PutsBytes old new (steps_text (Write path at bytes ∷ [])) result
-  read_put path at bytes read slice reply puts slice_is reply_is content =
-      let told_same : Content read ≡ Content bytes = ap reply_of (sym reply_is) ∙ content in
-      let same : read ≡ bytes = cc in
-      subst (λ xs. PutsBytes old new (steps_text (Write path at xs ∷ [])) result) (slice_is ∙ same) puts
-
-  -- and that of an attribute, by its value
-  pub attribute_put : (path : Path) (name : Name) (bytes found copy value : List ℕ)
-      → PutsBytes old new (steps_text (Set path name copy ∷ [])) result → copy ≡ found
-      → value ≡ attribute_value found → value ≡ attribute_value bytes
-      → PutsBytes old new (steps_text (Set path name bytes ∷ [])) result
-  attribute_put path name bytes found copy value puts copy_is value_is is =
-      let same_value : attribute_value found ≡ attribute_value bytes = sym value_is ∙ is in
-      let same : found ≡ bytes = cc in
-      subst (λ xs. PutsBytes old new (steps_text (Set path name xs ∷ [])) result) (copy_is ∙ same) puts

@@ -1,5 +1,5 @@
 -- What a call of `load` promises, whether it had a store or not.
-use Rattle.std.proofs.Common.{◌≡◌, ℕ, ◌<◌, ◌≤◌, Bool, false, List, [], ◌++◌, length, Result, Ok, Err, IfOk, refl}
+use Rattle.std.proofs.Common.{◌≡◌, ℕ, ◌<◌, ◌≤◌, Bool, List, [], ◌++◌, length, Result, Ok, Err, IfOk, refl}
 use Rattle.std.proofs.Common.{sym, ap, subst, ◌∙◌, arith, inl, inr, ⊎_elim, length-append}
 use Rattle.std.proofs.lemmas.Bool.{false≢true, cases_lt}
 use Rattle.store_model.specs.declared.refusal.Refusal.TheVariants.{Full}
@@ -18,7 +18,6 @@ use Rattle.script_lines.specs.declared.fault.SinkFault.{SinkFault}
 use Rattle.script_lines.specs.SourceState.{SourceState}
 use Rattle.script_lines.specs.SourceState as sources
 use Rattle.script_lines.specs.SinkState.{SinkState, AppendsPrefix, IsPut}
-use Rattle.script_lines.specs.LineState.{LineState}
 use Rattle.image_check.specs.declared.fault.ApplyFault.{ApplyFault}
 use Rattle.image_check.specs.declared.fault.ApplyFault.TheVariants as apply
 use Rattle.image_check.specs.declared.fault.AttachFault.{AttachFault}
@@ -41,7 +40,7 @@ use Rattle.image_subcommands.specs.declared.status.Status.TheVariants as statuse
 use Rattle.image_subcommands.specs.Endings.{attach_status}
 use Rattle.image_subcommands.specs.Limits.{KeepsLimit}
 use Rattle.image_subcommands.specs.Outside.{outside_of}
-use Rattle.image_subcommands.specs.Statuses.{Subcommand as words, IsEndOf, done_of_work}
+use Rattle.image_subcommands.specs.Statuses.{Subcommand as words, IsEndOf, IsReadWhole, done_of_work}
 use Rattle.image_subcommands.specs.Statuses.{disk_faults_by, source_faults_by, sink_faults_by}
 use Rattle.image_subcommands.proofs.ReportLemmas.{rose}
 use Rattle.image_work.specs.Works.{IsReady, around, idle_with, IsUnopened, WorksOnStore}
@@ -49,11 +48,10 @@ use Rattle.image_work.proofs.OpeningEnds.{never_behind, none_done, memory_only, 
 use Rattle.listing_subcommands.specs.Filling.{SparesStore, EndsReading, LoadsRead, FillsStore, filled_by}
 use Rattle.listing_subcommands.specs.Filling.{full_status, PrintsFilled}
 use Rattle.listing_subcommands.specs.Filling.{FillsStore as fills}
-use Rattle.listing_subcommands.specs.Listings.{HasListed, IsReadFault}
-use Rattle.listing_subcommands.specs.LoadCall.{IsReadWhole, Lists, full_text, LoadsTree, LoadsFrom, KeepsLoad}
-use Rattle.listing_subcommands.specs.LoadCall.{LoadsAt}
-use Rattle.listing_subcommands.proofs.LoadEnds.{Tells, first_loads, not_loaded, keeps_opened}
-use Rattle.listing_subcommands.proofs.LoadEnds.{keeps_unopened, loads_tree, tells_first, tells_not_empty}
+use Rattle.listing_subcommands.specs.Listings.{HoldsListing, IsReadFault}
+use Rattle.listing_subcommands.specs.LoadCall.{Lists, CanBeLoaded, TellsLoad, full_text, LoadsTree, LoadsFrom}
+use Rattle.listing_subcommands.specs.LoadCall.{KeepsLoad, LoadsAt}
+use Rattle.listing_subcommands.proofs.LoadEnds.{keeps_opened, keeps_unopened, loads_tree, tells_first, tells_not_empty}
 use Rattle.listing_subcommands.proofs.LoadEnds.{tells_source_fault, tells_too_long, tells_bad, tells_done}
 use Rattle.listing_subcommands.proofs.LoadEnds.{tells_too_full, tells_unprinted, from_kept, from_loaded}
 
@@ -90,17 +88,11 @@ too_large disk_of sound store t need slots ready more need_is slots_are =
 not_done : (fault : AttachFault) → attach_status fault ≡ statuses.Done → ⊥
 not_done fault e = never_behind fault statuses.Done refl e
 
--- the ends at which the source was read to its end are four
-never_whole : (status : Status) → (status ≡ statuses.Done → ⊥) → (status ≡ statuses.SinkFault → ⊥)
-    → (status ≡ statuses.BadListing → ⊥) → (status ≡ statuses.TooFull → ⊥) → IsReadWhole status → ⊥
-never_whole status done unprinted bad full whole =
-    ⊎_elim done (λ more. ⊎_elim unprinted (λ last. ⊎_elim bad full last) more) whole
-
 not_whole : (fault : AttachFault) → IsReadWhole (attach_status fault) → ⊥
-not_whole faults.Disk whole = never_whole statuses.DiskFault (λ e. cc) (λ e. cc) (λ e. cc) (λ e. cc) whole
-not_whole faults.NoMemory whole = never_whole statuses.NoMemory (λ e. cc) (λ e. cc) (λ e. cc) (λ e. cc) whole
-not_whole faults.NotImage whole = never_whole statuses.NotImage (λ e. cc) (λ e. cc) (λ e. cc) (λ e. cc) whole
-not_whole faults.Damaged whole = never_whole statuses.Damaged (λ e. cc) (λ e. cc) (λ e. cc) (λ e. cc) whole
+not_whole faults.Disk whole = false≢true whole
+not_whole faults.NoMemory whole = false≢true whole
+not_whole faults.NotImage whole = false≢true whole
+not_whole faults.Damaged whole = false≢true whole
 
 module _ {D R W : Type 0} (disk_of : D → DiskState) (source_of : R → SourceState) (sink_of : W → SinkState) where
   -- The call had no store.
@@ -159,53 +151,53 @@ too_long_by old new keeps within =
 
 module _ {D R W : Type 0} (disk_of : D → DiskState) (source_of : R → SourceState) (sink_of : W → SinkState)
     (sound : (disk : D) → disks.IsObservable (disk_of disk) → IsSound (disk_of disk))
-    (store : StoreState D) (reader : LineState R) (sink : W) (ready : IsReady disk_of store) where
+    (store : StoreState D) (source : R) (sink : W) (ready : IsReady disk_of store) where
   abbrev script : List ℕ
-  script = (source_of reader.source).left
+  script = (source_of source).left
 
   abbrev Attached : D → Type 0
   Attached disk = IsAttached disk_of (disk_of disk) store
 
-  abbrev after_load : Status → StoreState D → LineState R → W → Outcome D R W
-  after_load status store_new reader_new sink_new = record {
+  abbrev after_load : Status → StoreState D → R → W → Outcome D R W
+  after_load status store_new source_new sink_new = record {
     status = status;
     done = done_of_work status;
     disk = store_new.disk;
-    source = reader_new.source;
+    source = source_new;
     sink = sink_new;
   }
 
-  abbrev Ends : Status → StoreState D → LineState R → W → Type 0
-  Ends status store_new reader_new sink_new =
+  abbrev Ends : Status → StoreState D → R → W → Type 0
+  Ends status store_new source_new sink_new =
       WorksOnStore disk_of source_of sink_of words.Load (KeepsLoad disk_of source_of sink_of)
-      (LoadsAt disk_of source_of sink_of) (reader.source, sink) store (after_load status store_new reader_new sink_new)
+      (LoadsAt disk_of source_of sink_of) (source, sink) store (after_load status store_new source_new sink_new)
 
-  abbrev Loaded : D → Status → StoreState D → LineState R → W → Type 0
-  Loaded disk status store_new reader_new sink_new =
-      LoadsFrom disk_of source_of sink_of store.tree store.params script (outside_of disk reader.source sink)
-      (after_load status store_new reader_new sink_new)
+  abbrev Loaded : D → Status → StoreState D → R → W → Type 0
+  Loaded disk status store_new source_new sink_new =
+      LoadsFrom disk_of source_of sink_of store.tree store.params script (outside_of disk source sink)
+      (after_load status store_new source_new sink_new)
 
-  abbrev TellsOf : D → Status → StoreState D → LineState R → W → Type 0
-  TellsOf disk status store_new reader_new sink_new =
-      Tells store.tree store.params script status (disk_of disk) (disk_of store_new.disk) (source_of reader.source)
-      (source_of reader_new.source) (sink_of sink) (sink_of sink_new)
+  abbrev TellsOf : D → Status → StoreState D → R → W → Type 0
+  TellsOf disk status store_new source_new sink_new =
+      TellsLoad store.tree store.params script status (disk_of disk) (disk_of store_new.disk) (source_of source)
+      (source_of source_new) (sink_of sink) (sink_of sink_new)
 
   -- the disk that was opened tells its bytes where that before did
   told : (disk : D) → Attached disk → disks.IsObservable (disk_of disk) → disks.IsObservable (disk_of store.disk)
   told disk attached o = attached.kept.observable ∙ o
 
-  module _ (status : Status) (store_new : StoreState D) (reader_new : LineState R) (sink_new : W) where
+  module _ (status : Status) (store_new : StoreState D) (source_new : R) (sink_new : W) where
     -- nothing was written
     kept_loads : Still (disk_of store.disk) (disk_of store_new.disk) → (status ≡ statuses.Done → ⊥) → (disk : D)
-        → Attached disk → TellsOf disk status store_new reader_new sink_new → disks.IsObservable (disk_of disk)
-        → Loaded disk status store_new reader_new sink_new
+        → Attached disk → TellsOf disk status store_new source_new sink_new → disks.IsObservable (disk_of disk)
+        → Loaded disk status store_new source_new sink_new
     kept_loads still not_done disk attached tells o =
         let mid = disk_of store.disk in
         let new = disk_of store_new.disk in
         let opened = attached.observed o in
         let reads = still.reads (told disk attached o) in
-        from_kept disk_of source_of sink_of store.tree store.params script (outside_of disk reader.source sink)
-        (after_load status store_new reader_new sink_new) tells not_done
+        from_kept disk_of source_of sink_of store.tree store.params script (outside_of disk source sink)
+        (after_load status store_new source_new sink_new) tells not_done
         (keeps_opened store.tree store.params status (disk_of disk) new mid ready.fitting opened reads)
         (λ e. inl (stands_reading mid new store.tree store.params reads opened.stands))
 
@@ -213,16 +205,16 @@ module _ {D R W : Type 0} (disk_of : D → DiskState) (source_of : R → SourceS
     quiet_ends : IsEndOf words.Load status → Still (disk_of store.disk) (disk_of store_new.disk) → sink_new ≡ sink
         → (disk_of store.disk).faults ≡ disk_faults_by status (disk_of store.disk).faults
         → (sink_of sink).faults ≡ sink_faults_by status (sink_of sink).faults
-        → (source_of reader_new.source).is_observable ≡ (source_of reader.source).is_observable
-        → (source_of reader_new.source).faults ≡ source_faults_by status (source_of reader.source).faults
-        → (sources.IsObservable (source_of reader.source)
-        → KeepsLimit status (source_of reader.source) (source_of reader_new.source))
-        → (sources.IsObservable (source_of reader.source) → IsReadWhole status
-        → (source_of reader_new.source).left ≡ [])
-        → (status ≡ statuses.NotEmpty → reader_new.source ≡ reader.source) → (status ≡ statuses.Done → ⊥)
+        → (source_of source_new).is_observable ≡ (source_of source).is_observable
+        → (source_of source_new).faults ≡ source_faults_by status (source_of source).faults
+        → (sources.IsObservable (source_of source)
+        → KeepsLimit status (source_of source) (source_of source_new))
+        → (sources.IsObservable (source_of source) → IsReadWhole status
+        → (source_of source_new).left ≡ [])
+        → (status ≡ statuses.NotEmpty → source_new ≡ source) → (status ≡ statuses.Done → ⊥)
         → ((disk : D) → Attached disk → disks.IsObservable (disk_of disk)
-        → sources.IsObservable (source_of reader.source) → TellsOf disk status store_new reader_new sink_new)
-        → Ends status store_new reader_new sink_new
+        → sources.IsObservable (source_of source) → TellsOf disk status store_new source_new sink_new)
+        → Ends status store_new source_new sink_new
     quiet_ends ends still printed disk_count sink_count observable count limit whole not_taken not_done tells = record {
       ends = ends;
       outside = record {
@@ -263,118 +255,118 @@ module _ {D R W : Type 0} (disk_of : D → DiskState) (source_of : R → SourceS
       (λ e. room) (used_between t store.params (fitting_under t store.params empty_fits under room))
 
   -- the status and the sink of an end, by other names
-  at_end : (store_new : StoreState D) (reader_new : LineState R) (known status : Status) (sink_new : W) → status ≡ known
-      → sink_new ≡ sink → Ends known store_new reader_new sink → Ends status store_new reader_new sink_new
-  at_end store_new reader_new known status sink_new same printed ends =
-      subst (λ (s : Status). Ends s store_new reader_new sink_new) (sym same)
-      (subst (λ (w : W). Ends known store_new reader_new w) (sym printed) ends)
+  at_end : (store_new : StoreState D) (source_new : R) (known status : Status) (sink_new : W) → status ≡ known
+      → sink_new ≡ sink → Ends known store_new source_new sink → Ends status store_new source_new sink_new
+  at_end store_new source_new known status sink_new same printed ends =
+      subst (λ (s : Status). Ends s store_new source_new sink_new) (sym same)
+      (subst (λ (w : W). Ends known store_new source_new w) (sym printed) ends)
 
   still_here : Still (disk_of store.disk) (disk_of store.disk)
   still_here = still_itself (disk_of store.disk) (sound store.disk)
 
   -- the store holds a tree, and nothing was called
-  spared : SparesStore disk_of source_of store store reader reader → Ends statuses.NotEmpty store reader sink
+  spared : SparesStore disk_of source_of store store source source → Ends statuses.NotEmpty store source sink
   spared spares =
-      quiet_ends statuses.NotEmpty store reader sink refl still_here refl refl refl refl refl
+      quiet_ends statuses.NotEmpty store source sink refl still_here refl refl refl refl refl
       (λ os. record {
         too_long = λ e. absurd (cc);
         within = λ h. (0, omega arith, record { taken = []; taken_is = refl; count_is = refl });
         whole = λ e. absurd (cc);
       })
-      (λ os whole. absurd (never_whole statuses.NotEmpty (λ e. cc) (λ e. cc) (λ e. cc) (λ e. cc) whole))
+      (λ os whole. absurd (false≢true whole))
       (λ e. refl) (λ e. cc)
       (λ disk attached o os. tells_not_empty store.tree store.params script (disk_of disk) (disk_of store.disk)
-      (source_of reader.source) (source_of reader.source) (sink_of sink) (sink_of sink)
+      (source_of source) (source_of source) (sink_of sink) (sink_of sink)
       (spares.holds (told disk attached o)))
 
-  -- a fault ended the reading: a take failed, the script is too long, or memory ran out
-  abbrev Stops : Status → LineState R → Type 0
-  Stops status reader_new = EndsReading disk_of source_of store store reader reader_new (Err status)
+  -- the reading came to nothing: a take failed, the script is too long, memory ran out, or it is no listing
+  abbrev Stops : Status → R → Type 0
+  Stops status source_new = EndsReading disk_of source_of store store source source_new status
 
-  stopped_source : (reader_new : LineState R) → Stops statuses.SourceFault reader_new
-      → Ends statuses.SourceFault store reader_new sink
-  stopped_source reader_new ended =
+  stopped_source : (source_new : R) → Stops statuses.SourceFault source_new
+      → Ends statuses.SourceFault store source_new sink
+  stopped_source source_new ended =
       let reads = ended.reads in
-      quiet_ends statuses.SourceFault store reader_new sink refl still_here refl refl refl
+      quiet_ends statuses.SourceFault store source_new sink refl still_here refl refl refl
       reads.observable reads.faults reads.limit
-      (λ os whole. absurd (never_whole statuses.SourceFault (λ e. cc) (λ e. cc) (λ e. cc) (λ e. cc) whole))
+      (λ os whole. absurd (false≢true whole))
       (λ e. absurd (cc)) (λ e. cc)
       (λ disk attached o os. tells_source_fault store.tree store.params script (disk_of disk) (disk_of store.disk)
-      (source_of reader.source) (source_of reader_new.source) (sink_of sink) (sink_of sink) ended.empty
-      (rose (source_of reader.source).faults (source_of reader_new.source).faults reads.faults))
+      (source_of source) (source_of source_new) (sink_of sink) (sink_of sink) ended.empty
+      (rose (source_of source).faults (source_of source_new).faults reads.faults))
 
-  stopped_long : (reader_new : LineState R) → Stops statuses.TooLong reader_new
-      → Ends statuses.TooLong store reader_new sink
-  stopped_long reader_new ended =
+  stopped_long : (source_new : R) → Stops statuses.TooLong source_new
+      → Ends statuses.TooLong store source_new sink
+  stopped_long source_new ended =
       let reads = ended.reads in
-      quiet_ends statuses.TooLong store reader_new sink refl still_here refl refl refl
+      quiet_ends statuses.TooLong store source_new sink refl still_here refl refl refl
       reads.observable reads.faults reads.limit
-      (λ os whole. absurd (never_whole statuses.TooLong (λ e. cc) (λ e. cc) (λ e. cc) (λ e. cc) whole))
+      (λ os whole. absurd (false≢true whole))
       (λ e. absurd (cc)) (λ e. cc)
       (λ disk attached o os. tells_too_long store.tree store.params script (disk_of disk) (disk_of store.disk)
-      (source_of reader.source) (source_of reader_new.source) (sink_of sink) (sink_of sink) ended.empty
-      (too_long_by (source_of reader.source) (source_of reader_new.source) (reads.limit os)))
+      (source_of source) (source_of source_new) (sink_of sink) (sink_of sink) ended.empty
+      (too_long_by (source_of source) (source_of source_new) (reads.limit os)))
 
-  stopped_short : (reader_new : LineState R) → Stops statuses.NoMemory reader_new
-      → Ends statuses.NoMemory store reader_new sink
-  stopped_short reader_new ended =
+  stopped_short : (source_new : R) → Stops statuses.NoMemory source_new
+      → Ends statuses.NoMemory store source_new sink
+  stopped_short source_new ended =
       let reads = ended.reads in
-      quiet_ends statuses.NoMemory store reader_new sink refl still_here refl refl refl
+      quiet_ends statuses.NoMemory store source_new sink refl still_here refl refl refl
       reads.observable reads.faults reads.limit
-      (λ os whole. absurd (never_whole statuses.NoMemory (λ e. cc) (λ e. cc) (λ e. cc) (λ e. cc) whole))
+      (λ os whole. absurd (false≢true whole))
       (λ e. absurd (cc)) (λ e. cc)
       (λ disk attached o os. tells_first store.tree store.params script (disk_of disk) (disk_of store.disk)
-      (source_of reader.source)
-      (source_of reader_new.source) (sink_of sink) (sink_of sink) statuses.NoMemory refl (λ whole. refl))
-
-  stopped_by : (status known : Status) (reader_new : LineState R) → status ≡ known
-      → (Stops known reader_new → Ends known store reader_new sink) → Stops status reader_new
-      → Ends status store reader_new sink
-  stopped_by status known reader_new same ends ended =
-      subst (λ (s : Status). Ends s store reader_new sink) (sym same)
-      (ends (subst (λ (s : Status). Stops s reader_new) same ended))
-
-  stopped : (status : Status) (reader_new : LineState R) → IsReadFault status → Stops status reader_new
-      → Ends status store reader_new sink
-  stopped status reader_new (inl same) ended =
-      stopped_by status statuses.SourceFault reader_new same (stopped_source reader_new) ended
-  stopped status reader_new (inr (inl same)) ended =
-      stopped_by status statuses.TooLong reader_new same (stopped_long reader_new) ended
-  stopped status reader_new (inr (inr same)) ended =
-      stopped_by status statuses.NoMemory reader_new same (stopped_short reader_new) ended
+      (source_of source)
+      (source_of source_new) (sink_of sink) (sink_of sink) statuses.NoMemory refl (λ whole. refl))
 
   -- it is no listing
-  refused : (reader_new : LineState R) → EndsReading disk_of source_of store store reader reader_new (Ok false)
-      → Ends statuses.BadListing store reader_new sink
-  refused reader_new ended =
+  refused : (source_new : R) → Stops statuses.BadListing source_new → Ends statuses.BadListing store source_new sink
+  refused source_new ended =
       let reads = ended.reads in
-      quiet_ends statuses.BadListing store reader_new sink refl still_here refl refl refl reads.observable reads.faults
-      (λ os. limit_read statuses.BadListing (source_of reader.source) (source_of reader_new.source)
-      (λ e. cc) (reads.limit os))
-      (λ os whole. (reads.read os).whole)
+      quiet_ends statuses.BadListing store source_new sink refl still_here refl refl refl
+      reads.observable reads.faults reads.limit
+      (λ os whole. (reads.bad os refl).0)
       (λ e. absurd (cc)) (λ e. cc)
       (λ disk attached o os. tells_bad store.tree store.params script (disk_of disk) (disk_of store.disk)
-      (source_of reader.source)
-      (source_of reader_new.source) (sink_of sink) (sink_of sink) ended.empty
-      (λ some. (reads.read os).none some))
+      (source_of source)
+      (source_of source_new) (sink_of sink) (sink_of sink) ended.empty
+      (reads.bad os refl).1)
+
+  stopped_by : (status known : Status) (source_new : R) → status ≡ known
+      → (Stops known source_new → Ends known store source_new sink) → Stops status source_new
+      → Ends status store source_new sink
+  stopped_by status known source_new same ends ended =
+      subst (λ (s : Status). Ends s store source_new sink) (sym same)
+      (ends (subst (λ (s : Status). Stops s source_new) same ended))
+
+  stopped : (status : Status) (source_new : R) → IsReadFault status → Stops status source_new
+      → Ends status store source_new sink
+  stopped status source_new (inl same) ended =
+      stopped_by status statuses.SourceFault source_new same (stopped_source source_new) ended
+  stopped status source_new (inr (inl same)) ended =
+      stopped_by status statuses.TooLong source_new same (stopped_long source_new) ended
+  stopped status source_new (inr (inr (inl same))) ended =
+      stopped_by status statuses.NoMemory source_new same (stopped_short source_new) ended
+  stopped status source_new (inr (inr (inr same))) ended =
+      stopped_by status statuses.BadListing source_new same (refused source_new) ended
 
   -- it is one, with whose tree the store was to be loaded
-  module _ (store_new : StoreState D) (reader_new : LineState R) where
+  module _ (store_new : StoreState D) (source_new : R) where
     module _ (loaded : Result LoadAnswer ApplyFault)
-        (read : LoadsRead disk_of source_of store store_new reader reader_new loaded) where
+        (read : LoadsRead disk_of source_of store store_new source source_new loaded) where
       some_steps : Loads disk_of read.reads.some.0 store store_new loaded
       some_steps = read.loads read.reads.some.0 read.reads.some.1
 
       -- where the source tells its bytes, it is known which
-      module _ (os : sources.IsObservable (source_of reader.source)) where
-        abbrev listed : HasListed store.params read.listing script
-        listed = (read.reads.read os).listed
+      module _ (os : sources.IsObservable (source_of source)) where
+        abbrev listed : HoldsListing store.params script read.listed
+        listed = read.reads.listed os
 
         lists : Lists listed.tree store.params script
-        lists = record { under = listed.under; listing = listed.listing_is }
+        lists = listed.lists
 
         steps : Loads disk_of listed.tree store store_new loaded
-        steps = read.loads listed.tree listed.listed
+        steps = read.loads listed.tree (record { under = (listed.lists).under; held = listed.held })
 
       -- the store was not stopped
       ran : loaded ≡ Err apply.Stopped → ⊥
@@ -394,8 +386,8 @@ module _ {D R W : Type 0} (disk_of : D → DiskState) (source_of : R → SourceS
       }
 
     -- it was done
-    done : LoadsRead disk_of source_of store store_new reader reader_new (Ok answers.Done)
-        → Ends statuses.Done store_new reader_new sink
+    done : LoadsRead disk_of source_of store store_new source source_new (Ok answers.Done)
+        → Ends statuses.Done store_new source_new sink
     done read =
         let reads = read.reads in
         let some = some_steps (Ok answers.Done) read in
@@ -412,7 +404,7 @@ module _ {D R W : Type 0} (disk_of : D → DiskState) (source_of : R → SourceS
           keeps = λ disk. record {
             done = refl;
             limit = reads.limit;
-            whole = λ os whole. (reads.read os).whole;
+            whole = λ os whole. (reads.limit os).whole refl;
             not_taken = λ e. absurd (cc);
             silent = λ full fault. refl;
           };
@@ -420,26 +412,26 @@ module _ {D R W : Type 0} (disk_of : D → DiskState) (source_of : R → SourceS
               let t = (listed (Ok answers.Done) read os).tree in
               let step = steps (Ok answers.Done) read os in
               let room : page_count t store.params ≤ store.params.slots = step.answer (told disk attached o) in
-              from_loaded disk_of source_of sink_of store.tree store.params script (outside_of disk reader.source sink)
-              (after_load statuses.Done store_new reader_new sink)
+              from_loaded disk_of source_of sink_of store.tree store.params script (outside_of disk source sink)
+              (after_load statuses.Done store_new source_new sink)
               (tells_done store.tree store.params script (disk_of disk) (disk_of store_new.disk)
-              (source_of reader.source) (source_of reader_new.source) (sink_of sink) (sink_of sink) read.empty t
+              (source_of source) (source_of source_new) (sink_of sink) (sink_of sink) read.empty t
               (lists (Ok answers.Done) read os) room)
-              not_loaded (λ e. cc) read.empty t (lists (Ok answers.Done) read os) room
+              false≢true t (record { empty = read.empty; lists = lists (Ok answers.Done) read os; room = room })
               (load_changed statuses.Done store_new (Ok answers.Done) t
-              read.empty (listed (Ok answers.Done) read os).under room disk attached o
+              read.empty (lists (Ok answers.Done) read os).under room disk attached o
               (step.observed (told disk attached o) ready.runs)
               (λ e. (answers.Done, refl)));
         }
 
     -- the tree has more pages than there are slots, which was put out or not
-    module _ (need slots : ℕ) (read : LoadsRead disk_of source_of store store_new reader reader_new
+    module _ (need slots : ℕ) (read : LoadsRead disk_of source_of store store_new source source_new
         (Ok (answers.Full need slots))) where
       full_still : Still (disk_of store.disk) (disk_of store_new.disk)
       full_still = still_by (Ok (answers.Full need slots)) read (some_steps (Ok (answers.Full need slots)) read).faults
           (λ t changes answer o. changes.still (loaded_full store.params store.tree t (answer o).2))
 
-      module _ (o : disks.IsObservable (disk_of store.disk)) (os : sources.IsObservable (source_of reader.source)) where
+      module _ (o : disks.IsObservable (disk_of store.disk)) (os : sources.IsObservable (source_of source)) where
         abbrev full_tree : Tree
         full_tree = (listed (Ok (answers.Full need slots)) read os).tree
 
@@ -452,7 +444,7 @@ module _ {D R W : Type 0} (disk_of : D → DiskState) (source_of : R → SourceS
 
       full_ends : (sink_new : W) (put : Result (Unit {0}) SinkFault)
           → IsPut (sink_of sink) (sink_of sink_new) (reply_text (Refused (Full need slots))) put
-          → Ends (full_status put) store_new reader_new sink_new
+          → Ends (full_status put) store_new source_new sink_new
       full_ends sink_new (Ok value) puts =
           let reads = read.reads in
           record {
@@ -467,17 +459,17 @@ module _ {D R W : Type 0} (disk_of : D → DiskState) (source_of : R → SourceS
             };
             keeps = λ disk. record {
               done = refl;
-              limit = λ os. limit_read statuses.TooFull (source_of reader.source) (source_of reader_new.source)
+              limit = λ os. limit_read statuses.TooFull (source_of source) (source_of source_new)
                   (λ e. cc) (reads.limit os);
-              whole = λ os whole. (reads.read os).whole;
+              whole = λ os whole. (reads.limit os).whole refl;
               not_taken = λ e. absurd (cc);
               silent = λ full fault. absurd (full refl);
             };
             does = λ disk attached o os.
                 let here = told disk attached o in
-                kept_loads statuses.TooFull store_new reader_new sink_new full_still (λ e. cc) disk attached
+                kept_loads statuses.TooFull store_new source_new sink_new full_still (λ e. cc) disk attached
                 (tells_too_full store.tree store.params script (disk_of disk) (disk_of store_new.disk)
-                (source_of reader.source) (source_of reader_new.source) (sink_of sink) (sink_of sink_new) read.empty
+                (source_of source) (source_of source_new) (sink_of sink) (sink_of sink_new) read.empty
                 (full_tree here os) (lists (Ok (answers.Full need slots)) read os) (full_told here os).2
                 (λ shown. (puts.observed shown).appended
                 ∙ ap (λ xs. (sink_of sink).written ++ xs) (full_line here os))) o;
@@ -496,53 +488,53 @@ module _ {D R W : Type 0} (disk_of : D → DiskState) (source_of : R → SourceS
             };
             keeps = λ disk. record {
               done = refl;
-              limit = λ os. limit_read statuses.SinkFault (source_of reader.source) (source_of reader_new.source)
+              limit = λ os. limit_read statuses.SinkFault (source_of source) (source_of source_new)
                   (λ e. cc) (reads.limit os);
-              whole = λ os whole. (reads.read os).whole;
+              whole = λ os whole. (reads.limit os).whole refl;
               not_taken = λ e. absurd (cc);
               silent = λ full fault. absurd (fault refl);
             };
             does = λ disk attached o os.
                 let here = told disk attached o in
-                kept_loads statuses.SinkFault store_new reader_new sink_new full_still (λ e. cc) disk attached
+                kept_loads statuses.SinkFault store_new source_new sink_new full_still (λ e. cc) disk attached
                 (tells_unprinted store.tree store.params script (disk_of disk) (disk_of store_new.disk)
-                (source_of reader.source) (source_of reader_new.source) (sink_of sink) (sink_of sink_new) read.empty
+                (source_of source) (source_of source_new) (sink_of sink) (sink_of sink_new) read.empty
                 (full_tree here os) (lists (Ok (answers.Full need slots)) read os) (full_told here os).2
                 (λ shown. subst (AppendsPrefix (sink_of sink).written (sink_of sink_new).written) (full_line here os)
                 (puts.observed shown).cut_off)) o;
           }
 
     -- memory ran out
-    short : LoadsRead disk_of source_of store store_new reader reader_new (Err apply.NoMemory)
-        → Ends statuses.NoMemory store_new reader_new sink
+    short : LoadsRead disk_of source_of store store_new source source_new (Err apply.NoMemory)
+        → Ends statuses.NoMemory store_new source_new sink
     short read =
         let reads = read.reads in
-        quiet_ends statuses.NoMemory store_new reader_new sink refl
+        quiet_ends statuses.NoMemory store_new source_new sink refl
         (still_by (Err apply.NoMemory) read (some_steps (Err apply.NoMemory) read).faults
         (λ t changes answer o. changes.no_memory refl)) refl refl refl reads.observable reads.faults
-        (λ os. limit_read statuses.NoMemory (source_of reader.source) (source_of reader_new.source)
+        (λ os. limit_read statuses.NoMemory (source_of source) (source_of source_new)
         (λ e. cc) (reads.limit os))
-        (λ os whole. (reads.read os).whole) (λ e. absurd (cc)) (λ e. cc)
+        (λ os whole. (reads.limit os).whole refl) (λ e. absurd (cc)) (λ e. cc)
         (λ disk attached o os. tells_first store.tree store.params script (disk_of disk) (disk_of store_new.disk)
-        (source_of reader.source) (source_of reader_new.source) (sink_of sink)
+        (source_of source) (source_of source_new) (sink_of sink)
         (sink_of sink) statuses.NoMemory refl (λ whole. refl))
 
     abbrev disk_failed : Result LoadAnswer ApplyFault
     disk_failed = Err apply.Disk
 
     -- the disk failed
-    module _ (read : LoadsRead disk_of source_of store store_new reader reader_new (Err apply.Disk)) where
+    module _ (read : LoadsRead disk_of source_of store store_new source source_new (Err apply.Disk)) where
       module _ (disk : D) (attached : Attached disk) (o : disks.IsObservable (disk_of disk)) (t : Tree)
           (lists : Lists t store.params script)
           (changes : ChangesImage store.tree (loaded_tree store.params store.tree t) store.params (disk_of store.disk)
           (disk_of store_new.disk) store_new.is_stopped disk_failed) where
         abbrev FaultLoads : Type 0
-        FaultLoads = Loaded disk statuses.DiskFault store_new reader_new sink
+        FaultLoads = Loaded disk statuses.DiskFault store_new source_new sink
 
-        fault_tells : TellsOf disk statuses.DiskFault store_new reader_new sink
+        fault_tells : TellsOf disk statuses.DiskFault store_new source_new sink
         fault_tells =
             tells_first store.tree store.params script (disk_of disk) (disk_of store_new.disk)
-            (source_of reader.source) (source_of reader_new.source) (sink_of sink) (sink_of sink)
+            (source_of source) (source_of source_new) (sink_of sink) (sink_of sink)
             statuses.DiskFault refl
             (λ whole.
             absurd (whole (rose (disk_of disk).faults (disk_of store_new.disk).faults
@@ -552,7 +544,7 @@ module _ {D R W : Type 0} (disk_of : D → DiskState) (source_of : R → SourceS
         fault_large : store.params.slots < page_count t store.params → FaultLoads
         fault_large more =
             from_kept disk_of source_of sink_of store.tree store.params script
-            (outside_of disk reader.source sink) (after_load statuses.DiskFault store_new reader_new sink) fault_tells
+            (outside_of disk source sink) (after_load statuses.DiskFault store_new source_new sink) fault_tells
             (λ e. cc)
             (keeps_opened store.tree store.params statuses.DiskFault (disk_of disk) (disk_of store_new.disk)
             (disk_of store.disk) ready.fitting (attached.observed o)
@@ -562,15 +554,15 @@ module _ {D R W : Type 0} (disk_of : D → DiskState) (source_of : R → SourceS
         fault_fits : page_count t store.params ≤ store.params.slots → FaultLoads
         fault_fits room =
             from_loaded disk_of source_of sink_of store.tree store.params script
-            (outside_of disk reader.source sink) (after_load statuses.DiskFault store_new reader_new sink) fault_tells
-            (first_loads statuses.DiskFault refl) (λ e. cc) read.empty t lists room
+            (outside_of disk source sink) (after_load statuses.DiskFault store_new source_new sink) fault_tells
+            false≢true t (record { empty = read.empty; lists = lists; room = room })
             (load_changed statuses.DiskFault store_new (Err apply.Disk) t read.empty lists.under room disk attached o
             changes (λ e. absurd (cc)))
 
         fault_loads : FaultLoads
         fault_loads = ⊎_elim fault_large fault_fits (cases_lt store.params.slots (page_count t store.params))
 
-      faulted : Ends statuses.DiskFault store_new reader_new sink
+      faulted : Ends statuses.DiskFault store_new source_new sink
       faulted =
           let reads = read.reads in
           let some = some_steps (Err apply.Disk) read in
@@ -586,9 +578,9 @@ module _ {D R W : Type 0} (disk_of : D → DiskState) (source_of : R → SourceS
             };
             keeps = λ disk. record {
               done = refl;
-              limit = λ os. limit_read statuses.DiskFault (source_of reader.source) (source_of reader_new.source)
+              limit = λ os. limit_read statuses.DiskFault (source_of source) (source_of source_new)
                   (λ e. cc) (reads.limit os);
-              whole = λ os whole. (reads.read os).whole;
+              whole = λ os whole. (reads.limit os).whole refl;
               not_taken = λ e. absurd (cc);
               silent = λ full fault. refl;
             };
@@ -599,56 +591,42 @@ module _ {D R W : Type 0} (disk_of : D → DiskState) (source_of : R → SourceS
 
     -- a listing was read, the store was to be loaded, and what is to be printed was put out
     loaded_ends : (loaded : Result LoadAnswer ApplyFault)
-        → LoadsRead disk_of source_of store store_new reader reader_new loaded → (status : Status) (sink_new : W)
-        → PrintsFilled sink_of (filled_by loaded) sink sink_new status → Ends status store_new reader_new sink_new
+        → LoadsRead disk_of source_of store store_new source source_new loaded → (status : Status) (sink_new : W)
+        → PrintsFilled sink_of (filled_by loaded) sink sink_new status → Ends status store_new source_new sink_new
     loaded_ends (Ok answers.Done) read status sink_new prints =
-        at_end store_new reader_new statuses.Done status sink_new prints.0 prints.1 (done read)
+        at_end store_new source_new statuses.Done status sink_new prints.0 prints.1 (done read)
     loaded_ends (Ok (answers.Full need slots)) read status sink_new prints =
-        subst (λ (s : Status). Ends s store_new reader_new sink_new) (sym prints.status_is)
+        subst (λ (s : Status). Ends s store_new source_new sink_new) (sym prints.status_is)
         (full_ends need slots read sink_new prints.put prints.puts)
     loaded_ends (Err apply.Disk) read status sink_new prints =
-        at_end store_new reader_new statuses.DiskFault status sink_new prints.0 prints.1 (faulted read)
+        at_end store_new source_new statuses.DiskFault status sink_new prints.0 prints.1 (faulted read)
     loaded_ends (Err apply.NoMemory) read status sink_new prints =
-        at_end store_new reader_new statuses.NoMemory status sink_new prints.0 prints.1 (short read)
+        at_end store_new source_new statuses.NoMemory status sink_new prints.0 prints.1 (short read)
     loaded_ends (Err apply.Stopped) read status sink_new prints = absurd (ran (Err apply.Stopped) read refl)
 
-  same_store : (status : Status) (store_new : StoreState D) (reader_new : LineState R) (sink_new : W)
-      → store_new ≡ store → Ends status store reader_new sink_new → Ends status store_new reader_new sink_new
-  same_store status store_new reader_new sink_new same ends =
-      subst (λ (s : StoreState D). Ends status s reader_new sink_new) (sym same) ends
+  same_store : (status : Status) (store_new : StoreState D) (source_new : R) (sink_new : W)
+      → store_new ≡ store → Ends status store source_new sink_new → Ends status store_new source_new sink_new
+  same_store status store_new source_new sink_new same ends =
+      subst (λ (s : StoreState D). Ends status s source_new sink_new) (sym same) ends
 
   -- a store was filled or not, and what is to be printed was put out
-  pub filled_ends : (store_new : StoreState D) (reader_new : LineState R) (sink_new : W)
+  pub filled_ends : (store_new : StoreState D) (source_new : R) (sink_new : W)
       (result : Result LoadAnswer Status) (status : Status)
-      → FillsStore disk_of source_of store store_new reader reader_new result
+      → FillsStore disk_of source_of store store_new source source_new result
       → PrintsFilled sink_of result sink sink_new status
-      → Ends status store_new reader_new sink_new
-  filled_ends store_new reader_new sink_new result status (fills.Spares is spares) prints =
+      → Ends status store_new source_new sink_new
+  filled_ends store_new source_new sink_new result status (fills.Spares is spares) prints =
       let p = subst (λ (r : Result LoadAnswer Status). PrintsFilled sink_of r sink sink_new status) is prints in
-      same_store status store_new reader_new sink_new spares.store_same
-      (subst (λ (r : LineState R). Ends status store r sink_new) (sym spares.reader_same)
-      (at_end store reader statuses.NotEmpty status sink_new p.0 p.1
-      (spared (record { holds = spares.holds; store_same = refl; reader_same = refl }))))
-  filled_ends store_new reader_new sink_new result status (fills.Stops fault is ended) prints =
+      same_store status store_new source_new sink_new spares.store_same
+      (subst (λ (s : R). Ends status store s sink_new) (sym spares.source_same)
+      (at_end store source statuses.NotEmpty status sink_new p.0 p.1
+      (spared (record { holds = spares.holds; store_same = refl; source_same = refl }))))
+  filled_ends store_new source_new sink_new result status (fills.Stops fault is ended) prints =
       let p = subst (λ (r : Result LoadAnswer Status). PrintsFilled sink_of r sink sink_new status) is prints in
-      same_store status store_new reader_new sink_new ended.store_same
-      (at_end store reader_new fault status sink_new p.0 p.1
-      (stopped fault reader_new ended.reads.fault (record {
-        empty = ended.empty;
-        store_same = refl;
-        listing = ended.listing;
-        reads = ended.reads;
-      })))
-  filled_ends store_new reader_new sink_new result status (fills.Refuses is ended) prints =
-      let p = subst (λ (r : Result LoadAnswer Status). PrintsFilled sink_of r sink sink_new status) is prints in
-      same_store status store_new reader_new sink_new ended.store_same
-      (at_end store reader_new statuses.BadListing status sink_new p.0 p.1
-      (refused reader_new (record {
-        empty = ended.empty;
-        store_same = refl;
-        listing = ended.listing;
-        reads = ended.reads;
-      })))
-  filled_ends store_new reader_new sink_new result status (fills.Fills loaded is read) prints =
-      loaded_ends store_new reader_new loaded read status sink_new
+      same_store status store_new source_new sink_new ended.store_same
+      (at_end store source_new fault status sink_new p.0 p.1
+      (stopped fault source_new ended.reads.fault
+      (record { empty = ended.empty; store_same = refl; reads = ended.reads })))
+  filled_ends store_new source_new sink_new result status (fills.Fills loaded is read) prints =
+      loaded_ends store_new source_new loaded read status sink_new
       (subst (λ (r : Result LoadAnswer Status). PrintsFilled sink_of r sink sink_new status) is prints)

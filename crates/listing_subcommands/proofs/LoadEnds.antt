@@ -1,7 +1,7 @@
 -- How `load` ends: what it tells by its status, and what stands of the disk, in each case.
-use Rattle.std.proofs.Common.{◌≡◌, ◌⊎◌, ℕ, ◌+◌, ◌<◌, ◌≤◌, Bool, false, List, [], ◌∷◌, ◌++◌, map, length, Result, Ok}
-use Rattle.std.proofs.Common.{OnOk, refl, sym, ap, subst, ◌∙◌, arith, inl, inr, ⊎_elim}
-use Rattle.std.proofs.lemmas.Bool.{false≢true}
+use Rattle.std.proofs.Common.{◌≡◌, ◌⊎◌, ℕ, ◌+◌, ◌<◌, ◌≤◌, Bool, false, List, ◌++◌, length, Result, Ok}
+use Rattle.std.proofs.Common.{OnOk, refl, sym, subst, ◌∙◌, arith, inl, inr, ⊎_elim}
+use Rattle.std.specs.Prelude.{not, ◌&&◌}
 use Rattle.store_model.specs.declared.refusal.Refusal.{Refusal}
 use Rattle.store_model.specs.Parameters.{Parameters}
 use Rattle.store_model.specs.Trees.{Tree, empty_tree}
@@ -34,11 +34,12 @@ use Rattle.image_subcommands.specs.declared.status.Status.{Status}
 use Rattle.image_subcommands.specs.declared.status.Status.TheVariants as statuses
 use Rattle.image_subcommands.specs.Endings.{attach_status}
 use Rattle.image_subcommands.specs.Outside.{Outside}
-use Rattle.image_subcommands.specs.Statuses.{Row, row, MayComeFirst, ComesExactly}
+use Rattle.image_subcommands.specs.Statuses.{Subcommand as words, Row, row, is_among, MayComeFirst, LoadsNothing}
+use Rattle.image_subcommands.specs.Statuses.{EndsBeforeListing, ComesExactly}
+use Rattle.image_subcommands.proofs.EachStatus.{implied}
 use Rattle.image_subcommands.proofs.StatusLemmas.{other_than}
-use Rattle.listing_subcommands.specs.LoadCall.{LoadsNothing, EndsBeforeListing, EndsBeforeTree, Lists, full_text}
+use Rattle.listing_subcommands.specs.LoadCall.{EndsBeforeTree, Lists, CanBeLoaded, TellsLoad, full_text}
 use Rattle.listing_subcommands.specs.LoadCall.{ListsNone, ListsTooMany, PrintsFull, LoadsTree, KeepsTree, LoadsFrom}
-use Rattle.listing_subcommands.specs.LoadCall.{LoadsNothing as nothing}
 use Rattle.image_work.proofs.OpeningEnds.{quiet_unopened}
 
 -- ---- a script is the listing of one tree
@@ -63,22 +64,6 @@ lists_few t p script lists room many =
     )
 
 -- ---- the disk, where nothing is loaded
-
--- a status with which nothing was loaded may not come first, and is not done
-nothing_is : (status : Status) → LoadsNothing status
-    → ((row status).may_come_first ≡ false) × ((row status).is_done ≡ false)
-nothing_is status nothing.SourceFault = (refl, refl)
-nothing_is status nothing.SinkFault = (refl, refl)
-nothing_is status nothing.TooLong = (refl, refl)
-nothing_is status nothing.NotEmpty = (refl, refl)
-nothing_is status nothing.BadListing = (refl, refl)
-nothing_is status nothing.TooFull = (refl, refl)
-
-pub first_loads : (status : Status) → MayComeFirst status → LoadsNothing status → ⊥
-first_loads status first none = false≢true (sym (nothing_is status none).0 ∙ first)
-
-pub not_loaded : LoadsNothing statuses.Done → ⊥
-not_loaded none = false≢true (sym (nothing_is statuses.Done none).1)
 
 module _ (u : Tree) (p : Parameters) (status : Status) (old new : DiskState) where
   -- the image was opened, and then read at most
@@ -186,19 +171,10 @@ first_not status expected P Before first later before = record {
   always = λ holds. inr before;
 }
 
--- What the status tells of a load into an image that represents the tree u, and what is printed.
-pub record Tells (u : Tree) (p : Parameters) (script : List ℕ) (status : Status) (disk disk_new : DiskState)
-    (source source_new : SourceState) (sink sink_new : SinkState) : Type 0 where
-  pub not_empty : ComesExactly statuses.NotEmpty (u ≡ empty_tree → ⊥) MayComeFirst status
-  pub bad_listing : ComesExactly statuses.BadListing (ListsNone p script) EndsBeforeListing status
-  pub too_full : ComesExactly statuses.TooFull (ListsTooMany p script) EndsBeforeTree status
-  pub unprinted : status ≡ statuses.SinkFault → ListsTooMany p script
-  pub done : status ≡ statuses.Done → (u ≡ empty_tree) × ((t : Tree) × Lists t p script)
-  pub printed : sinks.IsObservable sink → PrintsFull p script status sink sink_new
-  pub complete : u ≡ empty_tree → (t : Tree) → Lists t p script → page_count t p ≤ p.slots
-      → length script ≤ script_limit
-      → (Rose disk.faults disk_new.faults → ⊥) → (Rose source.faults source_new.faults → ⊥)
-      → (status ≡ statuses.Done) ⊎ (status ≡ statuses.NoMemory)
+-- one that may come first may come before the listing is judged
+first_before : (status : Status) → MayComeFirst status → EndsBeforeListing status
+first_before = implied (λ s. (row s).may_come_first)
+    (λ s. is_among words.Load (row s).words && not (row s).refuses_image && not (row s).is_read_whole) refl
 
 -- nothing is printed of a tree that is too large
 none_printed : (p : Parameters) (script : List ℕ) (status : Status) (old new : SinkState)
@@ -211,7 +187,7 @@ none_printed p script status old new full fault = record {
 module _ (u : Tree) (p : Parameters) (script : List ℕ) (disk disk_new : DiskState) (source source_new : SourceState)
     (sink sink_new : SinkState) where
   abbrev TellsHere : Status → Type 0
-  TellsHere status = Tells u p script status disk disk_new source source_new sink sink_new
+  TellsHere status = TellsLoad u p script status disk disk_new source source_new sink sink_new
 
   -- the disk failed, or memory ran out
   pub tells_first : (status : Status) → MayComeFirst status
@@ -222,26 +198,26 @@ module _ (u : Tree) (p : Parameters) (script : List ℕ) (disk disk_new : DiskSt
       record {
         not_empty = first_not status statuses.NotEmpty (u ≡ empty_tree → ⊥) MayComeFirst first refl first;
         bad_listing = first_not status statuses.BadListing (ListsNone p script) EndsBeforeListing first refl
-            (inr (inr (inr first)));
+            (first_before status first);
         too_full = first_not status statuses.TooFull (ListsTooMany p script) EndsBeforeTree first refl
-            (inr (inr (inr (inr first))));
+            (inr (first_before status first));
         unprinted = λ e. absurd (never statuses.SinkFault refl e);
         done = λ e. absurd (never statuses.Done refl e);
         printed = λ o. none_printed p script status sink sink_new (never statuses.TooFull refl)
             (never statuses.SinkFault refl);
-        complete = λ empty t lists room within disk_whole source_whole. inr (memory disk_whole);
+        complete = λ t can within disk_whole source_whole. inr (memory disk_whole);
       }
 
   -- the image holds a tree
   pub tells_not_empty : (u ≡ empty_tree → ⊥) → TellsHere statuses.NotEmpty
   tells_not_empty holds = record {
     not_empty = record { only = λ e. holds; always = λ h. inl refl };
-    bad_listing = record { only = λ e. absurd (cc); always = λ h. inr (inl refl) };
-    too_full = record { only = λ e. absurd (cc); always = λ h. inr (inr (inl refl)) };
+    bad_listing = record { only = λ e. absurd (cc); always = λ h. inr refl };
+    too_full = record { only = λ e. absurd (cc); always = λ h. inr (inr refl) };
     unprinted = λ e. absurd (cc);
     done = λ e. absurd (cc);
     printed = λ o. none_printed p script statuses.NotEmpty sink sink_new (λ e. cc) (λ e. cc);
-    complete = λ empty t lists room within disk_whole source_whole. absurd (holds empty);
+    complete = λ t can within disk_whole source_whole. absurd (holds can.empty);
   }
 
   module _ (empty : u ≡ empty_tree) where
@@ -253,24 +229,24 @@ module _ (u : Tree) (p : Parameters) (script : List ℕ) (disk disk_new : DiskSt
     pub tells_source_fault : Rose source.faults source_new.faults → TellsHere statuses.SourceFault
     tells_source_fault rose = record {
       not_empty = is_empty statuses.SourceFault (λ e. cc);
-      bad_listing = record { only = λ e. absurd (cc); always = λ h. inr (inr (inl refl)) };
-      too_full = record { only = λ e. absurd (cc); always = λ h. inr (inr (inr (inl refl))) };
+      bad_listing = record { only = λ e. absurd (cc); always = λ h. inr refl };
+      too_full = record { only = λ e. absurd (cc); always = λ h. inr (inr refl) };
       unprinted = λ e. absurd (cc);
       done = λ e. absurd (cc);
       printed = λ o. none_printed p script statuses.SourceFault sink sink_new (λ e. cc) (λ e. cc);
-      complete = λ empty t lists room within disk_whole source_whole. absurd (source_whole rose);
+      complete = λ t can within disk_whole source_whole. absurd (source_whole rose);
     }
 
     -- the script is too long
     pub tells_too_long : (length script ≤ script_limit → ⊥) → TellsHere statuses.TooLong
     tells_too_long long = record {
       not_empty = is_empty statuses.TooLong (λ e. cc);
-      bad_listing = record { only = λ e. absurd (cc); always = λ h. inr (inr (inr (inl refl))) };
-      too_full = record { only = λ e. absurd (cc); always = λ h. inr (inr (inr (inr (inl refl)))) };
+      bad_listing = record { only = λ e. absurd (cc); always = λ h. inr refl };
+      too_full = record { only = λ e. absurd (cc); always = λ h. inr (inr refl) };
       unprinted = λ e. absurd (cc);
       done = λ e. absurd (cc);
       printed = λ o. none_printed p script statuses.TooLong sink sink_new (λ e. cc) (λ e. cc);
-      complete = λ empty t lists room within disk_whole source_whole. absurd (long within);
+      complete = λ t can within disk_whole source_whole. absurd (long within);
     }
 
     -- it is no listing
@@ -285,7 +261,7 @@ module _ (u : Tree) (p : Parameters) (script : List ℕ) (disk disk_new : DiskSt
       unprinted = λ e. absurd (cc);
       done = λ e. absurd (cc);
       printed = λ o. none_printed p script statuses.BadListing sink sink_new (λ e. cc) (λ e. cc);
-      complete = λ empty t lists room within disk_whole source_whole. absurd (lists_some t p script lists none);
+      complete = λ t can within disk_whole source_whole. absurd (lists_some t p script can.lists none);
     }
 
     -- it is the listing of this tree
@@ -307,9 +283,9 @@ module _ (u : Tree) (p : Parameters) (script : List ℕ) (disk disk_new : DiskSt
           always = λ many. absurd (lists_few t p script lists room many);
         };
         unprinted = λ e. absurd (cc);
-        done = λ e. (empty, (t, lists));
+        done = λ e. (t, record { empty = empty; lists = lists; room = room });
         printed = λ o. none_printed p script statuses.Done sink sink_new (λ e. cc) (λ e. cc);
-        complete = λ empty t lists room within disk_whole source_whole. inl refl;
+        complete = λ t can within disk_whole source_whole. inl refl;
       }
 
       -- or more
@@ -339,7 +315,7 @@ module _ (u : Tree) (p : Parameters) (script : List ℕ) (disk disk_new : DiskSt
                 (lists_one t v p script lists other) (written o);
             in_part = λ e. absurd (cc);
           };
-          complete = λ empty v other room within disk_whole source_whole. absurd (no_room v other room);
+          complete = λ v can within disk_whole source_whole. absurd (no_room v can.lists can.room);
         }
 
         pub tells_unprinted : (sinks.IsObservable sink → AppendsPrefix sink.written sink_new.written (full_text t p))
@@ -355,14 +331,14 @@ module _ (u : Tree) (p : Parameters) (script : List ℕ) (disk disk_new : DiskSt
             in_part = λ e v other. subst (λ (w : Tree). AppendsPrefix sink.written sink_new.written (full_text w p))
                 (lists_one t v p script lists other) (written o);
           };
-          complete = λ empty v other room within disk_whole source_whole. absurd (no_room v other room);
+          complete = λ v can within disk_whole source_whole. absurd (no_room v can.lists can.room);
         }
 
 -- ---- both
 
 module _ {D R W : Type 0} (disk_of : D → DiskState) (source_of : R → SourceState) (sink_of : W → SinkState) (u : Tree)
     (p : Parameters) (script : List ℕ) (before : Outside D R W) (after : Outcome D R W)
-    (tells : Tells u p script after.status (disk_of before.disk) (disk_of after.disk) (source_of before.source)
+    (tells : TellsLoad u p script after.status (disk_of before.disk) (disk_of after.disk) (source_of before.source)
     (source_of after.source) (sink_of before.sink) (sink_of after.sink)) where
   abbrev old : DiskState
   old = disk_of before.disk
@@ -375,40 +351,21 @@ module _ {D R W : Type 0} (disk_of : D → DiskState) (source_of : R → SourceS
       → (after.status ≡ statuses.NoMemory → Stands new u p ⊎ LeavesImage old new)
       → LoadsFrom disk_of source_of sink_of u p script before after
   from_kept not_done keeps no_memory = record {
-    not_empty = tells.not_empty;
-    bad_listing = tells.bad_listing;
-    too_full = tells.too_full;
-    unprinted = tells.unprinted;
-    done = tells.done;
-    printed = tells.printed;
+    tells = tells;
     loads = λ empty t lists. loads_none u p after.status old new t not_done empty keeps;
     keeps = λ nothing. keeps;
-    keeps_short = λ e. keeps;
-    keeps_full = λ holds. keeps;
-    keeps_unlisted = λ none. keeps;
-    keeps_too_many = λ many. keeps;
+    keeps_refused = λ refused. keeps;
     no_memory = no_memory;
-    complete = tells.complete;
   }
 
   -- the tree of the listing was loaded, or the disk failed
-  pub from_loaded : (LoadsNothing after.status → ⊥) → (after.status ≡ statuses.NoMemory → ⊥) → u ≡ empty_tree
-      → (t : Tree) → Lists t p script → page_count t p ≤ p.slots → LoadsTree t p after.status old new
-      → LoadsFrom disk_of source_of sink_of u p script before after
-  from_loaded some memory empty t lists room loads = record {
-    not_empty = tells.not_empty;
-    bad_listing = tells.bad_listing;
-    too_full = tells.too_full;
-    unprinted = tells.unprinted;
-    done = tells.done;
-    printed = tells.printed;
-    loads = λ e v other. subst (λ (w : Tree). LoadsTree w p after.status old new)
-        (lists_one t v p script lists other) loads;
+  pub from_loaded : (LoadsNothing after.status → ⊥) → (t : Tree) → CanBeLoaded u t p script
+      → LoadsTree t p after.status old new → LoadsFrom disk_of source_of sink_of u p script before after
+  from_loaded some t can loads = record {
+    tells = tells;
+    loads = λ empty v lists. subst (λ (w : Tree). LoadsTree w p after.status old new)
+        (lists_one t v p script can.lists lists) loads;
     keeps = λ nothing. absurd (some nothing);
-    keeps_short = λ e. absurd (memory e);
-    keeps_full = λ holds. absurd (holds empty);
-    keeps_unlisted = λ none. absurd (lists_some t p script lists none);
-    keeps_too_many = λ many. absurd (lists_few t p script lists room many);
-    no_memory = λ e. absurd (memory e);
-    complete = tells.complete;
+    keeps_refused = λ refused. absurd (refused t can);
+    no_memory = λ e. absurd (some (subst LoadsNothing (sym e) refl));
   }

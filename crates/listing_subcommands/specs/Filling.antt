@@ -1,16 +1,14 @@
 -- What the parts of a load do: how a store is filled, and what is printed.
-use Rattle.std.specs.Prelude.{◌≡◌, ℕ, Bool, true, false, Result, Ok, Err}
+use Rattle.std.specs.Prelude.{◌≡◌, ℕ, Result, Ok, Err}
 use Rattle.store_model.specs.declared.refusal.Refusal.TheVariants.{Full}
 use Rattle.store_model.specs.Trees.{Tree, empty_tree}
 use Rattle.store_model.specs.Commands.{reply_text}
 use Rattle.store_model.specs.Commands.Reply.{Refused}
-use Rattle.tree_listing.specs.declared.listing.Listing.{Listing}
-use Rattle.tree_listing.specs.Listings.{IsListed}
+use Rattle.tree_listing.specs.declared.pairs.ListedPairs.{ListedPairs}
 use Rattle.disk_model.specs.DiskState.{DiskState, IsObservable}
 use Rattle.script_lines.specs.declared.fault.SinkFault.{SinkFault}
 use Rattle.script_lines.specs.SourceState.{SourceState}
 use Rattle.script_lines.specs.SinkState.{SinkState, IsPut}
-use Rattle.script_lines.specs.LineState.{LineState}
 use Rattle.image_check.specs.declared.fault.ApplyFault.{ApplyFault}
 use Rattle.staged_tree.specs.declared.load.LoadAnswer.{LoadAnswer}
 use Rattle.staged_tree.specs.declared.load.LoadAnswer.TheVariants as answers
@@ -19,12 +17,12 @@ use Rattle.store_core.specs.StoreState.{StoreState}
 use Rattle.image_subcommands.specs.declared.status.Status.{Status}
 use Rattle.image_subcommands.specs.declared.status.Status.TheVariants as statuses
 use Rattle.image_subcommands.specs.Endings.{apply_status}
-use Rattle.listing_subcommands.specs.Listings.{ReadsListing}
+use Rattle.listing_subcommands.specs.Listings.{ReadsListing, HoldsTree}
 
--- an empty store is loaded with the tree of a listing
-abbrev pub LoadsListing : {D : Type 0} → (D → DiskState) → Listing → StoreState D → StoreState D
+-- an empty store is loaded with the tree whose pairs are held
+abbrev pub LoadsListed : {D : Type 0} → (D → DiskState) → ListedPairs → StoreState D → StoreState D
     → Result LoadAnswer ApplyFault → Type 0
-LoadsListing disk_of listing old new result = (t : Tree) → IsListed listing t old.params
+LoadsListed disk_of listed old new result = (t : Tree) → HoldsTree old.params listed t
     → Loads disk_of t old new result
 
 -- what a load comes to that was answered so: a fault ends the call
@@ -33,42 +31,37 @@ filled_by (Ok answer) = Ok answer
 filled_by (Err fault) = Err (apply_status fault)
 
 module _ {D R : Type 0} (disk_of : D → DiskState) (source_of : R → SourceState) (store store_new : StoreState D)
-    (reader reader_new : LineState R) where
+    (source source_new : R) where
   -- a store that holds a tree is spared, and nothing is read
   pub record SparesStore : Type 0 where
     pub holds : IsObservable (disk_of store.disk) → store.tree ≡ empty_tree → ⊥
     pub store_same : store_new ≡ store
-    pub reader_same : reader_new ≡ reader
+    pub source_same : source_new ≡ source
 
-  -- reading the listing for an empty store ended so, and the store is as it was
-  pub record EndsReading (read : Result Bool Status) : Type 0 where
+  -- the reading of the listing for an empty store came to nothing, and the store is as it was
+  pub record EndsReading (status : Status) : Type 0 where
     pub empty : store.tree ≡ empty_tree
     pub store_same : store_new ≡ store
-    pub listing : Listing
-    pub reads : ReadsListing source_of store.params reader reader_new listing read
+    pub reads : ReadsListing source_of store.params source source_new (Err status)
 
   -- a listing was read to its end for an empty store, which was then loaded with its tree
   pub record LoadsRead (result : Result LoadAnswer ApplyFault) : Type 0 where
     pub empty : store.tree ≡ empty_tree
-    pub listing : Listing
-    pub reads : ReadsListing source_of store.params reader reader_new listing (Ok true)
-    pub loads : LoadsListing disk_of listing store store_new result
+    pub listed : ListedPairs
+    pub reads : ReadsListing source_of store.params source source_new (Ok listed)
+    pub loads : LoadsListed disk_of listed store store_new result
 
 -- A store is filled from a listing, or the call ends before.
 pub data FillsStore {D R : Type 0} (disk_of : D → DiskState) (source_of : R → SourceState)
-    (store store_new : StoreState D) (reader reader_new : LineState R)
-    (result : Result LoadAnswer Status) : Type 0 where
-  Spares : result ≡ Err statuses.NotEmpty → SparesStore disk_of source_of store store_new reader reader_new
-      → FillsStore disk_of source_of store store_new reader reader_new result
+    (store store_new : StoreState D) (source source_new : R) (result : Result LoadAnswer Status) : Type 0 where
+  Spares : result ≡ Err statuses.NotEmpty → SparesStore disk_of source_of store store_new source source_new
+      → FillsStore disk_of source_of store store_new source source_new result
   Stops : (status : Status) → result ≡ Err status
-      → EndsReading disk_of source_of store store_new reader reader_new (Err status)
-      → FillsStore disk_of source_of store store_new reader reader_new result
-  Refuses : result ≡ Err statuses.BadListing
-      → EndsReading disk_of source_of store store_new reader reader_new (Ok false)
-      → FillsStore disk_of source_of store store_new reader reader_new result
+      → EndsReading disk_of source_of store store_new source source_new status
+      → FillsStore disk_of source_of store store_new source source_new result
   Fills : (loaded : Result LoadAnswer ApplyFault) → result ≡ filled_by loaded
-      → LoadsRead disk_of source_of store store_new reader reader_new loaded
-      → FillsStore disk_of source_of store store_new reader reader_new result
+      → LoadsRead disk_of source_of store store_new source source_new loaded
+      → FillsStore disk_of source_of store store_new source source_new result
 
 -- ---- what is printed
 

@@ -28,31 +28,13 @@ use Rattle.image_subcommands.specs.declared.status.Status.{Status}
 use Rattle.image_subcommands.specs.declared.status.Status.TheVariants as statuses
 use Rattle.image_subcommands.specs.Limits.{KeepsLimit}
 use Rattle.image_subcommands.specs.Outside.{Outside, IsIdle}
-use Rattle.image_subcommands.specs.Statuses.{Subcommand as words, MayComeFirst, ComesExactly, done_of_work}
+use Rattle.image_subcommands.specs.Statuses.{Subcommand as words, MayComeFirst, LoadsNothing, EndsBeforeListing}
+use Rattle.image_subcommands.specs.Statuses.{IsReadWhole, ComesExactly, done_of_work}
 use Rattle.image_work.specs.Works.{Works}
 
--- the image stays that of the tree that it was: nothing was loaded, and no call on the disk failed
-pub data LoadsNothing : Status → Type 0 where
-  SourceFault : LoadsNothing statuses.SourceFault
-  SinkFault : LoadsNothing statuses.SinkFault
-  TooLong : LoadsNothing statuses.TooLong
-  NotEmpty : LoadsNothing statuses.NotEmpty
-  BadListing : LoadsNothing statuses.BadListing
-  TooFull : LoadsNothing statuses.TooFull
-
--- a call may end so before the listing is judged
-abbrev pub EndsBeforeListing : Status → Type 0
-EndsBeforeListing status = (status ≡ statuses.NotEmpty) ⊎ (status ≡ statuses.SourceFault)
-    ⊎ (status ≡ statuses.TooLong) ⊎ MayComeFirst status
-
--- and before its tree is
+-- a call may end so before the tree of its listing is judged
 abbrev pub EndsBeforeTree : Status → Type 0
 EndsBeforeTree status = (status ≡ statuses.SinkFault) ⊎ EndsBeforeListing status
-
--- the source was read to its end
-abbrev pub IsReadWhole : Status → Type 0
-IsReadWhole status = (status ≡ statuses.Done) ⊎ (status ≡ statuses.SinkFault) ⊎ (status ≡ statuses.BadListing)
-    ⊎ (status ≡ statuses.TooFull)
 
 -- the script is a listing of the tree
 pub record Lists (t : Tree) (p : Parameters) (script : List ℕ) : Type 0 where
@@ -72,6 +54,12 @@ pub record ListsTooMany (p : Parameters) (script : List ℕ) : Type 0 where
   pub tree : Tree
   pub lists : Lists tree p script
   pub more : p.slots < page_count tree p
+
+-- What can be loaded: into the image of the empty tree a listing of a tree that has no more pages than there are slots.
+pub record CanBeLoaded (u t : Tree) (p : Parameters) (script : List ℕ) : Type 0 where
+  pub empty : u ≡ empty_tree
+  pub lists : Lists t p script
+  pub room : page_count t p ≤ p.slots
 
 -- What is printed: nothing, but of a listing whose tree is too large the line that says so, or where the sink failed
 -- a front of it.
@@ -105,36 +93,36 @@ pub record KeepsTree (u : Tree) (p : Parameters) (status : Status) (old new : Di
   -- one with an empty journal is not written
   pub quiet : HasEmptyJournal p.slots old.bytes → (status ≡ statuses.DiskFault → ⊥) → IsUnwritten old new
 
+-- What the status tells of a load into an image that represents the tree u, of a listing that the source tells, and
+-- what is printed.
+pub record TellsLoad (u : Tree) (p : Parameters) (script : List ℕ) (status : Status) (disk disk_new : DiskState)
+    (source source_new : SourceState) (sink sink_new : SinkState) : Type 0 where
+  pub not_empty : ComesExactly statuses.NotEmpty (u ≡ empty_tree → ⊥) MayComeFirst status
+  pub bad_listing : ComesExactly statuses.BadListing (ListsNone p script) EndsBeforeListing status
+  pub too_full : ComesExactly statuses.TooFull (ListsTooMany p script) EndsBeforeTree status
+  pub unprinted : status ≡ statuses.SinkFault → ListsTooMany p script
+  pub done : status ≡ statuses.Done → (t : Tree) × CanBeLoaded u t p script
+  pub printed : sinks.IsObservable sink → PrintsFull p script status sink sink_new
+  -- it is done where the script can be loaded and is within its limit, no call failed and memory was there
+  pub complete : (t : Tree) → CanBeLoaded u t p script → length script ≤ script_limit
+      → (Rose disk.faults disk_new.faults → ⊥) → (Rose source.faults source_new.faults → ⊥)
+      → (status ≡ statuses.Done) ⊎ (status ≡ statuses.NoMemory)
+
 module _ {D R W : Type 0} (disk_of : D → DiskState) (source_of : R → SourceState) (sink_of : W → SinkState) where
   -- A load into an image that represents the tree u, of a listing that the source tells.
   pub record LoadsFrom (u : Tree) (p : Parameters) (script : List ℕ) (before : Outside D R W)
       (after : Outcome D R W) : Type 0 where
-    -- how it ends
-    pub not_empty : ComesExactly statuses.NotEmpty (u ≡ empty_tree → ⊥) MayComeFirst after.status
-    pub bad_listing : ComesExactly statuses.BadListing (ListsNone p script) EndsBeforeListing after.status
-    pub too_full : ComesExactly statuses.TooFull (ListsTooMany p script) EndsBeforeTree after.status
-    pub unprinted : after.status ≡ statuses.SinkFault → ListsTooMany p script
-    pub done : after.status ≡ statuses.Done → (u ≡ empty_tree) × ((t : Tree) × Lists t p script)
-    -- what stands then
-    pub printed : sinks.IsObservable (sink_of before.sink)
-        → PrintsFull p script after.status (sink_of before.sink) (sink_of after.sink)
+    pub tells : TellsLoad u p script after.status (disk_of before.disk) (disk_of after.disk) (source_of before.source)
+        (source_of after.source) (sink_of before.sink) (sink_of after.sink)
+    -- what stands of the image then: its tree, or that of the listing
     pub loads : u ≡ empty_tree → (t : Tree) → Lists t p script
         → LoadsTree t p after.status (disk_of before.disk) (disk_of after.disk)
     pub keeps : LoadsNothing after.status → KeepsTree u p after.status (disk_of before.disk) (disk_of after.disk)
-    pub keeps_short : after.status ≡ statuses.NoMemory
+    -- the image keeps its tree where nothing can be loaded, however the call ends
+    pub keeps_refused : ((t : Tree) → CanBeLoaded u t p script → ⊥)
         → KeepsTree u p after.status (disk_of before.disk) (disk_of after.disk)
-    pub keeps_full : (u ≡ empty_tree → ⊥) → KeepsTree u p after.status (disk_of before.disk) (disk_of after.disk)
-    pub keeps_unlisted : ListsNone p script → KeepsTree u p after.status (disk_of before.disk) (disk_of after.disk)
-    pub keeps_too_many : ListsTooMany p script → KeepsTree u p after.status (disk_of before.disk) (disk_of after.disk)
     pub no_memory : after.status ≡ statuses.NoMemory
         → Stands (disk_of after.disk) u p ⊎ LeavesImage (disk_of before.disk) (disk_of after.disk)
-    -- it is done where the image is empty, the script a listing within its limit whose tree fits, no call failed and
-    -- memory was there
-    pub complete : u ≡ empty_tree → (t : Tree) → Lists t p script → page_count t p ≤ p.slots
-        → length script ≤ script_limit
-        → (Rose (disk_of before.disk).faults (disk_of after.disk).faults → ⊥)
-        → (Rose (source_of before.source).faults (source_of after.source).faults → ⊥)
-        → (after.status ≡ statuses.Done) ⊎ (after.status ≡ statuses.NoMemory)
 
   -- What a load leaves, whatever the disk holds.
   pub record KeepsLoad (before : Outside D R W) (after : Outcome D R W) : Type 0 where

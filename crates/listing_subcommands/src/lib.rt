@@ -7,7 +7,6 @@
 
 mod dump;
 mod load;
-mod read;
 
 pub use dump::dump_image;
 pub use load::load_image;

@@ -1,60 +1,129 @@
 //! The subcommand `load`: makes the tree of a listing in an empty image.
 
-ghost use Rattle.std.specs.Prelude.{◌≡◌};
+ghost use Rattle.std.specs.Prelude.{◌≡◌, Err};
+ghost use Rattle.store_model.specs.Parameters.{Parameters};
 ghost use Rattle.store_model.specs.Trees.{Tree, empty_tree};
-ghost use Rattle.tree_listing.specs.Listings.{IsListed};
-ghost use Rattle.image_subcommands.specs.Limits.{IsUnread};
+ghost use Rattle.tree_listing.specs.declared.pairs.ListedPairs.{ListedPairs};
+ghost use Rattle.tree_listing.specs.Listed.{TookSteps};
+ghost use Rattle.dump_streams.specs.Takers.{BreaksAnyhow};
+ghost use Rattle.dump_streams.specs.Draining.{StopsBy};
+ghost use Rattle.dump_streams.specs.Listings.{CameOf, IsListed, EndsBy};
 ghost use Rattle.image_subcommands.specs.Outside.{KeepsOutside, outside_of};
 ghost use Rattle.image_work.specs.Works.{IsReady};
-ghost use Rattle.listing_subcommands.specs.Filling.{LoadsListing, FillsStore, PutsFull, PrintsFilled};
+ghost use Rattle.listing_subcommands.specs.Filling.{LoadsListed, FillsStore, PutsFull, PrintsFilled};
+ghost use Rattle.listing_subcommands.specs.Listings.{HoldsTree, ReadsListing};
+ghost use Rattle.listing_subcommands.specs.Listings as readings;
 ghost use Rattle.listing_subcommands.specs.LoadCall.{IsLoad};
 
-use crate::read::read_listing;
 use disk_model::Disk;
+use dump_streams::{DrainFault, ListingStream, StreamFault, drain};
 use image_check::AttachFault;
 use image_subcommands::{Outcome, Status};
 use image_work::{StoreWork, open_for};
-use script_lines::{LineReader, Reply, Sink, Source, write_reply};
+use script_lines::{Reply, Sink, Source, write_reply};
 use std::alloc::Global;
+use store_base::{NoMemory, Params};
 use store_core::{ApplyFault, LoadAnswer, Store};
 use store_model::Refusal;
-use tree_listing::Listing;
+use tree_listing::ListedPairs;
 
-/// Loads an empty store with the tree of a listing, or tells that the tree has more pages than there are slots.
-fn load_listing<D: Disk>(store: &mut Store<D>, listing: &Listing) -> Result<LoadAnswer, ApplyFault>
+/// The status of a call that a fault of its listing ended.
+fn stream_status(fault: StreamFault) -> Status
+    ensures { result ≡ readings.stream_status fault }
+{
+    match fault {
+        StreamFault::NoMemory => Status::NoMemory,
+        StreamFault::Unreadable => Status::SourceFault,
+        StreamFault::NoDump => Status::BadListing,
+        StreamFault::TooLong => Status::TooLong,
+    }
+}
+
+/// The status of a call whose listing was not taken to its end. After the first line that continues no dump the others
+/// are read too, and nothing of them is kept. So a take that fails and a source that is too long are told of a bad
+/// listing as of a good one. A listing that keeps its limit has fewer pairs than can be laid out, so what was not taken
+/// found no memory.
+fn read_on<R: Source>(stream: &mut ListingStream<R>, fault: DrainFault) -> Status
+    ensures { (p : Parameters) (first taker : ListedPairs) → stream.old.reader.version ≡ p.version
+        → StopsBy (CameOf R.state) (IsListed R.state) (EndsBy R.state) TookSteps BreaksAnyhow
+        stream.old first taker fault
+        → ReadsListing R.state p stream.old.first.value stream.new.lines.source (Err result) }
+{
+    match fault {
+        DrainFault::Taker(_) => Status::NoMemory,
+        DrainFault::Stream(fault) => match fault {
+            StreamFault::NoDump => match stream.read_to_end() {
+                Ok(()) => Status::BadListing,
+                Err(fault) => stream_status(fault),
+            },
+            _ => stream_status(fault),
+        },
+    }
+}
+
+/// The pairs of the tree of the listing that a source has, which is read to its end. `Err` has the status of a call
+/// that ended before.
+fn read_listing<R: Source>(
+    alloc: Global,
+    source: R,
+    params: &Params,
+) -> (R, Result<ListedPairs, Status>)
+    ensures { ReadsListing R.state params.now source result.0 result.1 }
+{
+    let mut stream = match ListingStream::new(alloc, source, params.version()) {
+        Ok(stream) => stream,
+        Err((NoMemory, source)) => return (source, Err(Status::NoMemory)),
+    };
+    let mut listed = ListedPairs::new(alloc, params);
+    match drain(&mut stream, &mut listed) {
+        Ok(()) => (stream.into_source(), Ok(listed)),
+        Err(fault) => {
+            let status = read_on(&mut stream, fault);
+            (stream.into_source(), Err(status))
+        }
+    }
+}
+
+/// Loads an empty store with the tree whose pairs are held, or tells that the tree has more pages than there are slots.
+fn load_listed<D: Disk>(
+    store: &mut Store<D>,
+    listed: &ListedPairs,
+) -> Result<LoadAnswer, ApplyFault>
     requires ready { IsReady D.state store.old }
     requires empty { store.old.tree ≡ empty_tree }
-    requires listed { (t : Tree) × IsListed listing.now t store.old.params }
-    ensures { LoadsListing D.state listing.now store.old store.new result }
+    requires listed { (t : Tree) × HoldsTree store.old.params listed.now t }
+    ensures { LoadsListed D.state listed.now store.old store.new result }
 {
-    match listing.pairs() {
+    match listed.kept() {
         Some(pairs) => store.load(pairs),
         None => Ok(LoadAnswer::Full {
-            need: listing.pages(),
+            need: listed.pages(),
             slots: store.params().slots(),
         }),
     }
 }
 
-/// Loads a store with the tree of the listing whose lines come, if it is empty. `Err` has the status of a call that
+/// Loads a store with the tree of the listing that a source has, if it is empty. `Err` has the status of a call that
 /// ended before: nothing is taken where the store is not empty.
 fn fill_store<D: Disk, R: Source>(
     alloc: Global,
     store: &mut Store<D>,
-    reader: &mut LineReader<R>,
-) -> Result<LoadAnswer, Status>
-    requires ready { IsReady D.state store.old }
-    requires unread { IsUnread reader.old }
-    ensures { FillsStore D.state R.state store.old store.new reader.old reader.new result }
+    source: R,
+) -> (R, Result<LoadAnswer, Status>)
+    requires { IsReady D.state store.old }
+    ensures { FillsStore D.state R.state store.old store.new source result.0 result.1 }
 {
     if !store.is_empty() {
-        return Err(Status::NotEmpty);
+        return (source, Err(Status::NotEmpty));
     }
-    let mut listing = Listing::new(alloc, store.params());
-    if !read_listing(reader, &mut listing)? {
-        return Err(Status::BadListing);
+    let (source, read) = read_listing(alloc, source, store.params());
+    match read {
+        Err(status) => (source, Err(status)),
+        Ok(listed) => match load_listed(store, &listed) {
+            Ok(answer) => (source, Ok(answer)),
+            Err(fault) => (source, Err(fault.into())),
+        },
     }
-    Ok(load_listing(store, &listing)?)
 }
 
 /// Prints that a tree has more pages than there are slots, and answers how the call ends.
@@ -78,13 +147,12 @@ fn print_filled<W: Sink>(sink: &mut W, filled: Result<LoadAnswer, Status>) -> St
     }
 }
 
-/// The work of `load`, of whose listing no line was read yet.
+/// The work of `load`, from whose source no byte was taken yet.
 #[derive(Drop)]
 struct LoadWork<R: Source, W: Sink> {
     alloc: Global,
-    reader: LineReader<R>,
+    source: R,
     sink: W,
-    ghost unread: { IsUnread reader },
 }
 
 impl<R: Source, W: Sink> StoreWork for LoadWork<R, W> {
@@ -97,7 +165,7 @@ impl<R: Source, W: Sink> StoreWork for LoadWork<R, W> {
 
     ghost word = { λ work. words.Load };
 
-    ghost given = { λ work. (work.reader.source, work.sink) };
+    ghost given = { λ work. (work.source, work.sink) };
 
     ghost keeps = { λ D disk_of work. KeepsLoad disk_of R.state W.state };
 
@@ -107,17 +175,17 @@ impl<R: Source, W: Sink> StoreWork for LoadWork<R, W> {
     fn work<D: Disk>(self, store: Store<D>) -> Outcome<D, R, W> {
         let LoadWork {
             alloc,
-            reader,
+            source,
             sink,
         } = self;
-        let (mut store, mut reader, mut sink) = (store, reader, sink);
-        let filled = fill_store(alloc, &mut store, &mut reader);
+        let (mut store, mut sink) = (store, sink);
+        let (source, filled) = fill_store(alloc, &mut store, source);
         let status = print_filled(&mut sink, filled);
         Outcome {
             status,
             done: status.done_of_work(),
             disk: store.into_disk(),
-            source: reader.into_source(),
+            source,
             sink,
         }
     }
@@ -125,15 +193,15 @@ impl<R: Source, W: Sink> StoreWork for LoadWork<R, W> {
     fn give_up<D: Disk>(self, fault: AttachFault, disk: D) -> Outcome<D, R, W> {
         let LoadWork {
             alloc: _,
-            reader,
+            source,
             sink,
         } = self;
-        Outcome::idle(fault.into(), disk, reader.into_source(), sink)
+        Outcome::idle(fault.into(), disk, source, sink)
     }
 }
 
-/// Loads the tree of the listing that the source has into an empty image, by one commit: takes the room of the reader
-/// of lines, opens the image, and reads the source to its end.
+/// Loads the tree of the listing that the source has into an empty image, by one commit: opens the image, and reads the
+/// source to its end.
 pub fn load_image<D: Disk, R: Source, W: Sink>(
     alloc: Global,
     disk: D,
@@ -145,13 +213,9 @@ pub fn load_image<D: Disk, R: Source, W: Sink>(
         (D.state result.disk) (R.state source)
         (R.state result.source) (W.state sink) (W.state result.sink) }
 {
-    let reader = match LineReader::new(alloc, source) {
-        Ok(reader) => reader,
-        Err((_, source)) => return Outcome::idle(Status::NoMemory, disk, source, sink),
-    };
     let work = LoadWork {
         alloc,
-        reader,
+        source,
         sink,
     };
     open_for(alloc, disk, work)

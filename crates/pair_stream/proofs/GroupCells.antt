@@ -27,7 +27,7 @@ slice_get-drop (x ∷ xs) (suc n) i = slice_get-drop xs n i
     ∙ ap (slice_get (x ∷ xs)) (let e : suc (n + i) ≡ suc n + i = omega arith in e)
 
 -- the cell of a run
-cell_of_run : (level : ℕ) (lead : Lead) (first index at : ℕ) (cells : List Cell) → at < page_room level
+pub cell_of_run : (level : ℕ) (lead : Lead) (first index at : ℕ) (cells : List Cell) → at < page_room level
     → cell_in (slice_get (pages_from level lead first cells) index) at ≡ slice_get cells (page_room level * index + at)
 cell_of_run level lead first index at [] within =
     ap (λ ps. cell_in (slice_get ps index) at) (no_page level lead first [] refl)

@@ -55,7 +55,7 @@ stands_first d s m stream holds height places = record {
 -- ---- one pair more
 
 -- an element of a list has what its value has
-if_some_at : {X : Type 0} (P : X → Type 0) (xs : List X) (i : ℕ) → ((x : X) → P (get_or xs i x))
+pub if_some_at : {X : Type 0} (P : X → Type 0) (xs : List X) (i : ℕ) → ((x : X) → P (get_or xs i x))
     → IfSome (slice_get xs i) P
 if_some_at {X} P xs i has = elim (slice_get_cases xs i).1 as (λ c. IfSome (slice_get xs i) P) [
   | inl at ↦ subst (λ o. IfSome o P) (sym at.2) (subst P at.3 (has at.0))

@@ -6,3 +6,5 @@ pub mod GroupCalls
 pub mod LeaderCalls
 pub mod LevelReads
 pub mod StreamCalls
+pub mod StartGroups
+pub mod StartLevels

@@ -28,7 +28,7 @@ last_length-behind [] part = refl
 last_length-behind (p ∷ []) part = refl
 last_length-behind (p ∷ q ∷ parts) part = last_length-behind (q ∷ parts) part
 
-length_of_last : (cuts : Cell → Bool) (xs : List Cell)
+pub length_of_last : (cuts : Cell → Bool) (xs : List Cell)
     → last_length (cut_before cuts xs) ≡ length (last_part cuts xs).part
 unfolding last_length cut_before
 length_of_last cuts xs = let l = last_part cuts xs in by_begins l.before l.part l.whole l.uncut l.begins

@@ -1,2 +1,3 @@
 pub mod GroupReads
+pub mod Starts
 pub mod Streams

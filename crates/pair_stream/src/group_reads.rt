@@ -36,7 +36,7 @@ pub fn next_key<P: Pages>(
 
 /// Copies page `index` of the group of level 0 that `lead` leads, if the group has so many pages. After a fault the
 /// page that was held still is.
-fn hold_page<P: Pages>(
+pub fn hold_page<P: Pages>(
     pages: &mut P,
     lead: &Lead,
     index: u32,

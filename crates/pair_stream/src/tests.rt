@@ -113,17 +113,32 @@ fn pages_of(rt: &impl Abort, alloc: Global, height: u8) -> CountedPages {
     pages
 }
 
-/// Whether a stream gives the 300 pairs in order, each once, and then no more.
-fn gives_all(pages: &mut CountedPages, height: u8) -> bool
-    requires { height ≤ height_limit }
-{
-    let mut stream = PairStream::new(height);
-    for number in 0..300 {
+/// Whether a stream gives the pairs from this number on in order, each once, and then no more.
+fn gives_rest(pages: &mut CountedPages, stream: &mut PairStream, first: u32) -> bool {
+    for number in first..300 {
         if stream.next(pages) != Ok(Some((key(number), Value::new(&[1])))) {
             return false;
         }
     }
     stream.next(pages) == Ok(None)
+}
+
+/// Whether one gives the 300 pairs.
+fn gives_all(pages: &mut CountedPages, height: u8) -> bool
+    requires { height ≤ height_limit }
+{
+    gives_rest(pages, &mut PairStream::new(height), 0)
+}
+
+/// Whether one that starts at the key of a number gives the pairs from it on.
+fn gives_from(pages: &mut CountedPages, height: u8, first: u32) -> bool
+    requires height { height ≤ height_limit }
+    requires number { first < 300 }
+{
+    match PairStream::starting_at(pages, height, &key(first)) {
+        Ok(mut stream) => gives_rest(pages, &mut stream, first),
+        Err(_) => false,
+    }
 }
 
 #[test]
@@ -132,6 +147,10 @@ fn one_level(rt: HostRuntime) {
     let mut pages = pages_of(&rt, rt.alloc(), 1);
     assert!(rt; gives_all(&mut pages, 1));
     assert!(rt; pages.lookups == 31);
+    // The 12 pages before key 120 and that of key 120, which is the first of it, and that page twice more: to hold it,
+    // and for its first pair. Then 17 pages, and one that is not there.
+    assert!(rt; gives_from(&mut pages, 1, 120));
+    assert!(rt; pages.lookups == 31 + 13 + 2 + 17 + 1);
 }
 
 #[test]
@@ -141,4 +160,8 @@ fn three_levels(rt: HostRuntime) {
     let mut pages = pages_of(&rt, rt.alloc(), 3);
     assert!(rt; gives_all(&mut pages, 3));
     assert!(rt; pages.lookups == 1 + 7 * 3 + 36 * 2 + 2);
+    // One page of each level, and that of level 0 once more, which has the pairs up to key 153. Of the 21 keys above
+    // level 0 from there on, 3 are on level 2.
+    assert!(rt; gives_from(&mut pages, 3, 150));
+    assert!(rt; pages.lookups == 96 + 4 + 3 * 3 + 18 * 2 + 2);
 }

@@ -10,6 +10,7 @@ pub mod StagedAnswers
 pub mod StagedSteps
 pub mod TreePages
 pub mod Unchanged
+pub mod WalkSteps
 pub mod UsedLemmas
 pub mod LoadSteps
 pub mod UpgradeLists

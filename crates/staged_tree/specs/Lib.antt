@@ -6,3 +6,4 @@ pub mod StagedTree
 pub mod Staging
 pub mod Steps
 pub mod UsedSlots
+pub mod Walks

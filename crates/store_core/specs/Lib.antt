@@ -4,3 +4,4 @@ pub mod Opening
 pub mod StoreCalls
 pub mod StoreFields
 pub mod StoreState
+pub mod Walks

@@ -6,7 +6,7 @@ use Rattle.std.proofs.lemmas.Bool.{lt-leb}
 use Rattle.std.proofs.lemmas.List.{append-nil, append_assoc, length-append, length-map, map-append}
 use Rattle.std.proofs.lemmas.List.Concat.{flat_map-append}
 use Rattle.std.proofs.Math.Seq.{set-append_seam}
-use Rattle.store_base.specs.declared.fault.NoMemory.{NoMemory}
+use Rattle.tree_listing.specs.declared.pairs.PairsFault.{PairsFault}
 use Rattle.store_model.specs.declared.version.Version.{Version}
 use Rattle.store_model.specs.declared.version.Version.TheVariants.{One, Two}
 use Rattle.store_model.specs.Draws.{Draw, draw_of}
@@ -119,13 +119,13 @@ adds_no_block d path number rest s none =
     (sym (ap (blocks_from path number) none ∙ block_none path number)) (adds_none d s)
 
 -- what was added may be told by other words
-pub on_ok : {P Q : Type 0} (result : Result (Unit {0}) NoMemory) → (P → Q) → OnOk result P → OnOk result Q
+pub on_ok : {P Q : Type 0} (result : Result (Unit {0}) PairsFault) → (P → Q) → OnOk result P → OnOk result Q
 on_ok (Ok u) f held = f held
 on_ok (Err e) f held = tt
 
 -- a file in blocks: its first pair, and the blocks
 pub adds_file : (d : Draw) (path : Path) (version : Version) (inline : Bool) (shown bytes value : List ℕ)
-    (old mid new : ListedPairs) (result : Result (Unit {0}) NoMemory)
+    (old mid new : ListedPairs) (result : Result (Unit {0}) PairsFault)
     → shown ≡ bytes → inline ≡ is_inline version (length shown) → inline ≡ false → value ≡ file_value (length shown)
     → AddsPairs d old.pairs ((key path 0, value) ∷ []) old mid
     → OnOk result (AddsPairs d mid.pairs (blocks_from path 1 shown) mid new)
@@ -141,7 +141,7 @@ adds_file d path version inline shown bytes value old mid new result same form b
 
 -- a piece: the file's length, and the blocks
 pub adds_piece : (d : Draw) (path : Path) (at len : ℕ) (shown bytes : List ℕ) (old mid new : ListedPairs)
-    (result : Result (Unit {0}) NoMemory)
+    (result : Result (Unit {0}) PairsFault)
     → shown ≡ bytes → len ≡ min (at + length shown) 4294967295 → mid.pairs ≡ with_length old.pairs old.first path len
     → mid.counter ≡ old.counter
     → OnOk result (AddsPairs d mid.pairs (blocks_from path (at / file_block + 1) shown) mid new)

@@ -1,8 +1,8 @@
 -- Each step that goes on with a dump: its pairs are taken.
 use Rattle.std.specs.Result.{OnOk}
-use Rattle.std.proofs.Common.{Result, Ok, ◌≡◌, ℕ, ◌+◌, ◌*◌, List, [], ◌∷◌, ◌++◌, length, ◌⊎◌, inl, inr, refl, sym}
-use Rattle.std.proofs.Common.{subst, arith}
-use Rattle.store_base.specs.declared.fault.NoMemory.{NoMemory}
+use Rattle.std.proofs.Common.{Result, ◌≡◌, ℕ, ◌+◌, ◌*◌, List, [], ◌∷◌, ◌++◌, length, ◌⊎◌, inl, inr, sym}
+use Rattle.std.proofs.Common.{ap, subst, ◌∙◌, arith}
+use Rattle.tree_listing.specs.declared.pairs.PairsFault.{PairsFault}
 use Rattle.store_model.specs.Draws.{Draw, draw_of}
 use Rattle.store_model.specs.Pages.{IsTreeUnder}
 use Rattle.store_model.specs.Parameters.{Parameters}
@@ -12,12 +12,13 @@ use Rattle.store_model.specs.Trees.{Tree, IsAttribute}
 use Rattle.store_model.specs.Trees.Node.{Directory, File}
 use Rattle.store_model.proofs.ListsLemmas.{all_back}
 use Rattle.tree_reader.specs.Seen.{MayStandNext, bare_entry}
-use Rattle.tree_listing.specs.Dumps.{after_step}
+use Rattle.tree_listing.specs.Dumps.{DumpStep, after_step, dump}
 use Rattle.tree_listing.specs.Dumps.DumpStep.{Make, Write, Set}
 use Rattle.tree_listing.specs.declared.pairs.ListedPairs.{ListedPairs}
-use Rattle.tree_listing.specs.Listed.{HoldsListed, TakesPairs, AddsPairs, AddsPiece, AddsAttribute}
-use Rattle.tree_listing.proofs.DumpFronts.{next_of_goes_on}
-use Rattle.tree_listing.proofs.NextTrees.{IsNext, IsFirstWrite, IsLaterWrite, IsLaterName, named_entry, tree_of_make}
+use Rattle.tree_listing.specs.Listed.{HoldsListed, TookSteps, TakesPairs, AddsPairs, AddsPiece, AddsAttribute}
+use Rattle.tree_listing.specs.Reading.{GoesOn}
+use Rattle.tree_listing.proofs.DumpFronts.{next_of_goes_on, empty_under, dump_front, goes_on_with, dumps_tell_trees}
+use Rattle.tree_listing.proofs.NextTrees.{IsFirstWrite, IsLaterWrite, IsLaterName, named_entry, tree_of_make}
 use Rattle.tree_listing.proofs.NextTrees.{tree_of_first, last_stands, later_leads, name_leads}
 use Rattle.tree_listing.proofs.ListedLemmas.{on_ok, holds_path, holds_piece, holds_name}
 
@@ -25,9 +26,27 @@ use Rattle.tree_listing.proofs.ListedLemmas.{on_ok, holds_path, holds_piece, hol
 held_of : (listed : ListedPairs) (t u : Tree) (p : Parameters) → t ≡ u → HoldsListed listed t p → HoldsListed listed u p
 held_of listed t u p same held = subst (λ (w : Tree). HoldsListed listed w p) same held
 
+-- no steps are the dump of the empty tree
+pub took_none : (listed : ListedPairs) → TookSteps listed listed []
+unfolding dump
+took_none listed p none t under e = held_of listed [] t p (dumps_tell_trees [] t p (empty_under p) under (sym e)) none
+
+-- a step more goes on with the dump of a tree, if it is the last one of a dump
+pub took_more : (first old new : ListedPairs) (steps : List DumpStep) (s : DumpStep)
+    → ((t : Tree) (p : Parameters) → HoldsListed old t p → IsTreeUnder t p → GoesOn t s p
+    → HoldsListed new (after_step t s) p)
+    → TookSteps first old steps → TookSteps first new (steps ++ s ∷ [])
+took_more first old new steps s more took p none t under e =
+    let behind = λ (front : List DumpStep). front ++ s ∷ [] in
+    let front = dump_front t p steps (s ∷ []) under e in
+    let goes = goes_on_with front.tree t s [] p front.under under (e ∙ ap behind (sym front.dump_is)) in
+    held_of new (after_step front.tree s) t p
+    (dumps_tell_trees (after_step front.tree s) t p goes.under under (goes.dump_is ∙ ap behind front.dump_is ∙ sym e))
+    (more front.tree p (took p none front.tree front.under front.dump_is) front.under goes)
+
 -- a directory
 pub takes_directory : (old new : ListedPairs) (path : Path) (d : Draw) (value : List ℕ)
-    (result : Result (Unit {0}) NoMemory) → d ≡ draw_of old.params → new.params ≡ old.params
+    (result : Result (Unit {0}) PairsFault) → d ≡ draw_of old.params → new.params ≡ old.params
     → new.first ≡ length old.pairs → value ≡ directory_value
     → OnOk result (AddsPairs d old.pairs ((key path 0, value) ∷ []) old new) → TakesPairs old new (Make path) result
 unfolding node_pairs
@@ -61,7 +80,7 @@ no_later t path bytes later =
     omega (arith, at, full)
 
 pub takes_file : (old new : ListedPairs) (path : Path) (at : ℕ) (bytes : List ℕ) (d : Draw)
-    (result : Result (Unit {0}) NoMemory) → at ≡ 0 → d ≡ draw_of old.params → new.params ≡ old.params
+    (result : Result (Unit {0}) PairsFault) → at ≡ 0 → d ≡ draw_of old.params → new.params ≡ old.params
     → new.first ≡ length old.pairs
     → OnOk result (AddsPairs d old.pairs (file_pairs (is_inline old.params.version (length bytes)) path bytes) old new)
     → TakesPairs old new (Write path at bytes) result
@@ -98,7 +117,7 @@ later_write old new t path at bytes p d draw params first adds held under later 
     (held_of old t was p later.entries_are held) draw params (omega (arith, full)) (piece fits) first)
 
 pub takes_piece : (old new : ListedPairs) (path : Path) (at : ℕ) (bytes : List ℕ) (d : Draw)
-    (result : Result (Unit {0}) NoMemory) → (at ≡ 0 → ⊥) → d ≡ draw_of old.params → new.params ≡ old.params
+    (result : Result (Unit {0}) PairsFault) → (at ≡ 0 → ⊥) → d ≡ draw_of old.params → new.params ≡ old.params
     → new.first ≡ old.first
     → OnOk result (AddsPiece d path at bytes old new) → TakesPairs old new (Write path at bytes) result
 takes_piece old new path at bytes d result further draw params first added = record {
@@ -115,7 +134,7 @@ takes_piece old new path at bytes d result further draw params first added = rec
 
 -- an attribute
 pub takes_name : (old new : ListedPairs) (path : Path) (name : Name) (bytes : List ℕ) (d : Draw)
-    (result : Result (Unit {0}) NoMemory) → d ≡ draw_of old.params → new.params ≡ old.params → new.first ≡ old.first
+    (result : Result (Unit {0}) PairsFault) → d ≡ draw_of old.params → new.params ≡ old.params → new.first ≡ old.first
     → OnOk result (AddsAttribute d path name bytes old new) → TakesPairs old new (Set path name bytes) result
 takes_name old new path name bytes d result draw params first added = record {
   taken = λ t p held under goes. on_ok result

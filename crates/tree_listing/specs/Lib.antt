@@ -2,5 +2,4 @@ pub mod Dumps
 pub mod Steps
 pub mod Reading
 pub mod Listed
-pub mod Listings
 pub mod Laws

@@ -2,7 +2,6 @@
 use Rattle.std.specs.Prelude.{◌≡◌, ℕ, ◌+◌, ◌/◌, ◌≤◌, ◌<◌, List, [], ◌∷◌, ◌++◌, map, length, slice_set, Option}
 use Rattle.std.specs.Prelude.{MatchOption, Result, OnOk, false}
 use Rattle.std.specs.List.{enumerate_from}
-use Rattle.store_base.specs.declared.fault.NoMemory.{NoMemory}
 use Rattle.store_model.specs.Lists.{runs}
 use Rattle.store_model.specs.Parameters.{Parameters}
 use Rattle.store_model.specs.Trees.{Tree, Entry, IsAttribute, file_limit}
@@ -13,9 +12,10 @@ use Rattle.store_model.specs.Pages.{page_count}
 use Rattle.store_model.specs.Pages.{IsTreeUnder}
 use Rattle.layout_scratch.specs.Counting.{HasCounted}
 use Rattle.layout_scratch.specs.Sorting.{sorted_limit}
-use Rattle.tree_listing.specs.Dumps.{DumpStep, after_step}
+use Rattle.tree_listing.specs.Dumps.{DumpStep, after_step, dump}
 use Rattle.tree_listing.specs.Reading.{GoesOn}
 use Rattle.tree_listing.specs.declared.pairs.ListedPairs.{ListedPairs}
+use Rattle.tree_listing.specs.declared.pairs.PairsFault.{PairsFault}
 
 -- the keys of pairs
 abbrev pub keys_of : List Pair → List (List ℕ)
@@ -34,8 +34,13 @@ pub record HoldsListed (listed : ListedPairs) (t : Tree) (p : Parameters) : Type
   pub kept : listed.counter.pages ≤ p.slots → listed.pairs ≡ pairs t p
   pub first : listed.counter.pages ≤ p.slots → IsFirstOfLast t p listed.first
 
+-- Where nothing was held at first, and these steps are the dump of a tree, the pairs of that tree are held now.
+abbrev pub TookSteps : ListedPairs → ListedPairs → List DumpStep → Type 0
+TookSteps first now steps = (p : Parameters) → HoldsListed first [] p → (t : Tree) → IsTreeUnder t p → dump t ≡ steps
+    → HoldsListed now t p
+
 -- the pairs of a step are taken that goes on with the dump of a tree
-pub record TakesPairs (old new : ListedPairs) (s : DumpStep) (result : Result (Unit {0}) NoMemory) : Type 0 where
+pub record TakesPairs (old new : ListedPairs) (s : DumpStep) (result : Result (Unit {0}) PairsFault) : Type 0 where
   pub taken : (t : Tree) (p : Parameters) → HoldsListed old t p → IsTreeUnder t p → GoesOn t s p
       → OnOk result (HoldsListed new (after_step t s) p)
 

@@ -1,6 +1,6 @@
 //! The pairs of a listing's tree, while they come.
 
-ghost use Rattle.std.specs.Prelude.{◌≡◌, ◌+◌, ◌∷◌, ◌<◌, ◌≤◌, [], length, OnOk};
+ghost use Rattle.std.specs.Prelude.{◌≡◌, ◌+◌, ◌∷◌, ◌++◌, ◌<◌, ◌≤◌, List, [], length, OnOk};
 ghost use Rattle.std.specs.Option.{option_map};
 ghost use Rattle.store_model.specs.Parameters.{Parameters, height_limit};
 ghost use Rattle.store_model.specs.Trees.{Tree};
@@ -9,9 +9,10 @@ ghost use Rattle.store_model.specs.Pairs as model;
 ghost use Rattle.store_model.specs.Draws.{draw_of};
 ghost use Rattle.store_model.specs.Pages.{page_count};
 ghost use Rattle.seeded_draw.specs.AnyDrawn.{any_draw};
+ghost use Rattle.tree_listing.specs.Dumps as dumps;
 ghost use Rattle.tree_listing.specs.Dumps.DumpStep.{Write};
-ghost use Rattle.tree_listing.specs.Listed.{HoldsListed, TakesPairs, AddsPairs, AddsPiece, AddsAttribute, TellsPairs};
-ghost use Rattle.tree_listing.specs.Listed.{blocks_from, with_length};
+ghost use Rattle.tree_listing.specs.Listed.{HoldsListed, TookSteps, TakesPairs, AddsPairs, AddsPiece, AddsAttribute};
+ghost use Rattle.tree_listing.specs.Listed.{TellsPairs, blocks_from, with_length};
 
 use crate::step::{DumpStep, Step};
 use layout_scratch::PageCounter;
@@ -20,6 +21,7 @@ use path_keys::{AttrName, Path, attr_key};
 use seeded_draw::{AnyDraw, Front};
 use std::alloc::Global;
 use store_base::{Bytes, Key, NoMemory, Params, Value};
+use thiserror::Error;
 use tree_pairs::{
     ATTRIBUTE_LIMIT, FILE_BLOCK, attribute_value, directory_value, file_value, inline_value,
     is_inline,
@@ -42,10 +44,21 @@ pub struct ListedPairs {
     first: u32,
 }
 
-/// What is answered where there would be more pairs than can be laid out: it is answered as want of memory, which their
-/// pages would come to long before.
-fn too_many() -> NoMemory {
-    NoMemory
+/// Why the pairs of a step were not added.
+#[derive(Clone, Copy, Debug, PartialEq, Eq, Error)]
+pub enum PairsFault {
+    /// Memory ran out.
+    #[error("memory ran out")]
+    NoMemory,
+    /// There would be more than 268,435,456 pairs, which is more than can be laid out.
+    #[error("there are too many pairs")]
+    TooMany,
+}
+
+impl From<NoMemory> for PairsFault {
+    fn from(_: NoMemory) -> Self {
+        PairsFault::NoMemory
+    }
 }
 
 /// The draw that an image's parameters name.
@@ -63,6 +76,7 @@ impl ListedPairs {
     pub fn new(alloc: Global, params: &Params) -> Self
         ensures params { result.params ≡ params.now }
         ensures listed { HoldsListed result [] params.now }
+        ensures took { TookSteps result result [] }
     {
         ListedPairs {
             params: *params,
@@ -73,11 +87,12 @@ impl ListedPairs {
         }
     }
 
-    /// Takes the pairs of a step that goes on with the dump.
-    /// `NoMemory`: memory ran out, or there would be more than 268,435,456 pairs; what is kept is spoilt then.
-    pub fn take(&mut self, step: &DumpStep) -> Result<(), NoMemory>
+    /// Adds the pairs of the next step of a dump. Whether the step goes on with the dump is not looked at.
+    /// After an error what is kept is spoilt.
+    pub fn add(&mut self, step: &DumpStep) -> Result<(), PairsFault>
         ensures params { self.new.params ≡ self.old.params }
-        ensures taken { TakesPairs self.old self.new step.now result }
+        ensures took { (first : ListedPairs) (steps : List dumps.DumpStep) → TookSteps first self.old steps
+            → OnOk result (TookSteps first self.new (steps ++ step.now ∷ [])) }
         ensures emptied { OnOk result (self.new.params.slots < self.new.counter.pages
             → self.new.pairs ≡ []) }
     {
@@ -99,7 +114,7 @@ impl ListedPairs {
     }
 
     /// Adds the pairs of a step that goes on with the dump.
-    fn push_pairs(&mut self, step: &DumpStep) -> Result<(), NoMemory>
+    fn push_pairs(&mut self, step: &DumpStep) -> Result<(), PairsFault>
         ensures params { self.new.params ≡ self.old.params }
         ensures taken { TakesPairs self.old self.new step.now result }
     {
@@ -118,7 +133,7 @@ impl ListedPairs {
         path: &Path,
         at: u32,
         bytes: &Bytes,
-    ) -> Result<(), NoMemory>
+    ) -> Result<(), PairsFault>
         requires draw { any_draw draw.now ≡ draw_of self.old.params }
         requires height { (any_draw draw.now).height ≤ height_limit }
         ensures params { self.new.params ≡ self.old.params }
@@ -131,7 +146,7 @@ impl ListedPairs {
     }
 
     /// Adds the pairs of a file that came to be.
-    fn push_file(&mut self, draw: &AnyDraw, path: &Path, bytes: &Bytes) -> Result<(), NoMemory>
+    fn push_file(&mut self, draw: &AnyDraw, path: &Path, bytes: &Bytes) -> Result<(), PairsFault>
         requires { (any_draw draw.now).height ≤ height_limit }
         ensures params { self.new.params ≡ self.old.params }
         ensures first { self.new.first ≡ length self.old.pairs }
@@ -157,7 +172,7 @@ impl ListedPairs {
         path: &Path,
         at: u32,
         bytes: &Bytes,
-    ) -> Result<(), NoMemory>
+    ) -> Result<(), PairsFault>
         requires { (any_draw draw.now).height ≤ height_limit }
         ensures params { self.new.params ≡ self.old.params }
         ensures first { self.new.first ≡ self.old.first }
@@ -188,7 +203,7 @@ impl ListedPairs {
         path: &Path,
         name: &AttrName,
         bytes: &Bytes,
-    ) -> Result<(), NoMemory>
+    ) -> Result<(), PairsFault>
         requires { (any_draw draw.now).height ≤ height_limit }
         ensures params { self.new.params ≡ self.old.params }
         ensures first { self.new.first ≡ self.old.first }
@@ -212,7 +227,7 @@ impl ListedPairs {
         path: &Path,
         first: u32,
         bytes: &[u8],
-    ) -> Result<(), NoMemory>
+    ) -> Result<(), PairsFault>
         requires height { (any_draw draw.now).height ≤ height_limit }
         requires few { first + length bytes.now < 4294967296 }
         ensures params { self.new.params ≡ self.old.params }
@@ -233,7 +248,7 @@ impl ListedPairs {
     }
 
     /// Adds the first pair of a path.
-    fn push_first(&mut self, draw: &AnyDraw, path: &Path, value: Value) -> Result<(), NoMemory>
+    fn push_first(&mut self, draw: &AnyDraw, path: &Path, value: Value) -> Result<(), PairsFault>
         requires { (any_draw draw.now).height ≤ height_limit }
         ensures params { self.new.params ≡ self.old.params }
         ensures first { self.new.first ≡ length self.old.pairs }
@@ -246,7 +261,7 @@ impl ListedPairs {
     }
 
     /// Adds a pair behind all others, and counts it.
-    fn push(&mut self, draw: &AnyDraw, key: Key, value: Value) -> Result<(), NoMemory>
+    fn push(&mut self, draw: &AnyDraw, key: Key, value: Value) -> Result<(), PairsFault>
         requires { (any_draw draw.now).height ≤ height_limit }
         ensures params { self.new.params ≡ self.old.params }
         ensures first { self.new.first ≡ self.old.first }
@@ -254,10 +269,11 @@ impl ListedPairs {
             (AddsPairs (any_draw draw.now) self.old.pairs ((key, value) ∷ []) self.old self.new) }
     {
         if self.counter.keys() >= MAX_PAIRS {
-            return Err(too_many());
+            return Err(PairsFault::TooMany);
         }
         self.counter.add(draw, &mut self.front, &key);
-        self.pairs.push((key, value))
+        self.pairs.push((key, value))?;
+        Ok(())
     }
 
     /// How many pages the tree has.

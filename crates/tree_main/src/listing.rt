@@ -7,6 +7,7 @@ use script_lines::StdSource;
 use std::fs::{self, File};
 use std::io;
 use std::io::{BufReader, Read, Stdin};
+use store_base::Version;
 
 /// The word that names standard input.
 pub const INPUT: &str = "-";
@@ -44,9 +45,9 @@ fn called(rt: HostRuntime, name: &str) -> Result<String, Trouble> {
     }
 }
 
-/// The steps of the listing that a reader has.
+/// The steps of the listing that a reader has, of either version: version 2 allows all that version 1 does.
 fn listing_of(rt: HostRuntime, reader: Reader) -> Result<Listing, Trouble> {
-    match ListingStream::new(rt.alloc(), StdSource::new(reader)) {
+    match ListingStream::new(rt.alloc(), StdSource::new(reader), Version::Two) {
         Ok(listing) => Ok(listing),
         Err(_) => Err(Trouble::NoMemory),
     }

@@ -1,32 +1,12 @@
 //! `plan`: how many slots an image needs for a folder.
 
-ghost use Rattle.std.specs.Prelude.{List, ⊤};
-
 use crate::folder::{FolderDump, go_through, trouble_of};
 use crate::output::print;
 use crate::trouble::Trouble;
 use crate::words::{Shape, Taken, params_of};
-use dump_streams::{DrainFault, Taker, TakerFault, drain};
-use store_base::{MAX_SLOTS, NoMemory, Params};
-use tree_listing::{DumpStep, Listing};
-
-/// Counts the pages of the tree whose dump comes.
-#[derive(Drop)]
-struct PageTaker {
-    listing: Listing,
-}
-
-impl Taker for PageTaker {
-    ghost took = { λ first now steps. ⊤ };
-
-    fn take(&mut self, step: &DumpStep) -> Result<(), TakerFault> {
-        match self.listing.add(step) {
-            Ok(true) => Ok(()),
-            Ok(false) => Err(TakerFault::Failed),
-            Err(NoMemory) => Err(TakerFault::NoMemory),
-        }
-    }
-}
+use dump_streams::{DrainFault, TakerFault, drain};
+use store_base::{MAX_SLOTS, Params};
+use tree_listing::ListedPairs;
 
 /// Prints how many slots an image needs for a folder, how many are best, and the words that make such an image. It
 /// says whether all of the folder is counted.
@@ -77,15 +57,13 @@ fn with_room(need: u32) -> u32 {
 
 /// How many slots the tree of a folder needs: one for each of its pages.
 fn need_of(rt: HostRuntime, dump: &mut FolderDump, params: &Params) -> Result<u32, Trouble> {
-    let mut taker = PageTaker {
-        listing: Listing::new(rt.alloc(), params),
-    };
-    let drained = drain(dump, &mut taker);
+    let mut listed = ListedPairs::new(rt.alloc(), params);
+    let drained = drain(dump, &mut listed);
     dump.finish();
     match drained {
-        Ok(()) => Ok(taker.listing.pages()),
+        Ok(()) => Ok(listed.pages()),
         Err(DrainFault::Taker(TakerFault::NoMemory)) => Err(Trouble::NoMemory),
-        Err(DrainFault::Taker(TakerFault::Failed)) => Err(Trouble::NotCounted),
+        Err(DrainFault::Taker(TakerFault::Failed)) => Err(Trouble::TooManyPairs),
         Err(DrainFault::Stream(fault)) => Err(trouble_of(rt, dump, fault)),
     }
 }

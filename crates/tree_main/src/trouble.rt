@@ -46,9 +46,9 @@ pub enum Trouble {
     /// A folder has more entries than an image can hold.
     #[error("the folder has too many entries for any image")]
     TooMany,
-    /// What was given of a folder is no dump.
-    #[error("the slots were not counted")]
-    NotCounted,
+    /// The tree of a folder has more pairs than can be counted, and so than any image has room for.
+    #[error("it holds too much for any image")]
+    TooManyPairs,
     /// The tree of a folder needs more slots than any image has.
     #[error("it needs {0} slots, and no image has more than 65536")]
     FitsNone(u32),

@@ -10,7 +10,6 @@
 //! the image behind it.
 
 use disk_model::{FailingDisk, MemDisk};
-use image_claims::number_of;
 use script_claims::{Crash, Disk, Ended, Machine, Making};
 use script_lines::{MemSink, MemSource};
 use std::alloc::Global;
@@ -147,7 +146,7 @@ pub fn are(found: [u64; 4], wanted: &[u64; 4]) -> bool {
 /// Looks whether a call ended so.
 pub fn expect_end(rt: &impl Abort, alloc: Global, ended: Ended, wanted: &Wanted<'_>) {
     let disk = ended.disk.into_disk();
-    let status = u64::from(number_of(ended.status));
+    let status = u64::from(ended.status.code());
     let found = [status, ended.done, disk.write_count(), disk.sync_count()];
     let is_written = ended.sink.written() == wanted.1.as_bytes();
     let is_image = disk.bytes() == image_of(rt, alloc, wanted.2).as_slice();

@@ -27,12 +27,15 @@ fn is_written(rt: &impl Abort, alloc: Global, text: &[u8], piece: usize, written
     drained == Ok(()) && taker.into_sink().written() == written
 }
 
-/// The number of the line that is refused; 0 where none is.
+/// The number of the line that is refused, told after the lines behind it were read; 0 where none is.
 fn refused_line(rt: &impl Abort, alloc: Global, text: &[u8]) -> u64 {
     let mut stream = stream_of(rt, alloc, text, 5, NEVER);
-    match drain(&mut stream, &mut NoTaker) {
-        Err(DrainFault::Stream(StreamFault::NoDump)) => stream.line(),
-        _ => 0,
+    let drained = drain(&mut stream, &mut NoTaker);
+    let is_refused = drained == Err(DrainFault::Stream(StreamFault::NoDump));
+    if is_refused && stream.read_to_end() == Ok(()) {
+        stream.line()
+    } else {
+        0
     }
 }
 

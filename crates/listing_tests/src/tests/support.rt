@@ -5,6 +5,7 @@ use host_folders::{Found, MemEntry};
 use script_lines::MemSource;
 use std::alloc::Global;
 use std::process::Abort;
+use store_base::Version;
 use test_tools::{path_of, source_of};
 use tree_pairs::Kind;
 
@@ -18,7 +19,9 @@ pub fn stream_of(
     failing: u64,
 ) -> ListingStream<MemSource> {
     let source = source_of(alloc, text, &[piece; 64], &[failing]).expect(rt, "memory");
-    ListingStream::new(alloc, source).ok().expect(rt, "memory")
+    ListingStream::new(alloc, source, Version::Two)
+        .ok()
+        .expect(rt, "memory")
 }
 
 /// The lines of a file `/f` of 2,049 bytes.

@@ -40,6 +40,7 @@ returns-in_err-take-clause-drains g c came took =
       extends = next.extends was.0 was.1;
       before = c.loop.taker;
       took_is = was.2;
+      broke_is = c.in_err-take.ensures.broken;
     })
 
 pub loop-preserved : goal.loop-preserved
@@ -53,7 +54,7 @@ loop-preserved g c = (
         after_step was.0 step,
         next.came was.0 was.1,
         subst (λ (steps : List DumpStep). g.T.Taker.took c.args.taker.now c.take.new.self steps)
-            (sym extends.dump_is) (c.in_ok-take.ensures c.args.taker.now _ was.2),
+            (sym extends.dump_is) (c.in_ok-take.ensures.taken c.args.taker.now _ was.2),
         ap length extends.dump_is ∙ length-append _ (step ∷ []) ∙ ap (λ n. n + 1) was.3,
       ),
 )
@@ -63,4 +64,8 @@ returns-clause-drains g c came took =
     let was = c.loop.invariant.1 came took in
     let count = was.3 in
     let test = c.loop-test.false in
-    record { tree = was.0; why = inr (record { fault_is = refl; many = omega (arith, count, test) }); took_is = was.2 }
+    record {
+      tree = was.0;
+      why = inr (record { came_is = was.1; fault_is = refl; many = omega (arith, count, test) });
+      took_is = was.2;
+    }

@@ -1,7 +1,8 @@
 use Rattle.std.proofs.Common.{ℕ, sym, subst}
 use Rattle.image_subcommands.specs.Outside.{outside_of}
 use Rattle.image_subcommands.specs.ScrubCall.{IsScrub}
-use Rattle.image_subcommands.proofs.CheckLemmas.{scrub_ends}
+use Rattle.image_subcommands.proofs.CheckLemmas.{scrub_ends, reported_in_memory}
+use Rattle.image_subcommands.proofs.ReportLemmas.{outside_report}
 use Rattle.image_subcommands.proofs.scrub.scrub_disk.Goals as goal
 
 pub returns-clause-scrub : goal.returns-clause-scrub
@@ -18,3 +19,15 @@ returns-clause-scrub g c =
       sink = c.print_report-status.new.sink;
     }))
     (sym c.done_of_verdict.ensures) ends
+
+pub returns-clause-memory : goal.returns-clause-memory
+returns-clause-memory g c =
+    reported_in_memory g.W.Sink.state c.scrub-disk.result.1 c.args.sink c.print_report-status.new.sink
+    c.print_report-status.result c.scrub-disk.ensures.memory c.print_report-status.ensures
+
+pub returns-clause-outside : goal.returns-clause-outside
+returns-clause-outside g c =
+    outside_report g.W.Sink.state c.scrub-disk.result.1 (g.D.Disk.state c.args.disk)
+    (g.D.Disk.state c.scrub-disk.result.0) (g.R.Source.state c.args.source) c.args.sink
+    c.print_report-status.new.sink c.print_report-status.result
+    c.scrub-disk.ensures.kept c.scrub-disk.ensures.faults c.print_report-status.ensures

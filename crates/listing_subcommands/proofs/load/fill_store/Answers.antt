@@ -1,56 +1,48 @@
-use Rattle.std.proofs.Common.{Ok, Err, Bool, [], refl, subst}
-use Rattle.std.proofs.lemmas.Result.{err_from_is_err_and}
+use Rattle.std.proofs.Common.{Result, Ok, Err, refl, subst}
 use Rattle.store_model.specs.Parameters.{Parameters}
-use Rattle.tree_listing.specs.Listings.{IsListed}
+use Rattle.tree_listing.specs.declared.pairs.ListedPairs.{ListedPairs}
+use Rattle.image_subcommands.specs.declared.status.Status.{Status}
 use Rattle.listing_subcommands.specs.Filling.{FillsStore as fills}
 use Rattle.listing_subcommands.specs.Listings.{ReadsListing}
 use Rattle.listing_subcommands.proofs.load.fill_store.Goals as goal
 
-pub returns-in_err-read_listing : goal.returns-in_err-read_listing
-returns-in_err-read_listing g c =
-    let status = err_from_is_err_and c.from_residual.result c.from_residual.ensures.1 in
-    let none = subst (λ (q : Parameters). IsListed c.new-listing.result [] q)
-    c.params.ensures.value c.new-listing.ensures in
-    rw (status.1, status.2)
-    (fills.Stops c.in_err-read_listing.field-0.0 refl
-    (record {
+pub returns-in-Err : goal.returns-in-Err
+returns-in-Err g c =
+    let p = c.args.store.now.params in
+    let new = c.read_listing-source.result.0 in
+    let reads = subst (λ (q : Parameters). ReadsListing g.R.Source.state q c.args.source new
+    c.read_listing-source.result.1) c.params.ensures.value c.read_listing-source.ensures in
+    fills.Stops c.in-Err.status refl (record {
       empty = c.is_empty.ensures.empty c.if-not-is_empty.false;
       store_same = refl;
-      listing = c.read_listing.new.listing;
-      reads = c.in_err-read_listing.ensures c.args.store.now.params none;
-    }))
+      reads = subst (λ (r : Result ListedPairs Status). ReadsListing g.R.Source.state p c.args.source new r) c.in-Err.is
+          reads;
+    })
 
-pub returns-in_err-load_listing : goal.returns-in_err-load_listing
-returns-in_err-load_listing g c =
-    let status = err_from_is_err_and c.from_residual-in_err-load_listing.result
-    c.from_residual-in_err-load_listing.ensures.1 in
-    let none = subst (λ (q : Parameters). IsListed c.new-listing.result [] q)
-    c.params.ensures.value c.new-listing.ensures in
-    let reads =
-    subst (λ (b : Bool). ReadsListing g.R.Source.state c.args.store.now.params c.args.reader.now
-    c.read_listing.new.reader c.read_listing.new.listing (Ok b))
-    c.if-not-branch.false (c.in_ok-read_listing.ensures c.args.store.now.params none) in
-    rw (status.1, status.2)
-    (fills.Fills (Err c.in_err-load_listing.field-0.0) refl
-    (record {
+pub returns-in-Ok-load_listed : goal.returns-in-Ok-load_listed
+returns-in-Ok-load_listed g c =
+    let p = c.args.store.now.params in
+    let new = c.read_listing-source.result.0 in
+    let reads = subst (λ (q : Parameters). ReadsListing g.R.Source.state q c.args.source new
+    c.read_listing-source.result.1) c.params.ensures.value c.read_listing-source.ensures in
+    fills.Fills (Ok c.in-Ok-load_listed.answer) refl (record {
       empty = c.is_empty.ensures.empty c.if-not-is_empty.false;
-      listing = c.read_listing.new.listing;
-      reads = reads;
-      loads = c.in_err-load_listing.ensures;
-    }))
+      listed = c.in-Ok.listed;
+      reads = subst (λ (r : Result ListedPairs Status). ReadsListing g.R.Source.state p c.args.source new r) c.in-Ok.is
+          reads;
+      loads = c.in-Ok-load_listed.ensures;
+    })
 
 pub returns : goal.returns
 returns g c =
-    let none = subst (λ (q : Parameters). IsListed c.new-listing.result [] q)
-    c.params.ensures.value c.new-listing.ensures in
-    let reads =
-    subst (λ (b : Bool). ReadsListing g.R.Source.state c.args.store.now.params c.args.reader.now
-    c.read_listing.new.reader c.read_listing.new.listing (Ok b))
-    c.if-not-branch.false (c.in_ok-read_listing.ensures c.args.store.now.params none) in
-    fills.Fills (Ok c.in_ok-load_listing.field-0) refl
-    (record {
+    let p = c.args.store.now.params in
+    let new = c.read_listing-source.result.0 in
+    let reads = subst (λ (q : Parameters). ReadsListing g.R.Source.state q c.args.source new
+    c.read_listing-source.result.1) c.params.ensures.value c.read_listing-source.ensures in
+    rw c.into.ensures (fills.Fills (Err c.in-Err-load_listed.fault) refl (record {
       empty = c.is_empty.ensures.empty c.if-not-is_empty.false;
-      listing = c.read_listing.new.listing;
-      reads = reads;
-      loads = c.in_ok-load_listing.ensures;
-    })
+      listed = c.in-Ok.listed;
+      reads = subst (λ (r : Result ListedPairs Status). ReadsListing g.R.Source.state p c.args.source new r) c.in-Ok.is
+          reads;
+      loads = c.in-Err-load_listed.ensures;
+    }))

@@ -1,7 +1,7 @@
 use Rattle.std.proofs.Common.{arith}
+use Rattle.dump_streams.proofs.DrainSteps.{next_failed}
 use Rattle.host_folders.specs.Packed.{CameOf, IsPacked, EndsBy}
 use Rattle.host_folders.proofs.StepLemmas.{came_whole, next_whole}
-use Rattle.host_folders.proofs.FaultLemmas.{next_failed}
 use Rattle.host_folders.proofs.stream.FolderStream.begin.Goals as goal
 
 pub returns-then-self-len-clause-next : goal.returns-then-self-len-clause-next

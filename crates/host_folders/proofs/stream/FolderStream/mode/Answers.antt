@@ -3,11 +3,12 @@ use Rattle.tree_listing.specs.Dumps.{DumpStep}
 use Rattle.tree_listing.specs.Dumps.DumpStep.{Set}
 use Rattle.tree_listing.specs.Reading.{AddsStep}
 use Rattle.dump_streams.specs.Streams.{IsNext}
+use Rattle.dump_streams.proofs.DrainSteps.{next_failed}
 use Rattle.host_folders.specs.Packed.{CameOf, IsPacked, EndsBy, AsksFor, found_at}
 use Rattle.host_folders.specs.declared.stream.FolderStream.{FolderStream}
 use Rattle.host_folders.specs.declared.stream.Place.TheVariants as places
 use Rattle.host_folders.proofs.StepLemmas.{gives_mode, next_given}
-use Rattle.host_folders.proofs.FaultLemmas.{next_failed, mode_asked, ends_so}
+use Rattle.host_folders.proofs.FaultLemmas.{mode_asked, ends_so}
 use Rattle.host_folders.proofs.stream.FolderStream.mode.Goals as goal
 
 pub returns-clause-next : goal.returns-clause-next

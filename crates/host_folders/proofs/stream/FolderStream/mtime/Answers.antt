@@ -3,13 +3,14 @@ use Rattle.tree_listing.specs.Dumps.{DumpStep}
 use Rattle.tree_listing.specs.Dumps.DumpStep.{Set}
 use Rattle.tree_listing.specs.Reading.{AddsStep}
 use Rattle.dump_streams.specs.Streams.{IsNext}
+use Rattle.dump_streams.proofs.DrainSteps.{next_failed}
 use Rattle.host_folders.specs.Packed.{CameOf, IsPacked, EndsBy, AsksFor, found_at}
 use Rattle.host_folders.specs.declared.stream.FolderStream.{FolderStream}
 use Rattle.std.specs.Fmt.{decimal}
 use Rattle.host_folders.specs.declared.stream.Place.{Place}
 use Rattle.host_folders.specs.declared.stream.Place.TheVariants as places
 use Rattle.host_folders.proofs.StepLemmas.{gives_mtime, next_given}
-use Rattle.host_folders.proofs.FaultLemmas.{next_failed, mtime_asked, ends_so}
+use Rattle.host_folders.proofs.FaultLemmas.{mtime_asked, ends_so}
 use Rattle.host_folders.proofs.stream.FolderStream.mtime.Goals as goal
 
 pub returns-clause-next : goal.returns-clause-next

@@ -1,12 +1,13 @@
 use Rattle.std.proofs.Common.{refl, ap, ◌∙◌, Ok, sym, true, subst}
 use Rattle.tree_listing.specs.Dumps.{DumpStep}
 use Rattle.dump_streams.specs.Streams.{IsNext}
+use Rattle.dump_streams.proofs.DrainSteps.{next_failed}
 use Rattle.host_folders.specs.Packed.{CameOf, IsPacked, EndsBy, AsksFor, found_at}
 use Rattle.host_folders.specs.declared.stream.FolderStream.{FolderStream}
 use Rattle.host_folders.specs.declared.stream.Place.{Place}
 use Rattle.host_folders.specs.declared.stream.Place.TheVariants as places
 use Rattle.host_folders.proofs.StepLemmas.{gives_piece, passes_file, next_given, next_behind}
-use Rattle.host_folders.proofs.FaultLemmas.{next_failed, read_kind, ends_so}
+use Rattle.host_folders.proofs.FaultLemmas.{read_kind, ends_so}
 use Rattle.host_folders.proofs.stream.FolderStream.piece.Goals as goal
 
 pub returns-then-count-eq0-clause-next : goal.returns-then-count-eq0-clause-next

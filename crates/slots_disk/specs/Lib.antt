@@ -1,0 +1,2 @@
+pub mod SlotsDisks
+pub mod RecoveredDisks
