@@ -7,3 +7,8 @@ pub mod TakingLemmas
 pub mod RefusalLemmas
 pub mod TreeLemmas
 pub mod ListingLemmas
+pub mod StretchLemmas
+pub mod TestLemmas
+pub mod MovedLemmas
+pub mod PartLemmas
+pub mod RenameLemmas

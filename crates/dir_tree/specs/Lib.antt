@@ -3,3 +3,4 @@ pub mod KindCalls
 pub mod ListCalls
 pub mod RefusalCalls
 pub mod SubtreeCalls
+pub mod MoveCalls

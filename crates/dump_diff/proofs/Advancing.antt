@@ -10,16 +10,16 @@ use Rattle.std.specs.List.Sorted.{IsStrictlySortedBy}
 use Rattle.std.proofs.lemmas.Bool.{false≢true}
 use Rattle.std.proofs.lemmas.List.{append-nil, map-append}
 use Rattle.std.proofs.lemmas.List.Elements.{filter-append}
-use Rattle.tree_listing.specs.Dumps.{DumpStep, step_path}
-use Rattle.tree_listing.specs.Dumps.DumpStep.{Make, Write, Set}
+use Rattle.dump_streams.specs.Dumps.{DumpStep, step_path}
+use Rattle.dump_streams.specs.Dumps.DumpStep.{Make, Write, Set}
 use Rattle.store_model.specs.Paths.{Path, path_cmp}
-use Rattle.tree_listing.specs.Dumps.{after_step}
+use Rattle.dump_streams.specs.Dumps.{after_step}
 use Rattle.store_model.specs.Trees.{Tree, Entry}
 use Rattle.store_model.proofs.ListsLemmas.{all_weaker, all_append, all_back, all_filter, is_sorted_from_rising}
 use Rattle.store_model.proofs.ListsLemmas.{rising_from_is_sorted, rising_head, rising_tail, rising_append, rising_one}
 use Rattle.store_model.proofs.ListsLemmas.{rising_to_map, rising_from_map}
 use Rattle.store_model.proofs.TreesLemmasPaths.{path_cmp_total, same_from_test}
-use Rattle.tree_listing.specs.Dumps.{dump}
+use Rattle.dump_streams.specs.Dumps.{dump}
 use Rattle.dump_streams.specs.Streams.{Extends}
 use Rattle.dump_diff.specs.declared.difference.Mark.{Mark}
 use Rattle.dump_diff.specs.declared.difference.Mark.TheVariants.{Removed, Added, Kind, Bytes, Attributes}

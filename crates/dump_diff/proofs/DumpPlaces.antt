@@ -14,8 +14,8 @@ use Rattle.std.proofs.lemmas.List.Elements.{filter-append, All-contains, All-fro
 use Rattle.std.proofs.lemmas.List.Elements.{Contains-append_cases}
 use Rattle.store_model.specs.Lists.{runs}
 use Rattle.store_model.specs.Paths.{Path, Name, name_cmp, path_cmp}
-use Rattle.tree_listing.specs.Dumps.{DumpStep, step_path}
-use Rattle.tree_listing.specs.Dumps.DumpStep.{Make, Write, Set}
+use Rattle.dump_streams.specs.Dumps.{DumpStep, step_path}
+use Rattle.dump_streams.specs.Dumps.DumpStep.{Make, Write, Set}
 use Rattle.store_model.specs.Trees.{Tree, Node, Entry, Attributes, AreAttributes, IsEntry, IsTree, is_directory_node}
 use Rattle.store_model.specs.Trees.Node.{Directory, File}
 use Rattle.store_model.proofs.ListsLemmas.{all_none, all_weaker, all_append, all_back, all_map, all_flat_map, IsBelow}
@@ -23,7 +23,7 @@ use Rattle.store_model.proofs.ListsLemmas.{rising_one, rising_append, rising_map
 use Rattle.store_model.proofs.ListsLemmas.{rising_from_is_sorted, rising_head, rising_tail, numbers_rise}
 use Rattle.store_model.proofs.ListsLemmas.{less_from_nat_cmp, nat_cmp-lt, length-runs}
 use Rattle.store_model.proofs.TreesLemmasPaths.{same_from_test, same_path-from_equal}
-use Rattle.tree_listing.specs.Dumps.{dump_piece, file_steps, node_steps, attribute_steps, entry_steps, dump}
+use Rattle.dump_streams.specs.Dumps.{dump_piece, file_steps, node_steps, attribute_steps, entry_steps, dump}
 use Rattle.dump_diff.specs.Places.{place_cmp, is_first, makes, sets, writes}
 use Rattle.dump_diff.specs.Shown.{own, begins, node_part}
 use Rattle.dump_diff.proofs.PlaceOrder.{place_by_path, place_by_part, unset_before_set, set_writes_none}

@@ -8,7 +8,7 @@ use Rattle.std.specs.List.{AllByRecursion}
 use Rattle.std.proofs.lemmas.Bool.{false≢true}
 use Rattle.std.proofs.lemmas.List.{append-nil}
 use Rattle.std.proofs.lemmas.List.Elements.{filter-append}
-use Rattle.tree_listing.specs.Dumps.{DumpStep, step_path}
+use Rattle.dump_streams.specs.Dumps.{DumpStep, step_path}
 use Rattle.store_model.specs.Paths.{Path, path_cmp}
 use Rattle.store_model.proofs.ListsLemmas.{all_weaker, all_append, rising_append, rising_one, rising_from_is_sorted}
 use Rattle.store_model.proofs.ListsLemmas.{is_sorted_from_rising}

@@ -8,8 +8,8 @@ use Rattle.std.proofs.lemmas.List.{append-nil}
 use Rattle.std.proofs.lemmas.List.Elements.{All-contains, All-from_recursion, Contains-append_left, Contains-push}
 use Rattle.std.proofs.lemmas.List.Elements.{Contains-push_cases, filter-append}
 use Rattle.store_model.specs.Paths.{Path}
-use Rattle.tree_listing.specs.Dumps.{DumpStep, step_path}
-use Rattle.tree_listing.specs.Dumps.DumpStep.{Make, Write, Set}
+use Rattle.dump_streams.specs.Dumps.{DumpStep, step_path}
+use Rattle.dump_streams.specs.Dumps.DumpStep.{Make, Write, Set}
 use Rattle.store_model.proofs.ListsLemmas.{all_weaker}
 use Rattle.dump_diff.specs.declared.difference.Mark.{Mark}
 use Rattle.dump_diff.specs.declared.difference.Mark.TheVariants.{Removed, Added, Kind, Bytes, Attributes}

@@ -6,9 +6,9 @@ use Rattle.std.specs.FinMap.{find}
 use Rattle.std.specs.List.{Contains}
 use Rattle.std.specs.Result.{OnOk, is_ok}
 use Rattle.std.proofs.lemmas.Bool.{false≢true}
-use Rattle.tree_listing.specs.Dumps.{DumpStep, step_path}
+use Rattle.dump_streams.specs.Dumps.{DumpStep, step_path}
 use Rattle.store_model.specs.Paths.{Path, Name, path_cmp, name_cmp}
-use Rattle.tree_listing.specs.Dumps.{after_step}
+use Rattle.dump_streams.specs.Dumps.{after_step}
 use Rattle.std.proofs.lemmas.Option.{same_Some}
 use Rattle.store_model.specs.Trees.{Tree, Entry, Node, Attributes as Held, IsTree, is_directory_node, attributes_of}
 use Rattle.store_model.specs.Trees.{attribute_at}
@@ -16,7 +16,7 @@ use Rattle.store_model.specs.Trees.Node.{Directory, File}
 use Rattle.std.specs.List.Sorted.{IsStrictlySortedBy}
 use Rattle.store_model.proofs.ListsLemmas.{rising_from_is_sorted, rising_nil}
 use Rattle.dump_diff.specs.declared.difference.AttributeDifference.{AttributeDifference}
-use Rattle.tree_listing.specs.Dumps.{dump, node_steps, attribute_steps, entry_steps}
+use Rattle.dump_streams.specs.Dumps.{dump, node_steps, attribute_steps, entry_steps}
 use Rattle.dump_diff.specs.declared.heads.Head.{Head}
 use Rattle.dump_diff.specs.declared.comparing.Merge.{Merge}
 use Rattle.dump_diff.specs.declared.differences.Differences.{Differences}

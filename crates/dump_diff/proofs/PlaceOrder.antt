@@ -9,8 +9,8 @@ use Rattle.std.specs.FinMap.{slice_cmp-IsAntisymmetric, nat_cmp-IsAntisymmetric}
 use Rattle.std.proofs.lemmas.Bool.{false≢true}
 use Rattle.std.proofs.lemmas.Cmp.{then_total, on_total}
 use Rattle.store_model.specs.Paths.{Path, path_cmp}
-use Rattle.tree_listing.specs.Dumps.{DumpStep, step_path}
-use Rattle.tree_listing.specs.Dumps.DumpStep.{Make, Write, Set}
+use Rattle.dump_streams.specs.Dumps.{DumpStep, step_path}
+use Rattle.dump_streams.specs.Dumps.DumpStep.{Make, Write, Set}
 use Rattle.store_model.proofs.ListsLemmas.{nat_cmp-gt}
 use Rattle.store_model.proofs.TreesLemmasPaths.{path_cmp_total, same_from_tie}
 use Rattle.dump_diff.specs.Places.{part, part_cmp, place_cmp, is_first, sets, writes}

@@ -12,8 +12,8 @@ use Rattle.std.proofs.lemmas.List.{append-nil, map-append}
 use Rattle.std.proofs.lemmas.List.Concat.{flat_map-append}
 use Rattle.std.proofs.lemmas.List.Elements.{filter-append}
 use Rattle.store_model.specs.Paths.{Path, Name, path_cmp, name_cmp}
-use Rattle.tree_listing.specs.Dumps.{DumpStep, step_path}
-use Rattle.tree_listing.specs.Dumps.DumpStep.{Make, Write, Set}
+use Rattle.dump_streams.specs.Dumps.{DumpStep, step_path}
+use Rattle.dump_streams.specs.Dumps.DumpStep.{Make, Write, Set}
 use Rattle.store_model.specs.Trees.{Attributes as Held}
 use Rattle.store_model.proofs.PathsLemmasPlaces.{name_cmp_total, same_name_from_tie}
 use Rattle.store_model.proofs.TreesLemmasPaths.{path_cmp_total, same_from_test, tie_from_test}

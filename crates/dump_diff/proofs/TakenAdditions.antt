@@ -4,7 +4,7 @@ use Rattle.std.specs.List.{filter, flat_map}
 use Rattle.std.proofs.lemmas.List.{append-nil, append_assoc}
 use Rattle.std.proofs.lemmas.List.Concat.{flat_map-append}
 use Rattle.std.proofs.lemmas.List.Elements.{filter-append}
-use Rattle.tree_listing.specs.Dumps.{DumpStep, step_line, steps_text}
+use Rattle.dump_streams.specs.Dumps.{DumpStep, step_line, steps_text}
 use Rattle.script_lines.specs.SinkState.{SinkState, IsPut}
 use Rattle.dump_diff.specs.declared.differences.Differences.{Differences}
 use Rattle.dump_diff.specs.declared.script.AdditionTaker.{AdditionTaker}

@@ -6,12 +6,12 @@ use Rattle.std.proofs.lemmas.List.{append-nil}
 use Rattle.std.proofs.lemmas.List.Concat.{flat_map-append}
 use Rattle.store_model.specs.Lists.{runs}
 use Rattle.store_model.specs.Paths.{Path}
-use Rattle.tree_listing.specs.Dumps.{DumpStep}
-use Rattle.tree_listing.specs.Dumps.DumpStep.{Make, Write, Set}
+use Rattle.dump_streams.specs.Dumps.{DumpStep}
+use Rattle.dump_streams.specs.Dumps.DumpStep.{Make, Write, Set}
 use Rattle.store_model.specs.Trees.{Node, Entry, Attributes}
 use Rattle.store_model.specs.Trees.Node.{Directory, File}
 use Rattle.store_model.proofs.ListsLemmasCuts.{flat_map-runs}
-use Rattle.tree_listing.specs.Dumps.{dump_piece, file_steps, node_steps, attribute_steps, entry_steps}
+use Rattle.dump_streams.specs.Dumps.{dump_piece, file_steps, node_steps, attribute_steps, entry_steps}
 use Rattle.dump_diff.specs.Places.{makes}
 use Rattle.dump_diff.specs.Sides.{attributes_in}
 use Rattle.dump_diff.proofs.DumpPlaces.{piece_step, name_step}

@@ -2,9 +2,9 @@
 use Rattle.std.specs.Prelude.{◌≡◌, true, false, List, Option, Some, None}
 use Rattle.std.specs.declared.cmp.Ordering.TheVariants.{Less, Equal}
 use Rattle.store_model.specs.Trees.{Tree, IsTree}
-use Rattle.tree_listing.specs.Dumps.{DumpStep}
-use Rattle.tree_listing.specs.Dumps.{after_step}
-use Rattle.tree_listing.specs.Dumps.{dump}
+use Rattle.dump_streams.specs.Dumps.{DumpStep}
+use Rattle.dump_streams.specs.Dumps.{after_step}
+use Rattle.dump_streams.specs.Dumps.{dump}
 use Rattle.dump_streams.specs.Streams.{Extends}
 use Rattle.dump_diff.specs.declared.heads.Head.{Head}
 use Rattle.dump_diff.specs.declared.comparing.Merge.{Merge}

@@ -4,8 +4,8 @@ use Rattle.std.specs.declared.cmp.Ordering.{Ordering}
 use Rattle.std.specs.Ordering.{ordering_then, nat_cmp}
 use Rattle.std.specs.Cmp.Lexicographic.{slice_cmp}
 use Rattle.store_model.specs.Paths.{path_cmp}
-use Rattle.tree_listing.specs.Dumps.{DumpStep, step_path}
-use Rattle.tree_listing.specs.Dumps.DumpStep.{Make, Write, Set}
+use Rattle.dump_streams.specs.Dumps.{DumpStep, step_path}
+use Rattle.dump_streams.specs.Dumps.DumpStep.{Make, Write, Set}
 
 -- where a step stands in the dump of an entry: first comes what makes a directory or writes, by offset, and then come
 -- the attributes, by name

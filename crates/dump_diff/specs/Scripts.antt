@@ -8,8 +8,8 @@ use Rattle.std.specs.Ordering.{ordering_then}
 use Rattle.store_model.specs.Paths.{Path, Name, path_cmp, name_cmp, parent, path_text}
 use Rattle.store_model.specs.Commands.{Command, command_text, line}
 use Rattle.store_model.specs.Commands.Command.{Cut, Prune, UnsetAttribute}
-use Rattle.tree_listing.specs.Dumps.{DumpStep, steps_text}
-use Rattle.tree_listing.specs.Dumps.DumpStep.{Make, Write, Set}
+use Rattle.dump_streams.specs.Dumps.{DumpStep, steps_text}
+use Rattle.dump_streams.specs.Dumps.DumpStep.{Make, Write, Set}
 use Rattle.script_lines.specs.declared.command.Command as declared
 use Rattle.script_lines.specs.Parsing.{command_of}
 use Rattle.script_lines.specs.SinkState.{SinkState, IsObservable, Puts}

@@ -6,8 +6,8 @@ use Rattle.std.specs.FinMap.{find, is_sorted}
 use Rattle.std.specs.List.{filter, AllByRecursion, Contains}
 use Rattle.std.specs.declared.cmp.Ordering.TheVariants.{Less}
 use Rattle.store_model.specs.Paths.{Path, path_cmp}
-use Rattle.tree_listing.specs.Dumps.{DumpStep, step_path}
-use Rattle.tree_listing.specs.Dumps.DumpStep.{Make, Write, Set}
+use Rattle.dump_streams.specs.Dumps.{DumpStep, step_path}
+use Rattle.dump_streams.specs.Dumps.DumpStep.{Make, Write, Set}
 use Rattle.dump_diff.specs.declared.difference.Mark.{Mark}
 use Rattle.dump_diff.specs.declared.difference.Mark.TheVariants.{Removed, Added, Kind, Bytes, Attributes}
 use Rattle.dump_diff.specs.declared.difference.Side.{Side}

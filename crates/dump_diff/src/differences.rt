@@ -11,11 +11,11 @@ ghost use Rattle.dump_diff.specs.Sides.{IsAttributeNoted, with_attribute};
 ghost use Rattle.dump_diff.specs.Shown.{FitsSide, IsLastMark, IsNoted, Marks, change_of, change_of_two, noted};
 
 use crate::difference::{AttributeDifference, Difference, Mark, Side};
+use dump_streams::{DumpStep, Step};
 use path_keys::{AttrName, Path};
 use std::alloc::Global;
 use std::cmp::Ordering;
 use store_base::NoMemory;
-use tree_listing::{DumpStep, Step};
 
 /// What is different between two trees.
 #[derive(Debug, Drop)]

@@ -4,8 +4,7 @@ ghost use Rattle.std.specs.Prelude.{OnOk};
 ghost use Rattle.store_model.specs.Trees.{Tree, IsTree};
 ghost use Rattle.dump_diff.specs.Ahead.{IsAhead};
 
-use dump_streams::{DumpStream, StreamFault};
-use tree_listing::DumpStep;
+use dump_streams::{DumpStep, DumpStream, StreamFault};
 
 /// The next step of a stream.
 #[derive(Drop)]

@@ -3,8 +3,8 @@
 ghost use Rattle.std.specs.Prelude.{◌≡◌, ◌↔◌, IsTrue};
 ghost use Rattle.dump_diff.specs.Places.{part_cmp, place_cmp};
 
+use dump_streams::{DumpStep, Step};
 use std::cmp::Ordering;
-use tree_listing::{DumpStep, Step};
 
 /// How the places of two steps in a dump compare: their paths, and at one path what the entry has there.
 pub fn order(one: &DumpStep, other: &DumpStep) -> Ordering

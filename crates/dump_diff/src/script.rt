@@ -4,7 +4,7 @@ ghost use Rattle.std.specs.Prelude.{◌≡◌, [], true, false, Ok, ⊤};
 ghost use Rattle.std.specs.List.{flat_map};
 ghost use Rattle.std.specs.FinMap.{find};
 ghost use Rattle.store_model.specs.Paths.{parent, path_cmp};
-ghost use Rattle.tree_listing.specs.Dumps.{step_line};
+ghost use Rattle.dump_streams.specs.Dumps.{step_line};
 ghost use Rattle.dump_diff.specs.declared.difference.Mark.TheVariants as marks;
 ghost use Rattle.dump_diff.specs.Differences.{marks_of};
 ghost use Rattle.script_lines.specs.SinkState.{IsPut, Puts};
@@ -13,10 +13,9 @@ ghost use Rattle.dump_diff.specs.Scripts.{AreRising, TakesAddition, TookAddition
 
 use crate::difference::{AttributeDifference, Difference, Mark, Side};
 use crate::differences::Differences;
-use dump_streams::{Taker, TakerFault};
+use dump_streams::{DumpStep, Step, Taker, TakerFault, write_step};
 use path_keys::Path;
 use script_lines::{Command, Sink, SinkFault, write_command};
-use tree_listing::{DumpStep, Step, write_step};
 
 /// Writes the first part of the script: the lines that take away what the second tree has not, and cut what it has
 /// otherwise. These are `prune` for each path that is gone or has another kind, unless its parent is pruned; `cut` to

@@ -2,7 +2,7 @@
 use Rattle.std.proofs.Common.{◌≡◌, Bool, Result, Ok, Err, sym, subst}
 use Rattle.std.specs.Prelude.{MatchResult, IsErrAnd}
 use Rattle.store_model.specs.Trees.{Tree}
-use Rattle.tree_listing.specs.Dumps.{DumpStep}
+use Rattle.dump_streams.specs.Dumps.{DumpStep}
 use Rattle.dump_streams.specs.Streams.{IsNext}
 use Rattle.dump_streams.specs.declared.fault.StreamFault.{StreamFault}
 

@@ -17,10 +17,10 @@ use Rattle.script_lines.specs.declared.lines.LineFault.{LineFault}
 use Rattle.script_lines.specs.declared.lines.LineFault.TheVariants as causes
 use Rattle.script_lines.proofs.LineLemmas.{lines-none}
 use Rattle.script_lines.proofs.StateLemmas.{Answers-refl, Answers-trans}
-use Rattle.tree_listing.specs.declared.reader.ListingReader.{ListingReader}
-use Rattle.tree_listing.specs.Dumps.{DumpStep, command_of_step, after_step, dump, IsListing}
-use Rattle.tree_listing.specs.Reading.{HasRead, GoesOn, BreaksOff}
-use Rattle.tree_listing.proofs.StepLemmas.{reading_long, readings_more, none_by}
+use Rattle.dump_streams.specs.declared.reader.ListingReader.{ListingReader}
+use Rattle.dump_streams.specs.Dumps.{DumpStep, command_of_step, after_step, dump, IsListing}
+use Rattle.dump_streams.specs.Reading.{HasRead, GoesOn, BreaksOff}
+use Rattle.dump_streams.proofs.StepLemmas.{reading_long, readings_more, none_by}
 use Rattle.dump_streams.specs.declared.listing.ListingStream.{ListingStream}
 use Rattle.dump_streams.specs.Faults.{line_fault}
 use Rattle.dump_streams.specs.Streams.{Extends}

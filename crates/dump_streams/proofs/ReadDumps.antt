@@ -2,8 +2,8 @@
 use Rattle.std.proofs.Common.{◌≡◌, ◌⊎◌, List, Result, Ok, Err, inl, inr, subst, ◌∙◌, arith}
 use Rattle.store_model.specs.Trees.{Tree}
 use Rattle.script_lines.specs.SourceState.{SourceState, IsObservable}
-use Rattle.tree_listing.specs.Dumps.{DumpStep, IsListing}
-use Rattle.tree_listing.proofs.StepLemmas.{one_dump}
+use Rattle.dump_streams.specs.Dumps.{DumpStep, IsListing}
+use Rattle.dump_streams.proofs.StepLemmas.{one_dump}
 use Rattle.dump_streams.specs.Draining.{Drains, IsTooLong}
 use Rattle.dump_streams.specs.Listings.{CameOf, IsListed, IsOfSame, EndsBy}
 use Rattle.dump_streams.specs.ReadListings.{HasListing, TakesListing}

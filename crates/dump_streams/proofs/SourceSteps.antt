@@ -5,7 +5,7 @@ use Rattle.std.proofs.lemmas.Bool.{false≢true}
 use Rattle.std.proofs.lemmas.List.{append-nil, nil_from_length}
 use Rattle.store_model.specs.Trees.{Tree, empty_tree}
 use Rattle.store_model.specs.Commands.{line}
-use Rattle.tree_listing.specs.Dumps.{after_step, step_text, step_line, steps_text}
+use Rattle.dump_streams.specs.Dumps.{after_step, step_text, step_line, steps_text}
 use Rattle.dump_streams.specs.declared.source.ListingSource.{ListingSource}
 use Rattle.dump_streams.specs.Streams.{Extends}
 use Rattle.dump_streams.specs.Sources.{Gave, IsReady}

@@ -4,7 +4,7 @@ use Rattle.std.specs.Prelude.{OnOk, IfErr}
 use Rattle.std.proofs.lemmas.List.{append-nil, append_assoc}
 use Rattle.std.proofs.lemmas.List.Concat.{flat_map-append}
 use Rattle.script_lines.specs.SinkState.{SinkState, IsPut}
-use Rattle.tree_listing.specs.Dumps.{DumpStep, step_line, steps_text}
+use Rattle.dump_streams.specs.Dumps.{DumpStep, step_line, steps_text}
 use Rattle.dump_streams.specs.declared.gather.GatheredLines.{GatheredLines}
 use Rattle.dump_streams.specs.declared.taker.TakerFault.{TakerFault}
 use Rattle.dump_streams.specs.GatheredLines.{lines_state, GathersLine, TookGathered, BreaksGathered}

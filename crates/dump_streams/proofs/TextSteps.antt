@@ -1,11 +1,11 @@
 -- What the text of a line asks for, offered to a reader of listings.
 use Rattle.std.proofs.Common.{◌≡◌, ℕ, Bool, true, false, List, Ok, refl, subst}
 use Rattle.store_model.specs.Scripts.{reading}
-use Rattle.tree_listing.specs.declared.reader.ListingReader.{ListingReader}
-use Rattle.tree_listing.specs.Dumps.{DumpStep, command_of_step}
-use Rattle.tree_listing.specs.Steps.{ReadsStep}
-use Rattle.tree_listing.specs.Reading.{AddsStep, BreaksOff}
-use Rattle.tree_listing.proofs.StepLemmas.{same_step}
+use Rattle.dump_streams.specs.declared.reader.ListingReader.{ListingReader}
+use Rattle.dump_streams.specs.Dumps.{DumpStep, command_of_step}
+use Rattle.dump_streams.specs.Steps.{ReadsStep}
+use Rattle.dump_streams.specs.Reading.{AddsStep, BreaksOff}
+use Rattle.dump_streams.proofs.StepLemmas.{same_step}
 use Rattle.dump_streams.specs.Listings.{TakesText}
 
 module _ (old new : ListingReader) (s : DumpStep) (text : List ℕ) where

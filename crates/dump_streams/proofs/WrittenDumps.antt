@@ -2,7 +2,7 @@
 use Rattle.std.proofs.Common.{◌≡◌, [], Result, Ok, Err, sym, ap, subst, ◌∙◌}
 use Rattle.store_model.specs.Trees.{Tree, empty_tree}
 use Rattle.script_lines.specs.SinkState.{SinkState}
-use Rattle.tree_listing.specs.Dumps.{dump}
+use Rattle.dump_streams.specs.Dumps.{dump}
 use Rattle.dump_streams.specs.Lines.{TookLines, BreaksLine}
 use Rattle.dump_streams.specs.Draining.{Drains, WritesDump, HasWritten}
 use Rattle.dump_streams.specs.declared.fault.StreamFault.{StreamFault}

@@ -2,7 +2,7 @@
 use Rattle.std.specs.Prelude.{◌≡◌, ◌⊎◌, ◌-◌, ◌^◌, ◌≤◌, List, [], ◌++◌, length, Result, Err, MatchResult}
 use Rattle.store_model.specs.Trees.{Tree, empty_tree}
 use Rattle.script_lines.specs.SinkState.{SinkState, IsObservable, IsPut}
-use Rattle.tree_listing.specs.Dumps.{DumpStep, after_step, dump, dump_text, step_line}
+use Rattle.dump_streams.specs.Dumps.{DumpStep, after_step, dump, dump_text, step_line}
 use Rattle.dump_streams.specs.Streams.{Extends}
 use Rattle.dump_streams.specs.declared.fault.StreamFault.{StreamFault}
 use Rattle.dump_streams.specs.declared.fault.StreamFault.TheVariants as streams

@@ -1,7 +1,7 @@
 -- A taker that gathers the lines of steps, as its clauses see it.
 use Rattle.std.specs.Prelude.{◌≡◌, ℕ, List, Result, Ok, Err}
 use Rattle.script_lines.specs.SinkState.{SinkState, IsPut}
-use Rattle.tree_listing.specs.Dumps.{DumpStep, step_line}
+use Rattle.dump_streams.specs.Dumps.{DumpStep, step_line}
 use Rattle.dump_streams.specs.Gathered.{Gathered, gathered_state}
 use Rattle.dump_streams.specs.Lines.{AppendsSteps}
 use Rattle.dump_streams.specs.declared.gather.GatheredLines.{GatheredLines}

@@ -1,3 +1,11 @@
+pub mod Dumps
+pub mod Steps
+pub mod Reading
+pub mod Listed
+pub mod Laws
+pub mod Making
+pub mod Spots
+pub mod Taking
 pub mod Faults
 pub mod Streams
 pub mod Takers

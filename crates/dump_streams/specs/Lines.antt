@@ -1,6 +1,6 @@
 -- The lines that were written of steps.
 use Rattle.std.specs.Prelude.{◌≡◌, List, ◌++◌, Result, Err}
-use Rattle.tree_listing.specs.Dumps.{DumpStep, step_line, steps_text}
+use Rattle.dump_streams.specs.Dumps.{DumpStep, step_line, steps_text}
 use Rattle.script_lines.specs.SinkState.{SinkState, IsObservable, IsPut}
 use Rattle.dump_streams.specs.declared.lines.LineTaker.{LineTaker}
 use Rattle.dump_streams.specs.declared.taker.TakerFault.{TakerFault}

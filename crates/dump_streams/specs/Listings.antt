@@ -8,9 +8,9 @@ use Rattle.store_model.specs.Trees.{Tree}
 use Rattle.store_model.specs.Scripts.{reading, script_limit}
 use Rattle.script_lines.specs.SourceState.{SourceState, IsObservable}
 use Rattle.script_lines.specs.LineState.{LineState, Answers, unread}
-use Rattle.tree_listing.specs.declared.reader.ListingReader.{ListingReader}
-use Rattle.tree_listing.specs.Dumps.{DumpStep, command_of_step, after_step, dump, readings, IsListing}
-use Rattle.tree_listing.specs.Reading.{HasRead, GoesOn, BreaksOff}
+use Rattle.dump_streams.specs.declared.reader.ListingReader.{ListingReader}
+use Rattle.dump_streams.specs.Dumps.{DumpStep, command_of_step, after_step, dump, readings, IsListing}
+use Rattle.dump_streams.specs.Reading.{HasRead, GoesOn, BreaksOff}
 use Rattle.dump_streams.specs.declared.fault.StreamFault.{StreamFault}
 use Rattle.dump_streams.specs.declared.fault.StreamFault.TheVariants as faults
 use Rattle.dump_streams.specs.declared.listing.ListingStream.{ListingStream}

@@ -2,7 +2,7 @@
 use Rattle.std.specs.Prelude.{List, [], Result, MatchResult, ⊤}
 use Rattle.store_model.specs.Trees.{Tree, empty_tree}
 use Rattle.script_lines.specs.SourceState.{SourceState, IsObservable}
-use Rattle.tree_listing.specs.Dumps.{DumpStep, dump, IsListing}
+use Rattle.dump_streams.specs.Dumps.{DumpStep, dump, IsListing}
 use Rattle.dump_streams.specs.Listings.{CameOf, IsTreeOf}
 use Rattle.dump_streams.specs.declared.listing.ListingStream.{ListingStream}
 use Rattle.dump_streams.specs.declared.fault.StreamFault.TheVariants as streams

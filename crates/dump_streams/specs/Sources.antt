@@ -1,7 +1,7 @@
 -- A source that has the lines of a stream.
 use Rattle.std.specs.Prelude.{◌≡◌, ℕ, true, false, List, [], ◌++◌}
 use Rattle.store_model.specs.Trees.{Tree}
-use Rattle.tree_listing.specs.Dumps.{dump_text}
+use Rattle.dump_streams.specs.Dumps.{dump_text}
 use Rattle.script_lines.specs.SourceState.{SourceState}
 use Rattle.dump_streams.specs.declared.source.ListingSource.{ListingSource}
 

@@ -2,7 +2,7 @@
 use Rattle.std.specs.Prelude.{◌≡◌, [], ◌∷◌, ◌++◌, Bool, Result, IfOk, IfErr}
 use Rattle.std.specs.Bool.{OnTrue, OnFalse}
 use Rattle.store_model.specs.Trees.{Tree, IsTree}
-use Rattle.tree_listing.specs.Dumps.{DumpStep, after_step, dump}
+use Rattle.dump_streams.specs.Dumps.{DumpStep, after_step, dump}
 use Rattle.dump_streams.specs.declared.fault.StreamFault.{StreamFault}
 
 -- the dump of the tree and the step are the dump of the tree that the step leads to

@@ -1,6 +1,6 @@
 -- What a taker of steps does.
 use Rattle.std.specs.Prelude.{List, [], ◌∷◌, ◌++◌, Result, OnOk, ⊤}
-use Rattle.tree_listing.specs.Dumps.{DumpStep}
+use Rattle.dump_streams.specs.Dumps.{DumpStep}
 use Rattle.dump_streams.specs.declared.taker.TakerFault.{TakerFault}
 
 -- one more step was taken

@@ -4,11 +4,11 @@ ghost use Rattle.std.specs.Prelude.{◌≡◌, []};
 ghost use Rattle.store_model.specs.Trees.{Tree};
 ghost use Rattle.dump_streams.specs.Draining.{Drains};
 
+use crate::DumpStep;
 use crate::fault::StreamFault;
 use crate::stream::DumpStream;
 use crate::taker::{Taker, TakerFault};
 use thiserror::Error;
-use tree_listing::DumpStep;
 
 /// Why the steps of a stream were not all taken.
 #[derive(Clone, Copy, Debug, PartialEq, Eq, Error)]

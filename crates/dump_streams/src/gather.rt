@@ -3,18 +3,18 @@
 ghost use Rattle.std.specs.Prelude.{◌≡◌, ◌+◌, ◌≤◌, ◌<◌, [], false, IsTrue, IfOk, IfErr, OnOk, length};
 ghost use Rattle.store_base.specs.Counts.{raised};
 ghost use Rattle.script_lines.specs.SinkState.{IsPut, IsObservable};
-ghost use Rattle.tree_listing.specs.Dumps.{step_line};
+ghost use Rattle.dump_streams.specs.Dumps.{step_line};
 ghost use Rattle.dump_streams.specs.Gathered.{gathered_state, gathers_none, CallsSink, IsFlushed, IsFrontOf, GrewFrom};
 ghost use Rattle.dump_streams.specs.GatheredLines.{lines_state, GathersLine, TookGathered, BreaksGathered};
 
 use crate::room::LineRoom;
 use crate::taker::{Taker, TakerFault};
+use crate::{DumpStep, write_step};
 use script_lines::{Sink, SinkFault};
 use std::alloc::Global;
 use std::marker::Model;
 use std::snapshot::Snapshot;
 use store_base::NoMemory;
-use tree_listing::{DumpStep, write_step};
 
 /// So many bytes are gathered.
 const ROOM: usize = 65_536;

@@ -5,8 +5,8 @@ ghost use Rattle.dump_streams.specs.Lines.{TookLines, BreaksLine, PutsLine};
 ghost use Rattle.dump_streams.specs.Takers.{IsTaken};
 
 use crate::taker::{Taker, TakerFault};
+use crate::{DumpStep, write_step};
 use script_lines::Sink;
-use tree_listing::{DumpStep, write_step};
 
 /// Writes the line of each step that it takes.
 #[derive(Drop)]

@@ -8,11 +8,11 @@ ghost use Rattle.dump_streams.specs.Listings.{CameOf, IsListed, IsOfSame, TakesT
 
 use crate::fault::StreamFault;
 use crate::stream::DumpStream;
+use crate::{DumpStep, ListingReader, read_step};
 use script_lines::{Line, LineReader, MAX_LINE, Source};
 use std::alloc::Global;
 use std::snapshot::Snapshot;
 use store_base::{NoMemory, Version};
-use tree_listing::{DumpStep, ListingReader, read_step};
 
 /// The steps of a listing, which a source has: a script that says the dump of a tree that may stand under one version.
 /// Digits may be of either case, empty lines may stand between, and the last LF may be missing.

@@ -1,10 +1,10 @@
 //! The pairs of a dump, as what takes its steps.
 
-ghost use Rattle.tree_listing.specs.Listed.{TookSteps};
+ghost use Rattle.dump_streams.specs.Listed.{TookSteps};
 ghost use Rattle.dump_streams.specs.Takers.{BreaksAnyhow};
 
 use crate::taker::{Taker, TakerFault};
-use tree_listing::{DumpStep, ListedPairs, PairsFault};
+use crate::{DumpStep, ListedPairs, PairsFault};
 
 impl Taker for ListedPairs {
     ghost took = { TookSteps };

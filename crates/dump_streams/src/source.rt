@@ -10,10 +10,10 @@ ghost use Rattle.dump_streams.specs.Sources.{source_state, Gave, IsReady};
 use crate::fault::StreamFault;
 use crate::room::LineRoom;
 use crate::stream::DumpStream;
+use crate::{DumpStep, write_step};
 use script_lines::{SinkFault, Source, SourceFault};
 use std::alloc::Global;
 use store_base::NoMemory;
-use tree_listing::{DumpStep, write_step};
 
 /// The lines of the steps of a stream, one after another, as a source. It does not tell its bytes. Its count of
 /// faults starts at 0.

@@ -4,8 +4,8 @@ ghost use Rattle.store_model.specs.Trees.{Tree};
 ghost use Rattle.dump_streams.specs.Streams.{IsNext};
 ghost use Rattle.dump_streams.specs.declared.fault.StreamFault.{StreamFault};
 
+use crate::DumpStep;
 use crate::fault::StreamFault;
-use tree_listing::DumpStep;
 
 /// The steps of the dump of a tree, one after another.
 pub trait DumpStream {

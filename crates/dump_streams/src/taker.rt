@@ -1,12 +1,12 @@
 //! The contract of a taker: what is done with each step of a dump.
 
 ghost use Rattle.std.specs.Prelude.{List, IfErr};
-ghost use Rattle.tree_listing.specs.Dumps as dumps;
+ghost use Rattle.dump_streams.specs.Dumps as dumps;
 ghost use Rattle.dump_streams.specs.Takers.{IsTaken};
 ghost use Rattle.dump_streams.specs.declared.taker.TakerFault.{TakerFault};
 
+use crate::DumpStep;
 use thiserror::Error;
-use tree_listing::DumpStep;
 
 /// Why a step was not taken. What the taker answers about the cause is its own affair.
 #[derive(Clone, Copy, Debug, PartialEq, Eq, Error)]

@@ -12,13 +12,13 @@ use Rattle.store_model.specs.Paths.{Path, is_root, path_cmp, same_path}
 use Rattle.store_model.specs.Trees.{Tree, Node, Entry, Attributes, IsTree, node_of, node_at, contents_of, contents}
 use Rattle.store_model.specs.Trees.{empty_tree}
 use Rattle.store_model.specs.Trees.Node.{Directory, File}
-use Rattle.tree_listing.specs.Dumps.{DumpStep}
-use Rattle.tree_listing.specs.Dumps.DumpStep.{Write}
+use Rattle.dump_streams.specs.Dumps.{DumpStep}
+use Rattle.dump_streams.specs.Dumps.DumpStep.{Write}
 use Rattle.store_model.proofs.ListsLemmas.{rising_from_is_sorted, all_weaker}
 use Rattle.store_model.proofs.ListsLemmasCuts.{flat_map-runs}
 use Rattle.store_model.proofs.TreesLemmasPaths.{same_from_test}
 use Rattle.store_model.proofs.TreesLemmasFewer.{find_below_all}
-use Rattle.tree_listing.specs.Dumps.{dump, dump_piece, file_steps, node_steps, attribute_steps, entry_steps}
+use Rattle.dump_streams.specs.Dumps.{dump, dump_piece, file_steps, node_steps, attribute_steps, entry_steps}
 use Rattle.dump_views.specs.declared.content.Standing.{Standing}
 use Rattle.dump_views.specs.declared.content.Standing.TheVariants as standings
 use Rattle.script_lines.specs.SinkState.{SinkState}

@@ -14,12 +14,12 @@ use Rattle.store_model.specs.Lists.{runs, run_at, run_count, numbers_from, same_
 use Rattle.store_model.specs.Paths.{Path, Name, name_cmp, path_cmp, same_path}
 use Rattle.store_model.specs.Trees.{Tree, Node, Entry, Attributes, IsTree}
 use Rattle.store_model.specs.Trees.Node.{Directory, File}
-use Rattle.tree_listing.specs.Dumps.DumpStep.{Write}
+use Rattle.dump_streams.specs.Dumps.DumpStep.{Write}
 use Rattle.store_model.proofs.ListsLemmas.{rising_from_is_sorted, all_weaker, length-runs}
 use Rattle.store_model.proofs.PathsLemmasPlaces.{name_cmp_total, same_name_from_tie}
 use Rattle.store_model.proofs.TreesLemmasFewer.{find_below_all}
 use Rattle.store_model.proofs.TreesLemmasPaths.{tie_from_test, same_path-itself, same_path-from_equal}
-use Rattle.tree_listing.specs.Dumps.{dump, dump_piece, file_steps, node_steps, attribute_steps, entry_steps}
+use Rattle.dump_streams.specs.Dumps.{dump, dump_piece, file_steps, node_steps, attribute_steps, entry_steps}
 use Rattle.tree_pairs.specs.Kinds.{kind_of}
 use Rattle.script_lines.specs.Parsing.{long_of}
 use Rattle.tree_pairs.specs.declared.kind.Kind.TheVariants as kinds

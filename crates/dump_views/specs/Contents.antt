@@ -4,8 +4,8 @@ use Rattle.std.specs.List.{flat_map}
 use Rattle.store_model.specs.Paths.{Path, same_path}
 use Rattle.store_model.specs.Trees.{Node}
 use Rattle.store_model.specs.Trees.Node.{Directory, File}
-use Rattle.tree_listing.specs.Dumps.{DumpStep}
-use Rattle.tree_listing.specs.Dumps.DumpStep.{Make, Write, Set}
+use Rattle.dump_streams.specs.Dumps.{DumpStep}
+use Rattle.dump_streams.specs.Dumps.DumpStep.{Make, Write, Set}
 use Rattle.store_base.specs.Counts.{faults_after}
 use Rattle.script_lines.specs.SinkState.{SinkState, IsObservable, PutsBytes}
 use Rattle.dump_views.specs.declared.content.Standing.{Standing}

@@ -5,8 +5,8 @@ use Rattle.std.specs.FinMap.{find}
 use Rattle.store_model.specs.Lists.{same_bytes}
 use Rattle.store_model.specs.Paths.{Path, Name, name_cmp, same_path}
 use Rattle.store_model.specs.Trees.{Entry}
-use Rattle.tree_listing.specs.Dumps.{DumpStep}
-use Rattle.tree_listing.specs.Dumps.DumpStep.{Make, Write, Set}
+use Rattle.dump_streams.specs.Dumps.{DumpStep}
+use Rattle.dump_streams.specs.Dumps.DumpStep.{Make, Write, Set}
 use Rattle.script_lines.specs.Parsing.{long_of}
 use Rattle.tree_pairs.specs.Kinds.{kind_of}
 use Rattle.tree_pairs.specs.declared.kind.Kind.{Kind}

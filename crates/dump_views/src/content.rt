@@ -2,17 +2,16 @@
 
 ghost use Rattle.std.specs.Prelude.{◌≡◌, [], IfErr, ⊤};
 ghost use Rattle.store_model.specs.Trees.{empty_tree, node_at};
-ghost use Rattle.tree_listing.specs.Dumps.DumpStep.{Make, Write};
+ghost use Rattle.dump_streams.specs.Dumps.DumpStep.{Make, Write};
 ghost use Rattle.dump_streams.specs.Takers.{IsTaken};
 ghost use Rattle.dump_streams.specs.declared.taker.TakerFault.TheVariants as faults;
 ghost use Rattle.dump_views.specs.declared.content.ContentTaker.{ContentTaker};
 ghost use Rattle.dump_views.specs.Contents.{TakesOne, TookContents, standing_by, standing_of};
 
 use crate::same::is_same_path;
-use dump_streams::{Taker, TakerFault};
+use dump_streams::{DumpStep, Step, Taker, TakerFault};
 use path_keys::Path;
 use script_lines::{Sink, SinkFault};
-use tree_listing::{DumpStep, Step};
 
 /// What stands at a path.
 #[derive(Clone, Copy, Debug, PartialEq, Eq)]

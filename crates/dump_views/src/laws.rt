@@ -3,7 +3,7 @@
 ghost use Rattle.std.specs.Prelude.{◌≡◌, fold, map};
 ghost use Rattle.store_model.specs.Paths.{Path};
 ghost use Rattle.store_model.specs.Trees.{Tree, IsTree, empty_tree, node_at, contents};
-ghost use Rattle.tree_listing.specs.Dumps.{dump};
+ghost use Rattle.dump_streams.specs.Dumps.{dump};
 ghost use Rattle.dump_views.specs.Contents.{written_at, standing_after, standing_of};
 ghost use Rattle.dump_views.specs.Entries.{entries_of, keep, listed_entry, nothing_kept};
 

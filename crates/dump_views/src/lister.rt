@@ -1,7 +1,7 @@
 //! What stands in each folder of a dump.
 
 ghost use Rattle.std.specs.Prelude.{◌≡◌, [], IfErr, IfOk, OnErr, OnOk, ⊤};
-ghost use Rattle.tree_listing.specs.Dumps.DumpStep.{Make, Write, Set};
+ghost use Rattle.dump_streams.specs.Dumps.DumpStep.{Make, Write, Set};
 ghost use Rattle.dump_streams.specs.Takers.{IsTaken};
 ghost use Rattle.dump_streams.specs.declared.taker.TakerFault.TheVariants as faults;
 ghost use Rattle.dump_views.specs.Texts.{PutsListing, listing_text};
@@ -12,12 +12,11 @@ ghost use Rattle.dump_views.specs.Entries.{nothing_kept};
 use crate::entry::ListedEntry;
 use crate::groups::{ListFault, write_listing};
 use crate::same::is_same_path;
-use dump_streams::{Taker, TakerFault};
+use dump_streams::{DumpStep, Step, Taker, TakerFault};
 use path_keys::{AttrName, Path};
 use script_lines::Sink;
 use std::alloc::Global;
 use store_base::NoMemory;
-use tree_listing::{DumpStep, Step};
 use tree_pairs::Kind;
 
 /// Keeps what a listing tells of each path of a dump: what stands there, how long it is, and its attributes `mode` and

@@ -5,3 +5,6 @@ pub mod FormLemmas
 pub mod CarryLemmas
 pub mod ReadLemmas
 pub mod CutLemmas
+pub mod UpgradeFileLemmas
+pub mod EntryLemmas
+pub mod WalkLemmas

@@ -1,2 +1,3 @@
 pub mod FileCalls
 pub mod Refusals
+pub mod UpgradeCalls

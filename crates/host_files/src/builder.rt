@@ -7,13 +7,12 @@ use crate::omitted::{Keeper, Omitted};
 use crate::places::Places;
 use crate::wanted::Wanted;
 use crate::writing::{Writing, set_time};
-use dump_streams::{Taker, TakerFault};
+use dump_streams::{DumpStep, Step, Taker, TakerFault};
 use path_keys::{AttrName, Path};
 use script_lines::Sink;
 use std::fs::{self, File};
 use std::io::{self, Error, ErrorKind};
 use thiserror::Error as ErrorText;
-use tree_listing::{DumpStep, Step};
 
 /// The most seconds since 1970 that the system can set.
 const MAX_SECONDS: u64 = i64::MAX as u64;

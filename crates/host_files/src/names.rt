@@ -4,11 +4,10 @@ ghost use Rattle.std.specs.Prelude.{⊤};
 
 use crate::messages::Messages;
 use crate::places::Places;
-use dump_streams::{Taker, TakerFault};
+use dump_streams::{DumpStep, Step, Taker, TakerFault};
 use path_keys::Path;
 use script_lines::Sink;
 use std::alloc::Global;
-use tree_listing::{DumpStep, Step};
 
 /// Looks at the paths of a listing, and makes nothing. It names each one that is no path on the host, as the builder
 /// does.

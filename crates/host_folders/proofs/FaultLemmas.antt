@@ -5,10 +5,10 @@ use Rattle.std.specs.Prelude.{IfErr, IsErrAnd}
 use Rattle.std.specs.Fmt.{decimal}
 use Rattle.std.specs.List.{Contains, slice_get}
 use Rattle.std.proofs.lemmas.List.Elements.{Contains-append_right}
-use Rattle.tree_listing.specs.Dumps.{DumpStep}
+use Rattle.dump_streams.specs.Dumps.{DumpStep}
 use Rattle.store_model.specs.Trees.{Tree}
-use Rattle.tree_listing.specs.Reading.{AddsStep}
-use Rattle.tree_listing.specs.declared.reader.ListingReader.{ListingReader}
+use Rattle.dump_streams.specs.Reading.{AddsStep}
+use Rattle.dump_streams.specs.declared.reader.ListingReader.{ListingReader}
 use Rattle.dump_streams.specs.declared.fault.StreamFault.{StreamFault}
 use Rattle.dump_streams.specs.declared.fault.StreamFault.TheVariants as faults
 use Rattle.host_folders.specs.FolderState.{FolderState}

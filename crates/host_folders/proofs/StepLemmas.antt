@@ -7,20 +7,20 @@ use Rattle.std.proofs.lemmas.List.{append-nil, append_assoc, length-append, leng
 use Rattle.std.proofs.lemmas.List.{take_all}
 use Rattle.store_model.specs.declared.version.Version.TheVariants.{Two}
 use Rattle.store_model.specs.declared.draw_kind.DrawKind.TheVariants as draws
-use Rattle.tree_listing.specs.Dumps.{DumpStep}
-use Rattle.tree_listing.specs.Dumps.DumpStep.{Make, Write, Set}
+use Rattle.dump_streams.specs.Dumps.{DumpStep}
+use Rattle.dump_streams.specs.Dumps.DumpStep.{Make, Write, Set}
 use Rattle.store_model.specs.Parameters.{Parameters}
 use Rattle.store_model.specs.Paths.{Path, Name}
-use Rattle.tree_listing.specs.Dumps.{after_step}
+use Rattle.dump_streams.specs.Dumps.{after_step}
 use Rattle.store_model.specs.Trees.{Tree, Node, Entry, Attributes, IsTree, empty_tree}
 use Rattle.store_model.specs.Trees.Node.{Directory, File}
 use Rattle.tree_pairs.specs.declared.kind.Kind.TheVariants as kinds
-use Rattle.tree_listing.specs.Dumps.{dump_piece}
-use Rattle.tree_listing.specs.Reading.{HasRead, AddsStep, GoesOn}
-use Rattle.tree_listing.specs.declared.reader.ListingReader.{ListingReader}
-use Rattle.tree_listing.proofs.DumpFronts.{next_of_goes_on}
-use Rattle.tree_listing.proofs.NextTrees.{IsNext, IsFirstWrite, IsLaterWrite, IsLaterName, named_entry, tree_of_make}
-use Rattle.tree_listing.proofs.NextTrees.{tree_of_first, later_leads, name_leads}
+use Rattle.dump_streams.specs.Dumps.{dump_piece}
+use Rattle.dump_streams.specs.Reading.{HasRead, AddsStep, GoesOn}
+use Rattle.dump_streams.specs.declared.reader.ListingReader.{ListingReader}
+use Rattle.dump_streams.proofs.DumpFronts.{next_of_goes_on}
+use Rattle.dump_streams.proofs.NextTrees.{IsNext, IsFirstWrite, IsLaterWrite, IsLaterName, named_entry, tree_of_make}
+use Rattle.dump_streams.proofs.NextTrees.{tree_of_first, later_leads, name_leads}
 use Rattle.dump_streams.specs.Streams.{Extends, IsNext as IsNextOf}
 use Rattle.dump_streams.specs.declared.fault.StreamFault.{StreamFault}
 use Rattle.host_folders.specs.FoundEntries.{found_attributes, mode_attributes, mtime_attributes, entries_of, file_paths}

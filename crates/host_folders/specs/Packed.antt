@@ -6,11 +6,11 @@ use Rattle.store_model.specs.declared.version.Version.TheVariants.{Two}
 use Rattle.store_model.specs.Parameters.{Parameters}
 use Rattle.store_model.specs.Paths.{Path}
 use Rattle.store_model.specs.Trees.{Tree, IsTree}
-use Rattle.tree_listing.specs.Dumps.{DumpStep}
-use Rattle.tree_listing.specs.Dumps.DumpStep.{Make, Write, Set}
+use Rattle.dump_streams.specs.Dumps.{DumpStep}
+use Rattle.dump_streams.specs.Dumps.DumpStep.{Make, Write, Set}
 use Rattle.tree_pairs.specs.declared.kind.Kind.{Kind}
 use Rattle.tree_pairs.specs.declared.kind.Kind.TheVariants as kinds
-use Rattle.tree_listing.specs.Reading.{HasRead, BreaksOff}
+use Rattle.dump_streams.specs.Reading.{HasRead, BreaksOff}
 use Rattle.dump_streams.specs.declared.fault.StreamFault.{StreamFault}
 use Rattle.dump_streams.specs.declared.fault.StreamFault.TheVariants as faults
 use Rattle.host_folders.specs.FolderState.{FolderState, IsObservable, whole_files}

@@ -3,10 +3,10 @@ use Rattle.std.specs.Prelude.{◌≡◌, ℕ, ◌+◌, ◌^◌, ◌-◌, List, l
 use Rattle.std.specs.Prelude.{Option, Some, None}
 use Rattle.store_model.specs.Paths.{Path}
 use Rattle.store_model.specs.Trees.{Tree}
-use Rattle.tree_listing.specs.Dumps.{DumpStep}
-use Rattle.tree_listing.specs.Dumps.DumpStep.{Write}
-use Rattle.tree_listing.specs.Dumps.{after_step}
-use Rattle.tree_listing.specs.Dumps.{dump_piece}
+use Rattle.dump_streams.specs.Dumps.{DumpStep}
+use Rattle.dump_streams.specs.Dumps.DumpStep.{Write}
+use Rattle.dump_streams.specs.Dumps.{after_step}
+use Rattle.dump_streams.specs.Dumps.{dump_piece}
 use Rattle.dump_streams.specs.Streams.{Extends}
 use Rattle.host_folders.specs.FolderState.{FolderState, IsObservable, ReadsFile}
 use Rattle.host_folders.specs.Packed.{found_at}

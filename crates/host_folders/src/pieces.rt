@@ -6,8 +6,8 @@ ghost use Rattle.host_folders.specs.Steps.{ReadsPiece};
 
 use crate::fault::FolderFault;
 use crate::folder::Folder;
+use dump_streams::{DUMP_PIECE, DumpStep};
 use path_keys::Path;
-use tree_listing::{DUMP_PIECE, DumpStep};
 
 /// Reads the next piece of the file that is open, and puts into `into` the step that writes it at this offset of
 /// this path. It answers how many bytes the piece has: 2,048, or fewer at the end of the file.

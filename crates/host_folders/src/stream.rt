@@ -4,7 +4,7 @@ ghost use Rattle.std.specs.Prelude.{◌≡◌, ◌<◌, ◌+◌, ◌++◌, ◌�
 ghost use Rattle.std.specs.Prelude.{IsTrue};
 ghost use Rattle.store_model.specs.Trees.{Tree, empty_tree};
 ghost use Rattle.store_model.specs.Paths.{is_attribute_name};
-ghost use Rattle.tree_listing.specs.Reading.{AddsStep};
+ghost use Rattle.dump_streams.specs.Reading.{AddsStep};
 ghost use Rattle.dump_streams.specs.Streams.{IsNext};
 ghost use Rattle.host_folders.specs.Packed.{CameOf, IsFile, IsPacked, IsOfSame, EndsBy};
 ghost use Rattle.host_folders.specs.Steps.{path_at, Gives};
@@ -13,12 +13,11 @@ ghost use Rattle.host_folders.specs.Steps as steps;
 use crate::folder::Folder;
 use crate::found::Found;
 use crate::pieces::read_piece;
-use dump_streams::{DumpStream, StreamFault};
+use dump_streams::{DUMP_PIECE, DumpStep, DumpStream, ListingReader, StreamFault};
 use path_keys::{AttrName, Path};
 use script_lines::Text;
 use std::snapshot::Snapshot;
 use store_base::Version;
-use tree_listing::{DUMP_PIECE, DumpStep, ListingReader};
 use tree_pairs::Kind;
 
 /// What comes next.

@@ -8,13 +8,13 @@ use Rattle.store_model.specs.Draws.{draw_of}
 use Rattle.store_model.specs.Placement.{Table, pages_in}
 use Rattle.store_base.specs.SlotsState.{SlotsState, IsObservable}
 use Rattle.tree_pairs.specs.TreeCalls.{pairs_limit}
-use Rattle.tree_reader.specs.declared.counts.Counts.{Counts}
-use Rattle.tree_reader.specs.Fronts.{AreOfTree}
-use Rattle.tree_reader.specs.ReaderCalls.{AreCounted}
-use Rattle.table_order.specs.OrderCalls.{IsOrderedBelow, Checks}
-use Rattle.label_index.specs.Lookups.{ReadsOnly}
-use Rattle.group_walk.specs.Walked.{MeetWalk}
-use Rattle.group_walk.specs.Walks.{pair_of, WalksTable, HoldsList}
+use Rattle.tree_pairs.specs.declared.counts.Counts.{Counts}
+use Rattle.tree_pairs.specs.Fronts.{AreOfTree}
+use Rattle.tree_pairs.specs.ReaderCalls.{AreCounted}
+use Rattle.table_walk.specs.OrderCalls.{IsOrderedBelow, Checks}
+use Rattle.table_walk.specs.IndexLookups.{ReadsOnly}
+use Rattle.table_walk.specs.Walked.{MeetWalk}
+use Rattle.table_walk.specs.Walks.{pair_of, WalksTable, HoldsList}
 use Rattle.layout_conditions.specs.Conditions.{StandsIn, MeetConditions}
 use Rattle.layout_conditions.proofs.LawLemmas.{conditions_tell}
 use Rattle.image_check.specs.declared.contents.Contents.{Contents}

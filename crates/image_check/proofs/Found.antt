@@ -36,9 +36,9 @@ use Rattle.layout_conditions.specs.Layouts.{table_of_tree}
 use Rattle.layout_conditions.proofs.HeldLemmas.{all_held, map_held, held_map, flat_map_held, no_longer}
 use Rattle.layout_conditions.proofs.SameLemmas.{cell_cmp_total}
 use Rattle.layout_conditions.proofs.LawLemmas.{table_is_of_tree, conditions_tell}
-use Rattle.table_order.specs.OrderCalls.{IsBelow, IsOrderedBelow}
-use Rattle.group_walk.specs.Walked.{MeetWalk}
-use Rattle.group_walk.specs.Walks.{pair_of, HoldsList}
+use Rattle.table_walk.specs.OrderCalls.{IsBelow, IsOrderedBelow}
+use Rattle.table_walk.specs.Walked.{MeetWalk}
+use Rattle.table_walk.specs.Walks.{pair_of, HoldsList}
 
 -- ---- order
 

@@ -5,7 +5,7 @@ use Rattle.store_base.specs.declared.store_fault.Fault.{Fault}
 use Rattle.store_base.specs.declared.store_fault.Fault.TheVariants as causes
 use Rattle.store_base.specs.Faults.{disk_faults_after}
 use Rattle.store_base.specs.SlotsState.{SlotsState, HasCause}
-use Rattle.label_index.specs.Lookups.{ReadsOnly}
+use Rattle.table_walk.specs.IndexLookups.{ReadsOnly}
 use Rattle.image_check.specs.declared.contents.Contents.{Contents}
 use Rattle.image_check.specs.declared.verdict.Verdict.TheVariants as verdicts
 use Rattle.image_check.specs.SlotCalls.{FindsContents, ChecksSlots, clean_on, contents_in, verdict_in}

@@ -5,11 +5,11 @@ use Rattle.std.specs.Bool.{MatchBool, OnFalse}
 use Rattle.store_model.specs.Parameters.{Parameters}
 use Rattle.store_model.specs.Pairs.{Pair}
 use Rattle.tree_pairs.specs.TreeCalls.{pairs_limit}
-use Rattle.tree_reader.specs.declared.counts.Counts.{Counts}
-use Rattle.tree_reader.specs.declared.reader.TreeReader.{TreeReader}
-use Rattle.tree_reader.specs.Fronts.{AreOfTree, BeginTree}
-use Rattle.tree_reader.specs.Seen.{HasSeen}
-use Rattle.tree_reader.specs.ReaderCalls.{AddsPair, TellsWhole, TellsCounts, AreCounted}
+use Rattle.tree_pairs.specs.declared.counts.Counts.{Counts}
+use Rattle.tree_pairs.specs.declared.reader.TreeReader.{TreeReader}
+use Rattle.tree_pairs.specs.Fronts.{AreOfTree, BeginTree}
+use Rattle.tree_pairs.specs.Seen.{HasSeen}
+use Rattle.tree_pairs.specs.ReaderCalls.{AddsPair, TellsWhole, TellsCounts, AreCounted}
 use Rattle.image_check.specs.TreePairs.{BeginNoTree}
 
 -- pairs behind some that no tree's begin with

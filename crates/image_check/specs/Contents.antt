@@ -3,7 +3,7 @@ use Rattle.std.specs.Prelude.{◌≡◌}
 use Rattle.store_model.specs.Parameters.{Parameters, IsParameters}
 use Rattle.store_model.specs.Trees.{Tree, IsTree}
 use Rattle.store_model.specs.Pages.{Fits, page_count}
-use Rattle.tree_reader.specs.Counts.{AreCounts}
+use Rattle.tree_pairs.specs.Counts.{AreCounts}
 use Rattle.image_check.specs.declared.contents.Contents.{Contents}
 
 -- how many pages the tree has, which is one and fits, and what it holds

@@ -3,8 +3,8 @@ use Rattle.std.specs.Prelude.{ℕ, ◌≤◌, Option, Result, IfOk, IfSome}
 use Rattle.store_model.specs.Draws.{Draw}
 use Rattle.store_base.specs.declared.store_fault.Fault.{Fault}
 use Rattle.store_base.specs.SlotsState.{SlotsState, IsObservable}
-use Rattle.table_order.specs.OrderCalls.{Checks}
-use Rattle.label_index.specs.Lookups.{ReadsOnly}
+use Rattle.table_walk.specs.OrderCalls.{Checks}
+use Rattle.table_walk.specs.IndexLookups.{ReadsOnly}
 
 -- how many pages the slots hold that are a table in order with pages of levels below the height, and none exactly where
 -- they are not

@@ -4,10 +4,10 @@ use Rattle.std.specs.Bool.{MatchBool}
 use Rattle.store_model.specs.Parameters.{Parameters}
 use Rattle.store_model.specs.Pairs.{Pair}
 use Rattle.tree_pairs.specs.TreeCalls.{pairs_limit}
-use Rattle.tree_reader.specs.declared.counts.Counts.{Counts}
-use Rattle.tree_reader.specs.Fronts.{AreOfTree, BeginTree}
-use Rattle.tree_reader.specs.ReaderCalls.{AreCounted}
-use Rattle.tree_reader.specs.Seen.{HasSeen}
+use Rattle.tree_pairs.specs.declared.counts.Counts.{Counts}
+use Rattle.tree_pairs.specs.Fronts.{AreOfTree, BeginTree}
+use Rattle.tree_pairs.specs.ReaderCalls.{AreCounted}
+use Rattle.tree_pairs.specs.Seen.{HasSeen}
 use Rattle.image_check.specs.declared.pairs.TreePairs.{TreePairs}
 
 -- Some first ones of the pairs begin no tree's pairs, unless they are more than any list has.

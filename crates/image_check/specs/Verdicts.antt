@@ -7,7 +7,7 @@ use Rattle.store_model.specs.Images.{Represents}
 use Rattle.disk_model.specs.DiskState.{DiskState, IsObservable}
 use Rattle.gate_journal.specs.Headers.{IsImageWith, HasParameters}
 use Rattle.layout_conditions.specs.Conditions.{MeetConditions}
-use Rattle.tree_reader.specs.Counts.{count_dirs, count_files, count_bytes}
+use Rattle.tree_pairs.specs.Counts.{count_dirs, count_files, count_bytes}
 use Rattle.image_check.specs.declared.verdict.Verdict.{Verdict}
 use Rattle.image_check.specs.declared.verdict.Verdict.TheVariants as verdicts
 

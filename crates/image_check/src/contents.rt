@@ -1,7 +1,7 @@
 //! What an image holds.
 
 use store_base::Params;
-use tree_reader::Counts;
+use tree_pairs::Counts;
 
 /// What slots hold that are the layout of a tree.
 #[derive(Clone, Copy, Debug)]

@@ -4,10 +4,10 @@ ghost use Rattle.std.specs.Prelude.{◌≡◌, [], refl};
 ghost use Rattle.std.proofs.Common.{◌∙◌};
 ghost use Rattle.image_check.specs.TreePairs.{TookPairs, TellsTree};
 
-use group_walk::TakesPairs;
 use store_base::Key;
 use store_model::Version;
-use tree_reader::{Counts, TreeReader};
+use table_walk::TakesPairs;
+use tree_pairs::{Counts, TreeReader};
 
 /// Pairs that came one after another, read until one was refused. No list of them is kept.
 #[derive(Clone, Copy, Debug)]

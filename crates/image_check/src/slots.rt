@@ -2,21 +2,19 @@
 
 ghost use Rattle.std.specs.Prelude.{◌≡◌, ◌≤◌, ◌<◌, ℕ, Some, None, length, take, IfOk, IfSome};
 ghost use Rattle.seeded_draw.specs.AnyDrawn.{any_draw, any_digest};
-ghost use Rattle.label_index.specs.Indexes.{IsIndexOf};
+ghost use Rattle.table_walk.specs.Indexes.{IsIndexOf};
 ghost use Rattle.image_check.specs.SlotCalls.{FindsContents, ChecksSlots};
 ghost use Rattle.image_check.specs.Orders.{FindsOrder};
 
 use crate::contents::Contents;
 use crate::pairs::TreePairs;
 use crate::verdict::{Verdict, contents_of, verdict_of};
-use group_walk::walk_groups;
-use label_index::Entry;
 use ordered_table::Steps;
 use seeded_draw::AnyDraw;
 use std::marker::Brand;
 use std::sync::ledger::{Blank, Ledger};
 use store_base::{Fault, MAX_SLOTS, Params, ReadSlots};
-use table_order::check_order;
+use table_walk::{Entry, check_order, walk_groups};
 
 /// How many pages slots hold that are a table in order, with pages of levels below the height; `None` exactly where
 /// they are not. Where it counts pages it leaves an index of them in the first entries, one for each page.

@@ -12,10 +12,10 @@ use Rattle.disk_model.specs.DiskState as disks
 use Rattle.script_lines.specs.SinkState.{AppendsPrefix, PutsBytes}
 use Rattle.script_lines.specs.SinkState as sinks
 use Rattle.script_lines.specs.SinkState.{SinkState}
-use Rattle.tree_listing.specs.Dumps.{DumpStep, after_step, dump, step_line, steps_text, dump_text}
-use Rattle.pair_steps.specs.declared.steps.PairSteps.{PairSteps}
-use Rattle.pair_steps.specs.Spots.{spot_steps}
-use Rattle.pair_steps.specs.Taking.{HasTaken}
+use Rattle.dump_streams.specs.Dumps.{DumpStep, after_step, dump, step_line, steps_text, dump_text}
+use Rattle.dump_streams.specs.declared.steps.PairSteps.{PairSteps}
+use Rattle.dump_streams.specs.Spots.{spot_steps}
+use Rattle.dump_streams.specs.Taking.{HasTaken}
 use Rattle.dump_streams.specs.Draining.{IsTooLong}
 use Rattle.dump_streams.specs.Streams.{Extends}
 use Rattle.dump_streams.specs.GatheredLines.{lines_state, TookGathered, BreaksGathered}

@@ -27,7 +27,7 @@ use Rattle.image_subcommands.specs.Endings.{attach_status, ended_status}
 use Rattle.image_subcommands.specs.Statuses.{Subcommand as words, IsEndOf, done_of_work, disk_faults_by}
 use Rattle.image_subcommands.specs.Statuses.{source_faults_by, sink_faults_by}
 use Rattle.image_subcommands.proofs.ReportLemmas.{rose}
-use Rattle.tree_listing.specs.Dumps.{dump_text}
+use Rattle.dump_streams.specs.Dumps.{dump_text}
 use Rattle.image_work.specs.Works.{IsReady, IsUnopened, WorksOnStore}
 use Rattle.image_work.proofs.OpeningEnds.{never_behind, none_done, memory_only, memory_left, quiet_unopened}
 use Rattle.listing_subcommands.specs.DumpCall.{IsDumped, PutsDump, DumpsTree, KeepsDump, DumpsAt}

@@ -8,8 +8,8 @@ use Rattle.script_lines.specs.SinkState.{SinkState, IsObservable, PutsBytes}
 use Rattle.script_lines.specs.declared.reply.Reply.{Reply}
 use Rattle.script_lines.specs.declared.reply.Reply.TheVariants as replies
 use Rattle.script_lines.specs.Replies.{reply_of}
-use Rattle.tree_listing.specs.Dumps.{DumpStep, step_line, steps_text}
-use Rattle.tree_listing.specs.Dumps.DumpStep.{Set, Write}
+use Rattle.dump_streams.specs.Dumps.{DumpStep, step_line, steps_text}
+use Rattle.dump_streams.specs.Dumps.DumpStep.{Set, Write}
 use Rattle.dump_streams.specs.declared.gather.GatheredLines.{GatheredLines}
 use Rattle.dump_streams.specs.declared.taker.TakerFault.{TakerFault}
 use Rattle.dump_streams.specs.declared.taker.TakerFault.TheVariants as takers

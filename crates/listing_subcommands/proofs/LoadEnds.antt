@@ -9,9 +9,9 @@ use Rattle.store_model.specs.Pages.{page_count}
 use Rattle.store_model.specs.Images.{Represents}
 use Rattle.store_model.specs.Scripts.{script_limit}
 use Rattle.store_base.specs.Counts.{Rose}
-use Rattle.tree_listing.specs.Dumps.{dump}
-use Rattle.tree_listing.proofs.DumpFronts.{dumps_tell_trees}
-use Rattle.tree_listing.proofs.StepLemmas.{one_dump}
+use Rattle.dump_streams.specs.Dumps.{dump}
+use Rattle.dump_streams.proofs.DumpFronts.{dumps_tell_trees}
+use Rattle.dump_streams.proofs.StepLemmas.{one_dump}
 use Rattle.disk_model.specs.DiskState.{DiskState}
 use Rattle.disk_model.specs.DiskState as disks
 use Rattle.disk_model.proofs.Crashes.{LeavesOnly-trans, LeavesOnly-weaken}

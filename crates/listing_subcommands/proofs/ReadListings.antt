@@ -6,8 +6,8 @@ use Rattle.store_model.specs.Pages.{IsTreeUnder}
 use Rattle.store_model.specs.Parameters.{Parameters}
 use Rattle.store_model.specs.Scripts.{script_limit}
 use Rattle.store_model.specs.Trees.{Tree}
-use Rattle.tree_listing.specs.declared.pairs.ListedPairs.{ListedPairs}
-use Rattle.tree_listing.specs.Listed.{HoldsListed}
+use Rattle.dump_streams.specs.declared.listed_pairs.ListedPairs.{ListedPairs}
+use Rattle.dump_streams.specs.Listed.{HoldsListed}
 use Rattle.script_lines.specs.SourceState.{SourceState, IsObservable}
 use Rattle.script_lines.specs.LineState.{LineState, Takes, left}
 use Rattle.dump_streams.specs.declared.fault.StreamFault.{StreamFault}

@@ -3,7 +3,7 @@ use Rattle.std.specs.Prelude.{◌≡◌, ◌⊎◌, ◌++◌}
 use Rattle.store_model.specs.Parameters.{Parameters}
 use Rattle.store_model.specs.Trees.{Tree}
 use Rattle.store_model.specs.Images.{Represents}
-use Rattle.tree_listing.specs.Dumps.{dump_text}
+use Rattle.dump_streams.specs.Dumps.{dump_text}
 use Rattle.store_base.specs.Counts.{Rose}
 use Rattle.disk_model.specs.DiskState.{DiskState}
 use Rattle.disk_model.specs.DiskCalls.{LeavesOnly}

@@ -4,7 +4,7 @@ use Rattle.store_model.specs.declared.refusal.Refusal.TheVariants.{Full}
 use Rattle.store_model.specs.Trees.{Tree, empty_tree}
 use Rattle.store_model.specs.Commands.{reply_text}
 use Rattle.store_model.specs.Commands.Reply.{Refused}
-use Rattle.tree_listing.specs.declared.pairs.ListedPairs.{ListedPairs}
+use Rattle.dump_streams.specs.declared.listed_pairs.ListedPairs.{ListedPairs}
 use Rattle.disk_model.specs.DiskState.{DiskState, IsObservable}
 use Rattle.script_lines.specs.declared.fault.SinkFault.{SinkFault}
 use Rattle.script_lines.specs.SourceState.{SourceState}

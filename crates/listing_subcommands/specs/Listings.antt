@@ -3,8 +3,8 @@ use Rattle.std.specs.Prelude.{◌≡◌, ◌⊎◌, List, [], ℕ, Result, Ok, E
 use Rattle.store_model.specs.Parameters.{Parameters}
 use Rattle.store_model.specs.Trees.{Tree}
 use Rattle.store_model.specs.Pages.{IsTreeUnder}
-use Rattle.tree_listing.specs.declared.pairs.ListedPairs.{ListedPairs}
-use Rattle.tree_listing.specs.Listed.{HoldsListed}
+use Rattle.dump_streams.specs.declared.listed_pairs.ListedPairs.{ListedPairs}
+use Rattle.dump_streams.specs.Listed.{HoldsListed}
 use Rattle.script_lines.specs.SourceState.{SourceState, IsObservable}
 use Rattle.dump_streams.specs.declared.fault.StreamFault.{StreamFault}
 use Rattle.dump_streams.specs.declared.fault.StreamFault.TheVariants as faults

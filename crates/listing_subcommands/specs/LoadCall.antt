@@ -9,7 +9,7 @@ use Rattle.store_model.specs.Commands.{reply_text}
 use Rattle.store_model.specs.Commands.Reply.{Refused}
 use Rattle.store_model.specs.Scripts.{script_limit}
 use Rattle.store_model.specs.Pages.{IsTreeUnder}
-use Rattle.tree_listing.specs.Dumps.{IsListing, ListsSome}
+use Rattle.dump_streams.specs.Dumps.{IsListing, ListsSome}
 use Rattle.store_base.specs.Counts.{Rose}
 use Rattle.disk_model.specs.DiskState.{DiskState}
 use Rattle.disk_model.specs.DiskCalls.{LeavesOnly}

@@ -2,7 +2,7 @@
 
 ghost use Rattle.std.specs.Prelude.{◌≡◌, Option, None, OnOk, false};
 ghost use Rattle.store_model.specs.Trees.{empty_tree};
-ghost use Rattle.tree_listing.specs.Dumps.{dump_text};
+ghost use Rattle.dump_streams.specs.Dumps.{dump_text};
 ghost use Rattle.dump_streams.specs.Gathered.{gathers_none, IsFlushed};
 ghost use Rattle.dump_streams.specs.GatheredLines.{lines_state};
 ghost use Rattle.disk_model.specs.DiskState as disks;

@@ -3,8 +3,8 @@
 ghost use Rattle.std.specs.Prelude.{◌≡◌, Err};
 ghost use Rattle.store_model.specs.Parameters.{Parameters};
 ghost use Rattle.store_model.specs.Trees.{Tree, empty_tree};
-ghost use Rattle.tree_listing.specs.declared.pairs.ListedPairs.{ListedPairs};
-ghost use Rattle.tree_listing.specs.Listed.{TookSteps};
+ghost use Rattle.dump_streams.specs.declared.listed_pairs.ListedPairs.{ListedPairs};
+ghost use Rattle.dump_streams.specs.Listed.{TookSteps};
 ghost use Rattle.dump_streams.specs.Takers.{BreaksAnyhow};
 ghost use Rattle.dump_streams.specs.Draining.{StopsBy};
 ghost use Rattle.dump_streams.specs.Listings.{CameOf, IsListed, EndsBy};
@@ -16,7 +16,7 @@ ghost use Rattle.listing_subcommands.specs.Listings as readings;
 ghost use Rattle.listing_subcommands.specs.LoadCall.{IsLoad};
 
 use disk_model::Disk;
-use dump_streams::{DrainFault, ListingStream, StreamFault, drain};
+use dump_streams::{DrainFault, ListedPairs, ListingStream, StreamFault, drain};
 use image_check::AttachFault;
 use image_subcommands::{Outcome, Status};
 use image_work::{StoreWork, open_for};
@@ -25,7 +25,6 @@ use std::alloc::Global;
 use store_base::{NoMemory, Params};
 use store_core::{ApplyFault, LoadAnswer, Store};
 use store_model::Refusal;
-use tree_listing::ListedPairs;
 
 /// The status of a call that a fault of its listing ended.
 fn stream_status(fault: StreamFault) -> Status

@@ -11,6 +11,3 @@ mod starts;
 mod stream;
 
 pub use places::PairStream;
-
-#[cfg(test)]
-mod tests;

@@ -16,7 +16,7 @@ use Rattle.gate_journal.specs.Headers.{IsImageWith, HasParameters}
 use Rattle.gate_journal.specs.Costs.{MadeAtMost, opening_writes, opening_syncs}
 use Rattle.gate_journal.proofs.Recovering.{empty-recovered}
 use Rattle.gate_journal.proofs.Openings.{opening_of_empty}
-use Rattle.slots_disk.specs.RecoveredDisks.{IsRecoveredOf}
+use Rattle.recovered_store.specs.RecoveredDisks.{IsRecoveredOf}
 use Rattle.image_check.specs.declared.fault.AttachFault.{AttachFault}
 use Rattle.image_check.specs.declared.fault.AttachFault.TheVariants as attach
 use Rattle.image_check.specs.Faults.{attach_faults_by}

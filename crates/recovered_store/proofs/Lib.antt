@@ -1,1 +1,4 @@
+mod Blocks
+mod Filling
+mod RecoveredImages
 mod Attaching

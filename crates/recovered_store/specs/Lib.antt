@@ -1,1 +1,3 @@
+pub mod SlotsDisks
+pub mod RecoveredDisks
 pub mod RecoveredStores

@@ -4,8 +4,8 @@ use Rattle.store_base.specs.Counts.{Rose}
 use Rattle.store_model.specs.Images.{Represents}
 use Rattle.disk_model.specs.DiskState.{DiskState, IsObservable}
 use Rattle.gate_journal.specs.Headers.{HasParameters}
-use Rattle.slots_disk.specs.declared.recovered.ViewFault.{ViewFault}
-use Rattle.slots_disk.specs.declared.recovered.ViewFault.TheVariants as views
+use Rattle.recovered_store.specs.declared.recovered.ViewFault.{ViewFault}
+use Rattle.recovered_store.specs.declared.recovered.ViewFault.TheVariants as views
 use Rattle.image_check.specs.declared.fault.AttachFault.{AttachFault}
 use Rattle.image_check.specs.declared.fault.AttachFault.TheVariants as attach
 use Rattle.image_check.specs.Standing.{IsFitting, Stands}

@@ -3,9 +3,9 @@
 ghost use Rattle.std.specs.Prelude.{◌≡◌, IfOk, IfErr};
 ghost use Rattle.recovered_store.specs.RecoveredStores.{IsOpened, IsRefused, attach_fault_of};
 
+use crate::{SlotsDisk, ViewFault, open_recovered};
 use disk_model::Disk;
 use gate_journal::View;
-use slots_disk::{SlotsDisk, ViewFault, open_recovered};
 use std::alloc::Global;
 use store_core::{AttachFault, Store};
 

@@ -11,7 +11,7 @@ use Rattle.seeded_draw.specs.AnyDrawn.{any_draw}
 use Rattle.skip_levels.specs.Descent.{HoldsPairs}
 use Rattle.skip_levels.specs.PagePairs.{pairs_of_map}
 use Rattle.tree_pairs.specs.TreeCalls.{HoldsTree}
-use Rattle.tree_upgrade.specs.UpgradeCalls.{InlinesShortFiles}
+use Rattle.file_blocks.specs.UpgradeCalls.{InlinesShortFiles}
 use Rattle.page_store.specs.StagedState.{without_changes}
 use Rattle.image_check.specs.declared.fault.ApplyFault.{ApplyFault}
 use Rattle.image_check.specs.Faults.{apply_fault_of}

@@ -12,8 +12,8 @@ ghost use Rattle.staged_tree.specs.Steps.{EndsUpgrade};
 
 use crate::commands::{TreeList, cause_of, give_up};
 use disk_model::Disk;
+use file_blocks::inline_short_files;
 use image_check::ApplyFault;
-use tree_upgrade::inline_short_files;
 
 /// Makes the list of a tree under version 1 that of the same tree under version 2. After it nothing is staged.
 ///

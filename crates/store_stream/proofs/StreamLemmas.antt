@@ -9,11 +9,11 @@ use Rattle.store_model.specs.Pairs.{Pair, pairs}
 use Rattle.store_model.specs.Pages.{IsTreeUnder}
 use Rattle.disk_model.specs.DiskState.{DiskState, IsObservable}
 use Rattle.tree_pairs.specs.TreeCalls.{pairs_limit}
-use Rattle.tree_listing.specs.Dumps.{DumpStep}
-use Rattle.tree_listing.specs.Reading.{GoesOn}
-use Rattle.pair_steps.specs.declared.steps.PairSteps.{PairSteps}
-use Rattle.pair_steps.specs.declared.taken.Taken.TheVariants as takens
-use Rattle.pair_steps.specs.Taking.{HasGiven, HasTaken, TakesPair}
+use Rattle.dump_streams.specs.Dumps.{DumpStep}
+use Rattle.dump_streams.specs.Reading.{GoesOn}
+use Rattle.dump_streams.specs.declared.steps.PairSteps.{PairSteps}
+use Rattle.dump_streams.specs.declared.taken.Taken.TheVariants as takens
+use Rattle.dump_streams.specs.Taking.{HasGiven, HasTaken, TakesPair}
 use Rattle.dump_streams.specs.Streams.{Extends}
 use Rattle.dump_streams.specs.declared.fault.StreamFault.TheVariants as streams
 use Rattle.image_check.specs.Standing.{IsFitting}

@@ -5,9 +5,9 @@ use Rattle.store_model.specs.Trees.{Tree}
 use Rattle.store_model.specs.Pairs.{Pair, pairs}
 use Rattle.disk_model.specs.DiskState.{DiskState, IsObservable}
 use Rattle.tree_pairs.specs.TreeCalls.{pairs_limit}
-use Rattle.tree_listing.specs.Dumps.{DumpStep, after_step}
-use Rattle.pair_steps.specs.declared.steps.PairSteps.{PairSteps}
-use Rattle.pair_steps.specs.Taking.{HasGiven, HasTaken}
+use Rattle.dump_streams.specs.Dumps.{DumpStep, after_step}
+use Rattle.dump_streams.specs.declared.steps.PairSteps.{PairSteps}
+use Rattle.dump_streams.specs.Taking.{HasGiven, HasTaken}
 use Rattle.dump_streams.specs.Streams.{Extends}
 use Rattle.dump_streams.specs.declared.fault.StreamFault.{StreamFault}
 use Rattle.store_core.specs.Walks.{StandsAfter}

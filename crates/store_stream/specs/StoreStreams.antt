@@ -8,9 +8,9 @@ use Rattle.disk_model.specs.DiskState.{DiskState, IsObservable}
 use Rattle.gate_journal.specs.Disks.{KeepsDisk}
 use Rattle.gate_journal.specs.Places.{ReadsOnly}
 use Rattle.tree_pairs.specs.TreeCalls.{pairs_limit}
-use Rattle.tree_listing.specs.Dumps.{DumpStep, dump}
-use Rattle.pair_steps.specs.declared.steps.PairSteps.{PairSteps}
-use Rattle.pair_steps.specs.Taking.{HasGiven, HasTaken}
+use Rattle.dump_streams.specs.Dumps.{DumpStep, dump}
+use Rattle.dump_streams.specs.declared.steps.PairSteps.{PairSteps}
+use Rattle.dump_streams.specs.Taking.{HasGiven, HasTaken}
 use Rattle.dump_streams.specs.declared.fault.StreamFault.{StreamFault}
 use Rattle.dump_streams.specs.declared.fault.StreamFault.TheVariants as streams
 use Rattle.image_check.specs.declared.fault.ApplyFault.{ApplyFault}

@@ -7,11 +7,9 @@ ghost use Rattle.store_stream.specs.StoreStreams.{stream_fault_of, CameBy, CameO
 ghost use Rattle.store_stream.specs.Pulling.{Pulled, Turned};
 
 use disk_model::Disk;
-use dump_streams::{DumpStream, StreamFault};
-use pair_steps::{PairSteps, Taken};
+use dump_streams::{DumpStep, DumpStream, PairSteps, StreamFault, Taken};
 use store_base::{Key, Value};
 use store_core::{ApplyFault, PairsWalk, Store};
-use tree_listing::DumpStep;
 
 /// The steps of the dump of a store's tree. It owns the store meanwhile, only reads its disk, and takes no memory but
 /// for the store's caches.

@@ -7,14 +7,13 @@ ghost use Rattle.script_lines.specs.Parsing.{command_of};
 ghost use Rattle.tree_pairs.specs.TreeCalls.{CarriesOutUnder, HasRoom};
 ghost use Rattle.script_lines.specs.Sessions.{is_change};
 
-use dir_tree::{make, remove, set_attr, unset_attr};
+use dir_tree::{make, prune, remove, rename, set_attr, unset_attr};
 use file_blocks::{cut, write_at};
 use ordered_pairs::OrderedPairs;
 use path_keys::Path;
 use script_lines::Command;
 use store_base::{Answer, Bytes, Fault};
 use store_model::{Refusal, Version};
-use subtree_move::{prune, rename};
 use tree_pairs::{Kind, kind_of};
 
 /// Carries out a command that changes the tree, `version` and `full` apart, on the pairs that the tree has under the

@@ -4,9 +4,8 @@ use crate::folder::{FolderDump, go_through, trouble_of};
 use crate::output::print;
 use crate::trouble::Trouble;
 use crate::words::{Shape, Taken, params_of};
-use dump_streams::{DrainFault, TakerFault, drain};
+use dump_streams::{DrainFault, ListedPairs, TakerFault, drain};
 use store_base::{MAX_SLOTS, Params};
-use tree_listing::ListedPairs;
 
 /// Prints how many slots an image needs for a folder, how many are best, and the words that make such an image. It
 /// says whether all of the folder is counted.

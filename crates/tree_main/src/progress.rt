@@ -2,10 +2,9 @@
 
 ghost use Rattle.std.specs.Prelude.{List};
 
-use dump_streams::{DumpStream, StreamFault};
+use dump_streams::{DumpStep, DumpStream, Step, StreamFault};
 use std::io::IsTerminal;
 use std::time::{Duration, Instant};
-use tree_listing::{DumpStep, Step};
 
 /// How many steps come at least until the line is written anew.
 const STEP: u32 = 256;

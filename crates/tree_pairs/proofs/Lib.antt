@@ -6,3 +6,10 @@ pub mod AttributeLemmas
 pub mod KindLemmas
 pub mod CallLemmas
 pub mod NextLemmas
+pub mod ReaderAttributeLemmas
+pub mod BlockLemmas
+pub mod ReaderCallLemmas
+pub mod CountLemmas
+pub mod FrontLemmas
+pub mod ReaderNextLemmas
+pub mod Readings

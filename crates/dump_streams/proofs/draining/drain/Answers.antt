@@ -1,7 +1,7 @@
 use Rattle.std.proofs.Common.{◌+◌, List, [], ◌∷◌, length, inl, inr, refl, sym, ap, subst, ◌∙◌, arith}
 use Rattle.std.proofs.lemmas.List.{length-append}
 use Rattle.store_model.specs.Trees.{empty_tree}
-use Rattle.tree_listing.specs.Dumps.{DumpStep, after_step}
+use Rattle.dump_streams.specs.Dumps.{DumpStep, after_step}
 use Rattle.dump_streams.proofs.ListingSteps.{dump_none}
 use Rattle.dump_streams.specs.declared.draining.DrainFault.TheVariants as drains
 use Rattle.dump_streams.proofs.DrainSteps.{err_told}

@@ -1,6 +1,6 @@
 use Rattle.std.proofs.Common.{◌≡◌, [], length}
 use Rattle.store_model.specs.Trees.{Tree, empty_tree}
-use Rattle.tree_listing.specs.Dumps.{dump}
+use Rattle.dump_streams.specs.Dumps.{dump}
 use Rattle.dump_streams.proofs.draining.drain.Given as goal
 
 -- the steps that came were taken, and were counted

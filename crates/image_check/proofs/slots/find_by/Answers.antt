@@ -2,9 +2,9 @@ use Rattle.std.proofs.Common.{ℕ, List, Option, IfSome, Ok, take, sym, ap, subs
 use Rattle.store_model.specs.Pairs.{Pair}
 use Rattle.store_model.specs.Draws.{Draw, draw_of}
 use Rattle.seeded_draw.specs.AnyDrawn.{any_digest}
-use Rattle.label_index.specs.Indexes.{IsIndexOf}
-use Rattle.label_index.proofs.Noted.{index_later}
-use Rattle.group_walk.specs.Walks.{WalksTable}
+use Rattle.table_walk.specs.Indexes.{IsIndexOf}
+use Rattle.table_walk.proofs.Noted.{index_later}
+use Rattle.table_walk.specs.Walks.{WalksTable}
 use Rattle.image_check.specs.declared.contents.Contents.{Contents}
 use Rattle.image_check.specs.Orders.{FindsOrder}
 use Rattle.image_check.specs.TreePairs.{TookPairs}

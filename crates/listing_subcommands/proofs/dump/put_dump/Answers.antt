@@ -1,5 +1,5 @@
 use Rattle.std.proofs.Common.{◌∙◌, Err}
-use Rattle.tree_listing.specs.Dumps.{dump, dump_text, step_line}
+use Rattle.dump_streams.specs.Dumps.{dump, dump_text, step_line}
 use Rattle.dump_streams.specs.GatheredLines.{lines_state}
 use Rattle.dump_streams.proofs.TakenLines.{gathered_none}
 use Rattle.store_stream.proofs.PullLemmas.{reads_none}

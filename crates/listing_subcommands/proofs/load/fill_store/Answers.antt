@@ -1,6 +1,6 @@
 use Rattle.std.proofs.Common.{Result, Ok, Err, refl, subst}
 use Rattle.store_model.specs.Parameters.{Parameters}
-use Rattle.tree_listing.specs.declared.pairs.ListedPairs.{ListedPairs}
+use Rattle.dump_streams.specs.declared.listed_pairs.ListedPairs.{ListedPairs}
 use Rattle.image_subcommands.specs.declared.status.Status.{Status}
 use Rattle.listing_subcommands.specs.Filling.{FillsStore as fills}
 use Rattle.listing_subcommands.specs.Listings.{ReadsListing}

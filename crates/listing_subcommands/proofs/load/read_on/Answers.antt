@@ -3,7 +3,7 @@ use Rattle.dump_streams.specs.declared.fault.StreamFault.{StreamFault}
 use Rattle.dump_streams.specs.Draining.{TakesFront}
 use Rattle.dump_streams.specs.Takers.{BreaksAnyhow}
 use Rattle.dump_streams.specs.Listings.{CameOf, IsListed, EndsBy}
-use Rattle.tree_listing.specs.Listed.{TookSteps}
+use Rattle.dump_streams.specs.Listed.{TookSteps}
 use Rattle.std.proofs.Common.{subst}
 use Rattle.dump_streams.proofs.ReadDumps.{ends_so}
 use Rattle.listing_subcommands.proofs.ReadListings.{short, stopped, refused, lists_none, ended}

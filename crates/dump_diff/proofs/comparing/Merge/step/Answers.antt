@@ -1,5 +1,5 @@
 use Rattle.std.proofs.Common.{sym, subst}
-use Rattle.tree_listing.specs.Dumps.{after_step}
+use Rattle.dump_streams.specs.Dumps.{after_step}
 use Rattle.dump_diff.specs.declared.heads.Head.{Head}
 use Rattle.dump_diff.specs.Ahead.{IsAhead}
 use Rattle.dump_diff.proofs.Merging.{all_found}

@@ -1,5 +1,5 @@
 use Rattle.std.proofs.lemmas.Result.{on_ok_weaker}
-use Rattle.tree_listing.specs.Dumps.{after_step}
+use Rattle.dump_streams.specs.Dumps.{after_step}
 use Rattle.dump_diff.proofs.Merging.{on_ok_like, first_taken}
 use Rattle.dump_diff.proofs.comparing.Merge.take_first.Goals as goal
 

@@ -1,5 +1,5 @@
 use Rattle.std.proofs.Common.{◌++◌, refl, ap, ◌∙◌}
-use Rattle.tree_listing.specs.Dumps.{step_line}
+use Rattle.dump_streams.specs.Dumps.{step_line}
 use Rattle.dump_streams.specs.Rooms.{Room}
 use Rattle.dump_streams.proofs.SourceSteps.{ready_more}
 use Rattle.dump_streams.proofs.source.ListingSource.next_line.Goals as goal

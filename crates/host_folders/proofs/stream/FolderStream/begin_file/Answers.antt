@@ -1,5 +1,5 @@
 use Rattle.std.proofs.Common.{refl, ap, ◌∙◌, ◌+◌, Ok, sym, subst}
-use Rattle.tree_listing.specs.Dumps.{DumpStep}
+use Rattle.dump_streams.specs.Dumps.{DumpStep}
 use Rattle.host_folders.specs.Packed.{CameOf, EndsBy, AsksFor, found_at}
 use Rattle.host_folders.specs.Steps.{Gives}
 use Rattle.host_folders.specs.declared.stream.FolderStream.{FolderStream}

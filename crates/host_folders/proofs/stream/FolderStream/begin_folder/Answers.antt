@@ -1,6 +1,6 @@
 use Rattle.std.proofs.Common.{refl, true, ap, ◌∙◌, ◌+◌, Ok, sym, subst}
-use Rattle.tree_listing.specs.Dumps.{DumpStep}
-use Rattle.tree_listing.specs.Reading.{AddsStep}
+use Rattle.dump_streams.specs.Dumps.{DumpStep}
+use Rattle.dump_streams.specs.Reading.{AddsStep}
 use Rattle.host_folders.specs.Packed.{CameOf, EndsBy, AsksFor, found_at}
 use Rattle.host_folders.specs.Steps.{Gives}
 use Rattle.host_folders.specs.declared.stream.FolderStream.{FolderStream}

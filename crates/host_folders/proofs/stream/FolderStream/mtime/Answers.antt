@@ -1,7 +1,7 @@
 use Rattle.std.proofs.Common.{refl, ap, ◌∙◌, ◌≡◌, Ok, sym, ap₂, codes, List, ℕ, true, subst}
-use Rattle.tree_listing.specs.Dumps.{DumpStep}
-use Rattle.tree_listing.specs.Dumps.DumpStep.{Set}
-use Rattle.tree_listing.specs.Reading.{AddsStep}
+use Rattle.dump_streams.specs.Dumps.{DumpStep}
+use Rattle.dump_streams.specs.Dumps.DumpStep.{Set}
+use Rattle.dump_streams.specs.Reading.{AddsStep}
 use Rattle.dump_streams.specs.Streams.{IsNext}
 use Rattle.dump_streams.proofs.DrainSteps.{next_failed}
 use Rattle.host_folders.specs.Packed.{CameOf, IsPacked, EndsBy, AsksFor, found_at}

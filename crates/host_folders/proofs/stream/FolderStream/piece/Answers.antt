@@ -1,5 +1,5 @@
 use Rattle.std.proofs.Common.{refl, ap, ◌∙◌, Ok, sym, true, subst}
-use Rattle.tree_listing.specs.Dumps.{DumpStep}
+use Rattle.dump_streams.specs.Dumps.{DumpStep}
 use Rattle.dump_streams.specs.Streams.{IsNext}
 use Rattle.dump_streams.proofs.DrainSteps.{next_failed}
 use Rattle.host_folders.specs.Packed.{CameOf, IsPacked, EndsBy, AsksFor, found_at}

@@ -1,7 +1,7 @@
 use Rattle.std.proofs.Common.{sym, subst, ◌∙◌}
 use Rattle.std.proofs.lemmas.Bool.{false≢true}
 use Rattle.std.specs.Bool.{MatchBool}
-use Rattle.tree_reader.specs.Seen.{HasSeen}
+use Rattle.tree_pairs.specs.Seen.{HasSeen}
 use Rattle.image_check.specs.TreePairs.{BeginNoTree}
 use Rattle.image_check.proofs.Taken.{none_of_tree, counted_of}
 use Rattle.image_check.proofs.pairs.TreePairs.counts.Goals.{then-self-via-then-self}

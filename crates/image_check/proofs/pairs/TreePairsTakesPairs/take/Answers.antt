@@ -1,6 +1,6 @@
 use Rattle.std.proofs.Common.{◌∷◌, ◌++◌, [], sym, subst, ◌∙◌}
 use Rattle.std.specs.Bool.{MatchBool}
-use Rattle.tree_reader.specs.Seen.{HasSeen}
+use Rattle.tree_pairs.specs.Seen.{HasSeen}
 use Rattle.image_check.specs.TreePairs.{BeginNoTree}
 use Rattle.image_check.proofs.Taken.{begin_none, took_more}
 use Rattle.image_check.proofs.pairs.TreePairsTakesPairs.take.Goals as goal

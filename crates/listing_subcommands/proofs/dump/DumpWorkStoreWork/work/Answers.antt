@@ -7,7 +7,7 @@ use Rattle.dump_streams.specs.GatheredLines.{lines_state}
 use Rattle.listing_subcommands.specs.Dumping.{KeepsStore}
 use Rattle.listing_subcommands.proofs.DumpEnds.{dump_works}
 use Rattle.listing_subcommands.proofs.GatheredDumps.{sink_kept, sink_puts}
-use Rattle.tree_listing.specs.Dumps.{dump_text}
+use Rattle.dump_streams.specs.Dumps.{dump_text}
 use Rattle.listing_subcommands.proofs.dump.DumpWorkStoreWork.work.Goals as goal
 
 pub put_dump-requires : goal.put_dump-requires

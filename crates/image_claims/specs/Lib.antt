@@ -1,6 +1,0 @@
-pub mod Checks
-pub mod Costs
-pub mod Faults
-pub mod Images
-pub mod Machines
-pub mod Mirrors

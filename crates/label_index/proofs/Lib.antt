@@ -1,4 +1,0 @@
-pub mod Alike
-pub mod Looking
-pub mod Noted
-pub mod Reading

@@ -1,7 +1,0 @@
-use Rattle.std.proofs.Common.{◌≡◌}
-use Rattle.ordered_table.specs.MemSlots.{mem_state}
-use Rattle.layer_tests.proofs.tests.walks.table_of.Given as goal
-
--- the slots keep their number
-abbrev pub invariant-loop-at : goal.invariant-loop-at
-invariant-loop-at g l = (mem_state l.slots).count ≡ l.fn.params.slots

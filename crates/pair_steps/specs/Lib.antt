@@ -1,3 +1,0 @@
-pub mod Making
-pub mod Spots
-pub mod Taking

@@ -1,4 +1,0 @@
-pub mod EventLemmas
-pub mod GroupLemmas
-pub mod StagedLemmas
-pub mod TreeLemmas

@@ -1,2 +1,0 @@
-pub mod SlotsDisks
-pub mod RecoveredDisks

@@ -1,9 +1,0 @@
-use Rattle.std.proofs.Common.{◌≡◌, ◌+◌}
-use Rattle.table_order.proofs.Barring.{Barring}
-use Rattle.table_order.proofs.bar.find_bar.Given as goal
-
-abbrev pub invariant-loop-at : goal.invariant-loop-at
-invariant-loop-at g l =
-    Barring (g.S.ReadSlots.state l.fn.slots) (g.S.ReadSlots.state l.slots) l.at l.bar l.greatest
-    × g.S.ReadSlots.follows l.fn.slots l.slots
-    × (l.steps ≡ l.fn.steps + l.at)

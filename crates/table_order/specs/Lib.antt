@@ -1,4 +1,0 @@
-pub mod Contents
-pub mod Windows
-pub mod Rounds
-pub mod OrderCalls

@@ -1,0 +1,11 @@
+pub mod Indexes
+pub mod IndexLookups
+pub mod Contents
+pub mod Windows
+pub mod Rounds
+pub mod OrderCalls
+pub mod Costs
+pub mod Lookups
+pub mod Streams
+pub mod Walked
+pub mod Walks

@@ -1,0 +1,11 @@
+//! The tests, a module for each kind of what is tested.
+
+mod differences;
+mod folder_streams;
+mod folder_walks;
+mod listing_streams;
+mod pictures;
+mod real_folders;
+mod support;
+mod tree_steps;
+mod views;

@@ -1,0 +1,9 @@
+//! The tests, a module for each kind, and `support`, which they share.
+
+mod failures;
+mod reads;
+mod recovered;
+mod recovered_disks;
+mod sessions;
+mod stops;
+mod support;

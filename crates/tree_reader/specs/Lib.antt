@@ -1,4 +1,0 @@
-pub mod Counts
-pub mod Fronts
-pub mod Seen
-pub mod ReaderCalls

@@ -1,5 +1,0 @@
-use Rattle.tree_upgrade.proofs.FileLemmas.{room_without}
-use Rattle.tree_upgrade.proofs.inlining.inline_file.Goals as goal
-
-pub put-requires : goal.put-requires
-put-requires g c = room_without _ _ _ _ c.in_ok-block.ensures.call c.requires.room
