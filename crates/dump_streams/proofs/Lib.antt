@@ -7,6 +7,7 @@ pub mod ReaderLemmas
 pub mod DumpSteps
 pub mod DumpRuns
 pub mod ListedBlocks
+mod LevelLemmas
 pub mod ListedLemmas
 pub mod TakenPairs
 pub mod SpotLemmas

@@ -1,9 +1,9 @@
 -- The pairs that a step of a dump adds are those that the next tree has more.
 use Rattle.std.specs.Result.{OnOk}
 use Rattle.std.proofs.Common.{Result, Ok, Err, ◌≡◌, ℕ, suc, ◌+◌, ◌*◌, ◌/◌, ◌<◌, ◌≤◌, List, [], ◌∷◌, ◌++◌, min, length}
-use Rattle.std.proofs.Common.{take, drop, Bool, false, refl, sym, ap, ap₂, subst, ◌∙◌, arith}
+use Rattle.std.proofs.Common.{take, drop, slice_set, Bool, false, refl, sym, ap, ap₂, subst, ◌∙◌, arith}
 use Rattle.std.proofs.lemmas.Bool.{lt-leb}
-use Rattle.std.proofs.lemmas.List.{append-nil, append_assoc, length-append, length-map, map-append}
+use Rattle.std.proofs.lemmas.List.{append-nil, append_assoc, length-append, length-map, map-append, get_or_at}
 use Rattle.std.proofs.lemmas.List.Concat.{flat_map-append}
 use Rattle.std.proofs.Math.Seq.{set-append_seam}
 use Rattle.dump_streams.specs.declared.listed_pairs.PairsFault.{PairsFault}
@@ -142,7 +142,7 @@ adds_file d path version inline shown bytes value old mid new result same form b
 -- a piece: the file's length, and the blocks
 pub adds_piece : (d : Draw) (path : Path) (at len : ℕ) (shown bytes : List ℕ) (old mid new : ListedPairs)
     (result : Result (Unit {0}) PairsFault)
-    → shown ≡ bytes → len ≡ min (at + length shown) 4294967295 → mid.pairs ≡ with_length old.pairs old.first path len
+    → shown ≡ bytes → len ≡ min (at + length shown) 4294967295 → mid.pairs ≡ with_length old.pairs old.first len
     → mid.counter ≡ old.counter
     → OnOk result (AddsPairs d mid.pairs (blocks_from path (at / file_block + 1) shown) mid new)
     → OnOk result (AddsPiece d path at bytes old new)
@@ -158,8 +158,8 @@ adds_piece d path at len shown bytes old mid new result same len_is patched coun
         record {
           pairs_are = adds.pairs_are
               ∙ ap (λ (s : List Pair). s ++ blocks_from path (at / file_block + 1) shown)
-              (patched ∙ ap (with_length old.pairs old.first path) len_fits)
-              ∙ ap (λ (xs : List ℕ). with_length old.pairs old.first path (at + length bytes)
+              (patched ∙ ap (with_length old.pairs old.first) len_fits)
+              ∙ ap (λ (xs : List ℕ). with_length old.pairs old.first (at + length bytes)
               ++ blocks_from path (at / file_block + 1) xs) same;
           counted = λ keys counted.
               subst (λ (xs : List ℕ). HasCounted d
@@ -291,12 +291,20 @@ keys_again : (s : List Pair) (k v w : List ℕ) (blocks : List Pair)
     → keys_of (s ++ (k, v) ∷ blocks) ≡ keys_of (s ++ (k, w) ∷ blocks)
 keys_again s k v w blocks = keys_behind s ((k, v) ∷ blocks) ∙ sym (keys_behind s ((k, w) ∷ blocks))
 
+-- another length of the file whose first pair this is
+length_patched : (s : List Pair) (k v : List ℕ) (blocks : List Pair) (len : ℕ)
+    → with_length (s ++ (k, v) ∷ blocks) (length s) len ≡ s ++ (k, file_value len) ∷ blocks
+length_patched s k v blocks len =
+    ap (λ (pair : Pair). slice_set (s ++ (k, v) ∷ blocks) (length s) (pair.0, file_value len))
+    (get_or_at s (k, v) blocks ([], []) (length s) refl)
+    ∙ set-append_seam s (k, v) blocks (k, file_value len)
+
 -- a piece more
 pub holds_piece : (old new : ListedPairs) (before : Tree) (x : Path) (content bytes : List ℕ) (count : ℕ)
     (p : Parameters) (d : Draw)
     → HoldsListed old (before ++ (x, bare_entry (File content)) ∷ []) p → d ≡ draw_of old.params
     → new.params ≡ old.params → length content ≡ file_block * suc count
-    → AddsPairs d (with_length old.pairs old.first x (length content + length bytes))
+    → AddsPairs d (with_length old.pairs old.first (length content + length bytes))
     (blocks_from x (length content / file_block + 1) bytes) old new → new.first ≡ old.first
     → HoldsListed new (before ++ (x, bare_entry (File (content ++ bytes))) ∷ []) p
 holds_piece old new before x content bytes count p d held draw params full adds first =
@@ -319,16 +327,16 @@ holds_piece old new before x content bytes count p d held draw params full adds 
     (blocks_behind x 1 (suc count) content bytes full
     ∙ ap (λ n. blocks ++ blocks_from x n bytes) (let e : 1 + suc count ≡ number = omega (arith, full) in e))
     ∙ sym (append_assoc front ((key x 0, file_value len) ∷ blocks) added) in
-    holds_more old new t u p d (with_length old.pairs old.first x len) added held draw params adds
+    holds_more old new t u p d (with_length old.pairs old.first len) added held draw params adds
     (ap keys_of more ∙ keys_behind patched added
     ∙ ap (λ (ks : List (List ℕ)). ks ++ keys_of added)
     (keys_again front (key x 0) (file_value len) (file_value (length content)) blocks ∙ ap keys_of (sym was)))
     (λ room.
     let place : old.first ≡ length front = held.first room before (x, bare_entry (File content)) refl in
     ap (λ (s : List Pair). s ++ added)
-    (ap (λ n. with_length old.pairs n x len) place
-    ∙ ap (λ (s : List Pair). with_length s (length front) x len) (held.kept room ∙ was)
-    ∙ set-append_seam front (key x 0, file_value (length content)) blocks (key x 0, file_value len))
+    (ap (λ n. with_length old.pairs n len) place
+    ∙ ap (λ (s : List Pair). with_length s (length front) len) (held.kept room ∙ was)
+    ∙ length_patched front (key x 0) (file_value (length content)) blocks len)
     ∙ sym more)
     (λ room. subst (IsFirstOfLast u p) (sym first)
     (first_again before (x, bare_entry (File content))

@@ -1,5 +1,5 @@
 -- Which pairs are kept of a listing.
-use Rattle.std.specs.Prelude.{◌≡◌, ℕ, ◌+◌, ◌/◌, ◌≤◌, ◌<◌, List, [], ◌∷◌, ◌++◌, map, length, slice_set, Option}
+use Rattle.std.specs.Prelude.{◌≡◌, ℕ, ◌+◌, ◌/◌, ◌≤◌, ◌<◌, List, [], ◌∷◌, ◌++◌, map, length, get_or, slice_set, Option}
 use Rattle.std.specs.Prelude.{MatchOption, Result, OnOk, false}
 use Rattle.std.specs.List.{enumerate_from}
 use Rattle.store_model.specs.Lists.{runs}
@@ -56,14 +56,14 @@ pub record AddsPairs (d : Draw) (before added : List Pair) (old new : ListedPair
 abbrev pub blocks_from : Path → ℕ → List ℕ → List Pair
 blocks_from path first bytes = map (λ b. (key path b.0, b.1)) (enumerate_from first (runs file_block bytes))
 
--- the pairs in which a file has this length that has its first pair there
-abbrev pub with_length : List Pair → ℕ → Path → ℕ → List Pair
-with_length s first path len = slice_set s first (key path 0, file_value len)
+-- the pairs in which a file has this length that has its first pair there; each pair keeps its key
+abbrev pub with_length : List Pair → ℕ → ℕ → List Pair
+with_length s first len = slice_set s first ((get_or s first ([], [])).0, file_value len)
 
 -- the blocks of more bytes of a file are added, which had so many bytes, and its length is set
 abbrev pub AddsPiece : Draw → Path → ℕ → List ℕ → ListedPairs → ListedPairs → Type 0
 AddsPiece d path at bytes old new =
-    at + length bytes ≤ file_limit → AddsPairs d (with_length old.pairs old.first path (at + length bytes))
+    at + length bytes ≤ file_limit → AddsPairs d (with_length old.pairs old.first (at + length bytes))
     (blocks_from path (at / file_block + 1) bytes) old new
 
 -- the pair of an attribute is added, which a path may have

@@ -1,7 +1,6 @@
 //! The pairs of a listing's tree, while they come.
 
 ghost use Rattle.std.specs.Prelude.{◌≡◌, ◌+◌, ◌∷◌, ◌++◌, ◌<◌, ◌≤◌, List, [], length, OnOk};
-ghost use Rattle.std.specs.Option.{option_map};
 ghost use Rattle.store_model.specs.Parameters.{Parameters, height_limit};
 ghost use Rattle.store_model.specs.Trees.{Tree};
 ghost use Rattle.store_model.specs.Paths as paths;
@@ -9,13 +8,12 @@ ghost use Rattle.store_model.specs.Pairs as model;
 ghost use Rattle.store_model.specs.Draws.{draw_of};
 ghost use Rattle.store_model.specs.Pages.{page_count};
 ghost use Rattle.seeded_draw.specs.AnyDrawn.{any_draw};
+ghost use Rattle.layout_scratch.specs.Levels.{levels_of};
 ghost use Rattle.dump_streams.specs.Dumps as dumps;
 ghost use Rattle.dump_streams.specs.Dumps.DumpStep.{Write};
-ghost use Rattle.dump_streams.specs.Listed.{HoldsListed, TookSteps, TakesPairs, AddsPairs, AddsPiece, AddsAttribute};
-ghost use Rattle.dump_streams.specs.Listed.{TellsPairs, blocks_from, with_length};
 
 use crate::step::{DumpStep, Step};
-use layout_scratch::PageCounter;
+use layout_scratch::{DrawnPairs, PageCounter};
 use node_pages::PairList;
 use path_keys::{AttrName, Path, attr_key};
 use seeded_draw::{AnyDraw, Front};
@@ -40,8 +38,11 @@ pub struct ListedPairs {
     counter: PageCounter,
     /// The pairs, if the pages are no more than the slots; and else none.
     pairs: PairList,
+    /// The levels of their keys, so that none is drawn again for the layout.
+    levels: Vec<u8>,
     /// Which of them is the first pair of the last path, if there is a path.
     first: u32,
+    ghost drawn: { levels.items ≡ levels_of (draw_of params) pairs },
 }
 
 /// Why the pairs of a step were not added.
@@ -72,6 +73,9 @@ fn drawn_by(params: &Params) -> AnyDraw
 }
 
 impl ListedPairs {
+    ghost use Rattle.dump_streams.specs.Listed.{HoldsListed, TookSteps, TakesPairs, TellsPairs};
+    ghost use Rattle.dump_streams.specs.Listed.{AddsPairs, AddsPiece, AddsAttribute, blocks_from, with_length};
+
     /// The pairs of no step.
     pub fn new(alloc: Global, params: &Params) -> Self
         ensures params { result.params ≡ params.now }
@@ -83,6 +87,7 @@ impl ListedPairs {
             front: Front::new(),
             counter: PageCounter::new(),
             pairs: PairList::new(alloc),
+            levels: Vec::new(alloc),
             first: 0,
         }
     }
@@ -110,6 +115,7 @@ impl ListedPairs {
     {
         if self.counter.pages() > self.params.slots() {
             self.pairs.clear();
+            self.levels.clear();
         }
     }
 
@@ -147,7 +153,8 @@ impl ListedPairs {
 
     /// Adds the pairs of a file that came to be.
     fn push_file(&mut self, draw: &AnyDraw, path: &Path, bytes: &Bytes) -> Result<(), PairsFault>
-        requires { (any_draw draw.now).height ≤ height_limit }
+        requires draw { any_draw draw.now ≡ draw_of self.old.params }
+        requires height { (any_draw draw.now).height ≤ height_limit }
         ensures params { self.new.params ≡ self.old.params }
         ensures first { self.new.first ≡ length self.old.pairs }
         ensures added { OnOk result
@@ -173,26 +180,28 @@ impl ListedPairs {
         at: u32,
         bytes: &Bytes,
     ) -> Result<(), PairsFault>
-        requires { (any_draw draw.now).height ≤ height_limit }
+        requires draw { any_draw draw.now ≡ draw_of self.old.params }
+        requires height { (any_draw draw.now).height ≤ height_limit }
         ensures params { self.new.params ≡ self.old.params }
         ensures first { self.new.first ≡ self.old.first }
         ensures added { OnOk result
             (AddsPiece (any_draw draw.now) path.now at bytes.now self.old self.new) }
     {
         let bytes = bytes.as_slice();
-        self.set_length(path, at.saturating_add(bytes.len() as u32));
+        self.set_length(at.saturating_add(bytes.len() as u32));
         self.push_blocks(draw, path, at / FILE_BLOCK + 1, bytes)
     }
 
     /// Sets the length of the last file, while its pairs are kept.
-    fn set_length(&mut self, path: &Path, len: u32)
+    fn set_length(&mut self, len: u32)
         ensures params { self.new.params ≡ self.old.params }
         ensures first { self.new.first ≡ self.old.first }
         ensures counter { self.new.counter ≡ self.old.counter }
-        ensures pairs { self.new.pairs ≡ with_length self.old.pairs self.old.first path.now len }
+        ensures pairs { self.new.pairs ≡ with_length self.old.pairs self.old.first len }
     {
         if self.first < self.pairs.len() {
-            self.pairs.set(self.first, (path.key(0), file_value(len)));
+            let key = self.pairs.get(self.first).0;
+            self.pairs.set(self.first, (key, file_value(len)));
         }
     }
 
@@ -204,7 +213,8 @@ impl ListedPairs {
         name: &AttrName,
         bytes: &Bytes,
     ) -> Result<(), PairsFault>
-        requires { (any_draw draw.now).height ≤ height_limit }
+        requires draw { any_draw draw.now ≡ draw_of self.old.params }
+        requires height { (any_draw draw.now).height ≤ height_limit }
         ensures params { self.new.params ≡ self.old.params }
         ensures first { self.new.first ≡ self.old.first }
         ensures added { OnOk result
@@ -228,6 +238,7 @@ impl ListedPairs {
         first: u32,
         bytes: &[u8],
     ) -> Result<(), PairsFault>
+        requires draw { any_draw draw.now ≡ draw_of self.old.params }
         requires height { (any_draw draw.now).height ≤ height_limit }
         requires few { first + length bytes.now < 4294967296 }
         ensures params { self.new.params ≡ self.old.params }
@@ -249,7 +260,8 @@ impl ListedPairs {
 
     /// Adds the first pair of a path.
     fn push_first(&mut self, draw: &AnyDraw, path: &Path, value: Value) -> Result<(), PairsFault>
-        requires { (any_draw draw.now).height ≤ height_limit }
+        requires draw { any_draw draw.now ≡ draw_of self.old.params }
+        requires height { (any_draw draw.now).height ≤ height_limit }
         ensures params { self.new.params ≡ self.old.params }
         ensures first { self.new.first ≡ length self.old.pairs }
         ensures added { OnOk result
@@ -262,7 +274,8 @@ impl ListedPairs {
 
     /// Adds a pair behind all others, and counts it.
     fn push(&mut self, draw: &AnyDraw, key: Key, value: Value) -> Result<(), PairsFault>
-        requires { (any_draw draw.now).height ≤ height_limit }
+        requires draw { any_draw draw.now ≡ draw_of self.old.params }
+        requires height { (any_draw draw.now).height ≤ height_limit }
         ensures params { self.new.params ≡ self.old.params }
         ensures first { self.new.first ≡ self.old.first }
         ensures added { OnOk result
@@ -271,9 +284,25 @@ impl ListedPairs {
         if self.counter.keys() >= MAX_PAIRS {
             return Err(PairsFault::TooMany);
         }
-        self.counter.add(draw, &mut self.front, &key);
-        self.pairs.push((key, value))?;
+        let level = self.counter.add(draw, &mut self.front, &key);
+        self.keep(level, key, value)?;
         Ok(())
+    }
+
+    /// Keeps a pair behind all others, with the level that is drawn for its key.
+    fn keep(&mut self, level: u8, key: Key, value: Value) -> Result<(), NoMemory>
+        requires { level ≡ (draw_of self.old.params).level key }
+        ensures params { self.new.params ≡ self.old.params }
+        ensures first { self.new.first ≡ self.old.first }
+        ensures counter { self.new.counter ≡ self.old.counter }
+        ensures pairs { OnOk result (self.new.pairs ≡ self.old.pairs ++ (key, value) ∷ []) }
+    {
+        self.levels.push(level)?;
+        let kept = self.pairs.push((key, value));
+        if kept.is_err() {
+            self.levels.pop();
+        }
+        kept
     }
 
     /// How many pages the tree has.
@@ -283,14 +312,13 @@ impl ListedPairs {
         self.counter.pages()
     }
 
-    /// The pairs of the tree, if its pages are no more than the slots.
-    pub fn kept(&self) -> Option<&PairList>
-        ensures { (t : Tree) (p : Parameters) → HoldsListed self.now t p
-            → TellsPairs t p (option_map (λ pairs. pairs.now) result) }
+    /// The pairs of the tree with the levels of their keys, if its pages are no more than the slots.
+    pub fn kept(&self) -> Option<DrawnPairs<'_>>
+        ensures { (t : Tree) (p : Parameters) → HoldsListed self.now t p → TellsPairs t p result }
     {
         if self.counter.pages() > self.params.slots() {
             return None;
         }
-        Some(&self.pairs)
+        Some(DrawnPairs::new(&self.params, &self.pairs, self.levels.as_slice()))
     }
 }

@@ -1,5 +1,6 @@
 -- Pairs with the levels of their keys, one after the other.
 use Rattle.std.proofs.Common.{◌≡◌, ℕ, ◌+◌, ◌<◌, ◌≤◌, List, [], ◌∷◌, ◌++◌, length, take, get_or, sym, ap, subst, ◌∙◌}
+use Rattle.std.proofs.Common.{Some, slice_get, arith, length-take-le}
 use Rattle.std.specs.List.{AllByRecursion}
 use Rattle.std.specs.List.Sorted.{IsPermutation, IsSorted}
 use Rattle.std.specs.Ordering.{eq_by_cmp}
@@ -7,7 +8,8 @@ use Rattle.std.specs.Cmp.{IsTotalOrder}
 use Rattle.std.proofs.lemmas.Cmp.{on_total, nat_list_cmp_total, eq_by_cmp_equiv}
 use Rattle.std.proofs.lemmas.List.Sorted.{IsPermutation-map}
 use Rattle.std.proofs.lemmas.Map.Keys.{IsDistinct-IsPermutation}
-use Rattle.std.proofs.lemmas.List.{take_more, map_push, take_all}
+use Rattle.std.proofs.lemmas.List.{take_more, map_push, take_all, length-map, get_or-take, get_or-map}
+use Rattle.std.proofs.lemmas.Option.{slice_get_within, get_or_from_slice_get}
 use Rattle.store_model.specs.Draws.{Draw}
 use Rattle.store_model.specs.Paths.{key_cmp}
 use Rattle.store_model.specs.Pairs.{Pair, IsPair, IsPairs}
@@ -16,6 +18,7 @@ use Rattle.store_model.proofs.ListsLemmasOrder.{AllByRecursion-permutation, IsPe
 use Rattle.store_model.proofs.ListsLemmasOrder.{same_as_in_order, distinct_from_map}
 use Rattle.layout_scratch.specs.Sorting.{HasDistinctKeys, pair_cmp, by_key}
 use Rattle.layout_scratch.specs.declared.ranked.Ranked.{Ranked}
+use Rattle.layout_scratch.specs.Levels.{levels_of, AreLevels}
 use Rattle.layout_scratch.specs.Ranks.{key_of, pairs_of, AreRanked}
 use Rattle.layout_scratch.proofs.Rising.{rising_from_sorted}
 
@@ -40,6 +43,25 @@ rank_more d pairs i ranked new r so_far new_is below here level is_pair =
       valid = subst (AllByRecursion IsPair) (sym more)
           (all_append IsPair (take i pairs) (r.pair.now ∷ []) so_far.valid (is_pair, tt));
     }
+
+-- so many are ranked
+pub rank_count : (d : Draw) (pairs : List Pair) (i : ℕ) (ranked : List Ranked) → RanksFirst d pairs i ranked
+    → i < length pairs → length ranked ≡ i
+rank_count d pairs i ranked so_far below =
+    sym (length-map ranked (λ (r : Ranked). r.pair.now)) ∙ ap length so_far.pairs_are
+    ∙ length-take-le i pairs (omega (arith, below))
+
+-- a level that is known is that of the pair at its place
+pub level_known : (d : Draw) (pairs : List Pair) (levels : List ℕ) (i level : ℕ) (pair : Pair)
+    → AreLevels d pairs levels → slice_get levels i ≡ Some level → i < length pairs → pair ≡ get_or pairs i pair
+    → level ≡ d.level pair.0
+level_known d pairs levels i level pair known found below here =
+    let in_levels : i < length levels = slice_get_within levels i level found in
+    sym (get_or_from_slice_get levels i level level found)
+    ∙ ap (λ (ls : List ℕ). get_or ls i level) known
+    ∙ get_or-take (length levels) (levels_of d pairs) i level in_levels
+    ∙ get_or-map (λ (p : Pair). d.level p.0) pairs i pair level below
+    ∙ ap (λ (p : Pair). d.level p.0) (sym here)
 
 -- no pair yet
 pub rank_none : (d : Draw) (pairs : List Pair) (ranked : List Ranked) → ranked ≡ [] → RanksFirst d pairs 0 ranked

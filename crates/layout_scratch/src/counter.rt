@@ -57,14 +57,15 @@ impl PageCounter {
     }
 
     /// Takes the next key, which stands behind those that came, of which there have to be fewer than 268,435,456. The
-    /// front helps to draw its level.
-    pub fn add<W: Draw>(&mut self, draw: &W, front: &mut Front, key: &Key)
+    /// front helps to draw its level, which is answered.
+    pub fn add<W: Draw>(&mut self, draw: &W, front: &mut Front, key: &Key) -> u8
         requires height { (W.drawn draw.now).height ≤ height_limit }
         requires few { self.old.keys < sorted_limit }
         ensures counted { (keys : List (List ℕ)) → HasCounted (W.drawn draw.now) keys self.old
             → HasCounted (W.drawn draw.now) (keys ++ key.now ∷ []) self.new }
         ensures grows { self.old.pages ≤ self.new.pages }
         ensures keys { self.new.keys ≡ self.old.keys + 1 }
+        ensures level { result ≡ (W.drawn draw.now).level key.now }
     {
         let level = draw.level_from(front, key);
         let at = usize::from(level);
@@ -77,5 +78,6 @@ impl PageCounter {
         self.cells[..at].fill(1);
         self.cells[at] = count.saturating_add(1);
         self.keys += 1;
+        level
     }
 }

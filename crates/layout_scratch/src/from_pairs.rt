@@ -8,10 +8,12 @@ ghost use Rattle.store_model.specs.Pairs.{IsPairs};
 ghost use Rattle.store_model.specs.Pages.{pages_of_pairs};
 ghost use Rattle.store_model.specs.Placement.{place};
 ghost use Rattle.layout_scratch.specs.Sorting.{HasDistinctKeys, by_key, sorted_limit};
+ghost use Rattle.layout_scratch.specs.Levels.{AreLevels};
 ghost use Rattle.layout_scratch.specs.Ranks.{pairs_of, AreRanked};
 ghost use Rattle.layout_scratch.specs.Faults.{IsRefusal, RefusesPages};
 
 use crate::cut::cut_pages;
+use crate::drawn::DrawnPairs;
 use crate::fault::ScratchFault;
 use crate::layout::Layout;
 use crate::place::place_pages;
@@ -56,12 +58,14 @@ fn build_by<W: Draw>(alloc: Global, draw: &W, pairs: &PairList) -> Result<Layout
     lay_out(alloc, draw, sorted)
 }
 
-/// The layout of a list of pairs whose keys rise, under a draw.
-fn build_sorted_by<W: Draw>(
+/// The layout of a list of pairs whose keys rise, under a draw. The levels of the first pairs are known.
+fn build_drawn_by<W: Draw>(
     alloc: Global,
     draw: &W,
     pairs: &PairList,
+    levels: &[u8],
 ) -> Result<Layout, ScratchFault>
+    requires levels { AreLevels (W.drawn draw.now) pairs.now levels.now }
     requires rising { IsPairs pairs.now }
     requires few { length pairs.now ≤ sorted_limit }
     requires height { (W.drawn draw.now).height ≤ height_limit }
@@ -72,7 +76,7 @@ fn build_sorted_by<W: Draw>(
     ensures full { IfErr result
         (RefusesPages (W.drawn draw.now) (pages_of_pairs (W.drawn draw.now) pairs.now)) }
 {
-    let ranked = ranked_pairs(alloc, draw, pairs)?;
+    let ranked = ranked_pairs(alloc, draw, pairs, levels)?;
     lay_out(alloc, draw, ranked)
 }
 
@@ -101,10 +105,33 @@ pub fn build(alloc: Global, params: &Params, pairs: &PairList) -> Result<Layout,
     build_by(alloc, &AnyDraw::new(params), pairs)
 }
 
-/// Lays out a list of pairs whose keys rise, at most 268,435,456 of them, as `build` does: nothing is sorted.
+/// Lays out a list of pairs whose keys rise, at most 268,435,456 of them, as `build` does: nothing is sorted, and no
+/// level is drawn that is known under these parameters.
 ///
 /// `Full` comes exactly where the pages are more than the slots, and says how many they are.
 #[tactic(auto, unfolding(store_model::specs::Draws::draw_of))]
+pub fn build_drawn(
+    alloc: Global,
+    params: &Params,
+    pairs: &DrawnPairs<'_>,
+) -> Result<Layout, ScratchFault>
+    requires rising { IsPairs pairs.now }
+    requires few { length pairs.now ≤ sorted_limit }
+    ensures value { IfOk result (λ layout. layout
+        ≡ place (draw_of params.now) (pages_of_pairs (draw_of params.now) pairs.now)) }
+    ensures fits { IfOk result
+        (λ _. length (pages_of_pairs (draw_of params.now) pairs.now) ≤ params.now.slots) }
+    ensures full { IfErr result
+        (RefusesPages (draw_of params.now) (pages_of_pairs (draw_of params.now) pairs.now)) }
+{
+    reveal_params(params);
+    let draw = AnyDraw::new(params);
+    build_drawn_by(alloc, &draw, pairs.pairs(), pairs.levels(params))
+}
+
+/// Lays out a list of pairs whose keys rise, at most 268,435,456 of them, as `build` does: nothing is sorted.
+///
+/// `Full` comes exactly where the pages are more than the slots, and says how many they are.
 pub fn build_sorted(
     alloc: Global,
     params: &Params,
@@ -119,6 +146,5 @@ pub fn build_sorted(
     ensures full { IfErr result
         (RefusesPages (draw_of params.now) (pages_of_pairs (draw_of params.now) pairs.now)) }
 {
-    reveal_params(params);
-    build_sorted_by(alloc, &AnyDraw::new(params), pairs)
+    build_drawn(alloc, params, &DrawnPairs::new(params, pairs, &[]))
 }

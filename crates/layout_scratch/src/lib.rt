@@ -8,6 +8,7 @@
 mod count;
 mod counter;
 mod cut;
+mod drawn;
 mod fault;
 mod from_pairs;
 mod groups;
@@ -16,6 +17,7 @@ mod place;
 mod ranked;
 
 pub use counter::PageCounter;
+pub use drawn::DrawnPairs;
 pub use fault::ScratchFault;
-pub use from_pairs::{build, build_sorted};
+pub use from_pairs::{build, build_drawn, build_sorted};
 pub use layout::Layout;

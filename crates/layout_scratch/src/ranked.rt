@@ -1,6 +1,6 @@
 //! Pairs in the order of their keys, each with the level of its key.
 
-ghost use Rattle.std.specs.Prelude.{◌≡◌, Some, IfOk, nat_eq};
+ghost use Rattle.std.specs.Prelude.{◌≡◌, ℕ, Some, IfOk, nat_eq, slice_get};
 ghost use Rattle.std.proofs.Common.{refl};
 ghost use Rattle.std.specs.List.{AllByRecursion};
 ghost use Rattle.std.specs.Cmp.{partial_equiv_from_equiv, on_equiv, on_per, on_po, on_total};
@@ -8,6 +8,7 @@ ghost use Rattle.std.specs.Cmp.Lexicographic.{pointwise, nat_list_eq_equiv, nat_
 ghost use Rattle.store_model.specs.Paths.{key_cmp};
 ghost use Rattle.store_model.specs.Pairs.{IsPair, IsPairs};
 ghost use Rattle.layout_scratch.specs.Sorting.{HasDistinctKeys, by_key};
+ghost use Rattle.layout_scratch.specs.Levels.{AreLevels};
 ghost use Rattle.layout_scratch.specs.Ranks.{key_of, pairs_of, AreRanked};
 
 use node_pages::{PairList, reveal_pair};
@@ -71,12 +72,26 @@ fn reveal(pair: &(Key, Value))
     reveal_pair(&pair.0, &pair.1);
 }
 
-/// The pairs as they come, each with the level of its key.
+/// The level of the key of the pair at this place: it is drawn where it is not known.
+fn level_at<W: Draw>(draw: &W, front: &mut Front, levels: &[u8], at: usize, key: &Key) -> u8
+    requires { (level : ℕ) → slice_get levels.now at ≡ Some level
+        → level ≡ (W.drawn draw.now).level key.now }
+    ensures { result ≡ (W.drawn draw.now).level key.now }
+{
+    match levels.get(at) {
+        Some(level) => *level,
+        None => draw.level_from(front, key),
+    }
+}
+
+/// The pairs as they come, each with the level of its key. The levels of the first pairs are known.
 pub fn ranked_pairs<'a, W: Draw>(
     alloc: Global,
     draw: &W,
     pairs: &'a PairList,
+    levels: &[u8],
 ) -> Result<Vec<Ranked<'a>>, NoMemory>
+    requires { AreLevels (W.drawn draw.now) pairs.now levels.now }
     ensures pairs { IfOk result (λ ranked. pairs_of ranked.items ≡ pairs.now) }
     ensures levels { IfOk result (λ ranked. AreRanked (W.drawn draw.now) ranked.items) }
     ensures valid { IfOk result (λ _. AllByRecursion IsPair pairs.now) }
@@ -85,10 +100,8 @@ pub fn ranked_pairs<'a, W: Draw>(
     let mut ranked = Vec::with_capacity(alloc, pairs.len() as usize)?;
     for pair in pairs.as_slice() {
         reveal(pair);
-        ranked.push(Ranked {
-            pair,
-            level: draw.level_from(&mut front, &pair.0),
-        })?;
+        let level = level_at(draw, &mut front, levels, ranked.len(), &pair.0);
+        ranked.push(Ranked { pair, level })?;
     }
     Ok(ranked)
 }
@@ -105,7 +118,7 @@ pub fn sorted_pairs<'a, W: Draw>(
     ensures levels { IfOk result (λ ranked. AreRanked (W.drawn draw.now) ranked.items) }
     ensures valid { IfOk result (λ _. IsPairs (by_key pairs.now)) }
 {
-    let mut ranked = ranked_pairs(alloc, draw, pairs)?;
+    let mut ranked = ranked_pairs(alloc, draw, pairs, &[])?;
     ranked.sort()?;
     Ok(ranked)
 }

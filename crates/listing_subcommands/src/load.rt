@@ -94,7 +94,7 @@ fn load_listed<D: Disk>(
     ensures { LoadsListed D.state listed.now store.old store.new result }
 {
     match listed.kept() {
-        Some(pairs) => store.load(pairs),
+        Some(pairs) => store.load_drawn(&pairs),
         None => Ok(LoadAnswer::Full {
             need: listed.pages(),
             slots: store.params().slots(),

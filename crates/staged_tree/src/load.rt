@@ -15,8 +15,7 @@ use crate::commands::TreeList;
 use crate::used_slots::UsedSlots;
 use disk_model::Disk;
 use image_check::ApplyFault;
-use layout_scratch::{Layout, ScratchFault, build_sorted};
-use node_pages::PairList;
+use layout_scratch::{DrawnPairs, Layout, ScratchFault, build_drawn};
 use std::alloc::Global;
 use store_base::Params;
 
@@ -34,7 +33,8 @@ pub enum LoadAnswer {
     },
 }
 
-/// Loads the list of the empty tree with that of a tree whose pairs these are. After it nothing is staged.
+/// Loads the list of the empty tree with that of a tree whose pairs these are. After it nothing is staged. No level is
+/// drawn that is known under these parameters.
 ///
 /// A fault leaves the list as it was. `NoMemory`: nothing was written. `Disk`: the disk failed at a write or after
 /// one, and the pages are spent.
@@ -42,7 +42,7 @@ pub fn load_list<D: Disk>(
     alloc: Global,
     list: &mut TreeList<D>,
     params: &Params,
-    pairs: &PairList,
+    pairs: &DrawnPairs<'_>,
 ) -> Result<LoadAnswer, ApplyFault>
     requires runs { list.old.pages.is_spent ≡ false }
     requires list { IsListAt D.state empty_tree params.now list.old }
@@ -54,7 +54,7 @@ pub fn load_list<D: Disk>(
         (IsLoadAnswer params.now t) params.now list.old.pages list.new.pages result }
     ensures list { GoesOn D.state list.old list.new }
 {
-    match build_sorted(alloc, params, pairs) {
+    match build_drawn(alloc, params, pairs) {
         Ok(layout) => settle_layout(alloc, list, params, &layout),
         Err(ScratchFault::Full { need, slots }) => Ok(LoadAnswer::Full { need, slots }),
         Err(ScratchFault::NoMemory) => Err(ApplyFault::NoMemory),

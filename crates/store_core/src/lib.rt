@@ -3,8 +3,8 @@
 //! Start at `Store`. `attach` makes a store of a disk: it checks the image whole and recovers it. `apply` carries out
 //! a command, as the definitions' step says. `apply_all` carries out a group of changes together, or none of them: it
 //! stages them one after another, and settles once. `upgrade` makes the image one of version 2. `next_pair` finds
-//! the first pair from a key on, and `load` fills an empty store with the pairs of a whole tree. `walk`, `walk_from`
-//! and `next_of` give the pairs one after another, page by page.
+//! the first pair from a key on, and `load` fills an empty store with the pairs of a whole tree, as `load_drawn` does
+//! by levels that were drawn before. `walk`, `walk_from` and `next_of` give the pairs one after another, page by page.
 //!
 //! No part of the tree is in memory between two commands. What a command does with the pages of the tree is in
 //! `staged_tree`. After every command nothing is staged.

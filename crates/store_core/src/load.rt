@@ -10,6 +10,7 @@ ghost use Rattle.store_core.specs.Loads.{Loads};
 use crate::store::Store;
 use disk_model::Disk;
 use image_check::ApplyFault;
+use layout_scratch::DrawnPairs;
 use node_pages::PairList;
 use staged_tree::{LoadAnswer, load_list};
 
@@ -24,6 +25,20 @@ impl<D: Disk> Store<D> {
     /// the store is stopped, and the disk represents the one tree or the other. `NoMemory`: nothing was written.
     /// `Stopped`, exactly where the store was stopped before: nothing was called.
     pub fn load(&mut self, pairs: &PairList) -> Result<LoadAnswer, ApplyFault>
+        requires empty { self.old.tree ≡ empty_tree }
+        requires few { length pairs.now ≤ sorted_limit }
+        requires pairs { (t : Tree)
+            × (IsTreeUnder t self.old.params × (pairs.now ≡ model.pairs t self.old.params)) }
+        ensures call { (t : Tree) → IsTreeUnder t self.old.params
+            → pairs.now ≡ model.pairs t self.old.params
+            → Loads D.state t self.old self.new result }
+    {
+        let drawn = DrawnPairs::new(self.known.params(), pairs, &[]);
+        self.load_drawn(&drawn)
+    }
+
+    /// As `load`, by pairs with the levels of their keys: none is drawn that is known under the image's parameters.
+    pub fn load_drawn(&mut self, pairs: &DrawnPairs<'_>) -> Result<LoadAnswer, ApplyFault>
         requires empty { self.old.tree ≡ empty_tree }
         requires few { length pairs.now ≤ sorted_limit }
         requires pairs { (t : Tree)

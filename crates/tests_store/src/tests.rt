@@ -7,3 +7,4 @@ mod recovered_disks;
 mod sessions;
 mod stops;
 mod support;
+mod walks;

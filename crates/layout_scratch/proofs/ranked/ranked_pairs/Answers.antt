@@ -15,7 +15,7 @@ loop-pair-preserved g c =
     in
     let here : p ≡ get_or pairs i p = c.pair-item.is ∙ ap (λ xs. get_or xs i p) c.as_slice-pair-items.ensures.value in
     rank_more (g.W.Draw.drawn c.args.draw.now) pairs i c.loop-pair.ranked.items c.push.new.self.items _
-    c.loop-pair.invariant c.in_ok-push.ensures.items below here c.level_from.ensures c.reveal.ensures
+    c.loop-pair.invariant c.in_ok-push.ensures.items below here c.level_at-level.ensures c.reveal.ensures
 
 pub returns-clause-pairs : goal.returns-clause-pairs
 returns-clause-pairs g c =

@@ -10,8 +10,8 @@ use Rattle.staged_tree.proofs.LoadSteps.{unmoved, load_full, laid_out, pages_lai
 use Rattle.staged_tree.proofs.LoadSteps.{load_done}
 use Rattle.staged_tree.proofs.load.load_list.Goals as goal
 
-pub build_sorted-requires-clause-rising : goal.build_sorted-requires-clause-rising
-build_sorted-requires-clause-rising g c = let some = c.requires.pairs
+pub build_drawn-requires-clause-rising : goal.build_drawn-requires-clause-rising
+build_drawn-requires-clause-rising g c = let some = c.requires.pairs
     in rising_pairs some.0 c.args.params.now c.args.pairs.now some.1.0 some.1.1
 
 pub settle_layout-requires-clause-tree : goal.settle_layout-requires-clause-tree

@@ -6,7 +6,7 @@ use Rattle.store_model.specs.Pages.{IsTreeUnder}
 use Rattle.staged_tree.specs.StagedTree.{TreeList, IsListAt}
 use Rattle.store_core.specs.StoreState.{StoreState}
 use Rattle.store_core.proofs.StoreSteps.{load_carried, tree_there, served_ok, applies_ok, served_err, applies_err}
-use Rattle.store_core.proofs.store.Store.load.Goals as goal
+use Rattle.store_core.proofs.store.Store.load_drawn.Goals as goal
 
 pub load_list-result-requires-clause-list : goal.load_list-result-requires-clause-list
 load_list-result-requires-clause-list g c =
