@@ -12,5 +12,6 @@ pub mod CarriedLemmas
 pub mod CarryLemmas
 pub mod KnownLemmas
 pub mod LayingLemmas
+pub mod IndexLemmas
 pub mod LookupLemmas
 pub mod OverlayLemmas

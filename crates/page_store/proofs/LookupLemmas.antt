@@ -158,6 +158,26 @@ located_then d old mid new l (Err fault) again located = record {
   found = λ m observable holds. record { absent = tt; slot = tt };
 }
 
+-- a search behind reads
+pub located_behind : (d : Draw) (old mid new : SlotsState) (l : Label) (result : Result (Option ℕ) Fault)
+    → Consults {T = Unit {0}} old mid (Ok tt) → Locates d mid new l result → Locates d old new l result
+located_behind d old mid new l result consults located = located_then d old mid new l result (record {
+  calls = AreSlotCalls-value old mid tt None consults.calls;
+  reads = consults.reads;
+  within = tt;
+  found = λ m observable holds. tt;
+}) located
+
+-- or none, where they failed
+pub located_never : (d : Draw) (old new : SlotsState) (l : Label) (fault : Fault)
+    → Consults {T = Unit {0}} old new (Err fault) → Locates d old new l (Err fault)
+located_never d old new l fault consults = record {
+  calls = AreSlotCalls-fault old new fault consults.calls;
+  reads = consults.reads;
+  within = tt;
+  found = λ m observable holds. record { absent = tt; slot = tt };
+}
+
 -- the read of a slot only reads
 pub consults_get : (old new : SlotsState) (at : ℕ) (buffer : List ℕ) (result : Result (Unit {0}) Fault)
     → IsGet old new at buffer result → Consults old new result

@@ -1,7 +1,7 @@
 -- Lemmas on staged pages.
-use Rattle.std.proofs.Common.{◌≡◌, ℕ, Bool, false, List, [], map, Option, Ok, refl, sym, ap, ap₂, subst, ◌∙◌}
+use Rattle.std.proofs.Common.{◌≡◌, ℕ, Bool, false, List, [], map, slice_get, Option, Ok, refl, sym, ap, ap₂, subst, ◌∙◌}
 use Rattle.std.specs.FinMap as maps
-use Rattle.std.specs.BTreeMap.{insert_entry}
+use Rattle.std.specs.BTreeMap.{BTreeMap, insert_entry}
 use Rattle.store_model.specs.Lists.{numbers_below}
 use Rattle.store_model.specs.Parameters.{Parameters}
 use Rattle.store_model.specs.Labels.{Label, label_bytes, label_cmp}
@@ -12,6 +12,7 @@ use Rattle.disk_model.specs.DiskState.{DiskState, IsObservable}
 use Rattle.gate_journal.specs.Places.{ReadsOnly}
 use Rattle.gate_journal.specs.ViewState.{KeepsView}
 use Rattle.table_memory.specs.Memos.{Remembered, IsMemoOf}
+use Rattle.page_store.specs.Indexes.{IsIndexed}
 use Rattle.table_memory.specs.OverlayState.{slot_over, overlaid}
 use Rattle.page_store.specs.PageImages.{table_slots, pages_in_table, IsLayoutOf, SlotStandsAt}
 use Rattle.table_memory.specs.Staging.{StagedPages, with_change, with_changes}
@@ -93,6 +94,19 @@ memo_later d p q old new touched later memo read of = record {
   tells = λ m observable holds l page is.
       let before : IsObservable old = sym read.observable ∙ observable in
       of.tells m before (subst (λ (slots : List (List ℕ)). HoldsPages d slots m) (read.slots before) holds) l page is;
+}
+
+-- and an index
+pub index_later : (digests : Label → ℕ) (p q : Parameters) (old new : DiskState) (touched later : List (ℕ × List ℕ))
+    (index : Option (BTreeMap ℕ ℕ)) → IsReadLater p q old new touched later
+    → IsIndexed digests (overlaid p.slots touched old) index → IsIndexed digests (overlaid q.slots later new) index
+index_later digests p q old new touched later index read indexed = record {
+  of = λ found is. record {
+    notes = λ observable slot page valid held.
+        let before : IsObservable old = sym read.observable ∙ observable in
+        (indexed.of found is).notes before slot page valid
+        (ap (λ (ss : List (List ℕ)). slice_get ss slot) (sym (read.slots before)) ∙ held);
+  };
 }
 
 -- the slots over the disk hold the pages of the table

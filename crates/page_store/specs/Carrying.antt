@@ -1,5 +1,5 @@
 -- How changes are carried out on slots.
-use Rattle.std.specs.Prelude.{◌≡◌, ◌<◌, ◌≤◌, ℕ, List, [], ◌∷◌, Option, Some, None, Result, OnOk}
+use Rattle.std.specs.Prelude.{◌≡◌, ◌<◌, ◌≤◌, List, [], ◌∷◌, Option, Some, None, Result, OnOk}
 use Rattle.std.specs.FinMap as maps
 use Rattle.store_model.specs.Labels.{Label}
 use Rattle.store_model.specs.Draws.{Draw}

@@ -10,3 +10,4 @@ pub mod Stagings
 pub mod Carrying
 pub mod Lookups
 pub mod Overlays
+pub mod Indexes

@@ -3,7 +3,6 @@ use Rattle.std.specs.Prelude.{◌≡◌, ◌↔◌, ℕ, ◌<◌, Bool, Option, 
 use Rattle.std.specs.FinMap as maps
 use Rattle.store_model.specs.Labels.{Label, label_bytes}
 use Rattle.store_model.specs.Draws.{Draw}
-use Rattle.store_model.specs.Pages.{Page}
 use Rattle.store_model.specs.PageMaps.{PageMap, page_at, HoldsPages}
 use Rattle.store_base.specs.declared.store_fault.Fault.{Fault}
 use Rattle.store_base.specs.SlotsState.{SlotsState, IsObservable, AreSlotCalls}

@@ -6,14 +6,16 @@
 //! new ones. A settle that upgrades makes the image one of version 2 with them.
 //!
 //! Slots that were written lie over those of the disk (`Overlay`), which are read through a cache. A page that is
-//! remembered is not looked up again, and a search looks first into the slot where the page was found last.
-//! `table_memory` remembers slots and pages, and finds which written slots differ.
+//! remembered is not looked up again, and a search looks first into the slot where the page was found last. Where
+//! searches go far, an index tells where all pages lie. `table_memory` remembers slots and pages, and finds which
+//! written slots differ.
 #![tactic(auto)]
 
 mod carry;
 mod changes;
 mod commit_kind;
 mod fault;
+mod index;
 mod label_order;
 mod locate;
 mod lookup;

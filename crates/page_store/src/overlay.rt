@@ -33,6 +33,8 @@ pub struct Overlay<D: Disk> {
     pub cache: SlotCache,
     /// Boxes for slots that are to be written.
     pub spares: Spares<Slot>,
+    /// How many slots were looked at, by `order`, less those that are taken off.
+    pub looks: u32,
     pub ghost sized: { (D.state disk).size ≡ image_len params.slots },
     pub ghost within: { (i : ℕ) (slot : List ℕ)
         → touched_at touched.entries i ≡ Some slot → i < params.slots },
@@ -60,6 +62,7 @@ impl<D: Disk> Overlay<D> {
             touched: BTreeMap::new(alloc),
             cache,
             spares: Spares::new(alloc),
+            looks: 0,
         }
     }
 
@@ -74,6 +77,7 @@ impl<D: Disk> Overlay<D> {
             touched: _,
             cache: _,
             spares: _,
+            looks: _,
         } = self;
         disk
     }
@@ -113,6 +117,7 @@ impl<D: Disk> ReadSlots for Overlay<D> {
 
 impl<D: Disk> OrderSlots for Overlay<D> {
     fn order(&mut self, at: u32, wanted: &[u8; 130]) -> Result<Option<Ordering>, Fault> {
+        self.looks = self.looks.saturating_add(1);
         if let Some(slot) = self.touched.get(&at) {
             return Ok(order_of(slot.get(), wanted));
         }

@@ -21,6 +21,7 @@ ghost use Rattle.page_store.specs.Settling.{SettlesBy, Settles, SettlesUpgrade, 
 use crate::changes::Changes;
 use crate::commit_kind::CommitKind;
 use crate::fault::SettleFault;
+use crate::index::forget;
 use crate::lookup::Lookup;
 use crate::overlay::Overlay;
 use crate::prepare::find_slots;
@@ -123,6 +124,7 @@ impl<D: Disk, W: Draw> Staged<D, W> {
                 overlay: Overlay::new(alloc, disk, params, cache),
                 finder: Finder::new(alloc, draw),
                 memo: PageMemo::new(alloc),
+                index: None,
             },
             changes: Changes::new(alloc),
             used: pages,
@@ -173,6 +175,7 @@ impl<D: Disk, W: Draw> Staged<D, W> {
             overlay,
             finder: _,
             memo: _,
+            index: _,
         } = lookup;
         overlay.into_disk()
     }
@@ -285,11 +288,13 @@ impl<D: Disk, W: Draw> Staged<D, W> {
             overlay,
             finder: _,
             memo,
+            index,
         } = &mut self.lookup;
         let params = overlay.params;
         empty(&mut overlay.touched);
         // What is kept of the table is that of the one before, whatever comes.
         memo.clear();
+        forget(index);
         match commit_anew(&mut overlay.disk, &mut overlay.cache, &params, changes) {
             Ok(()) => {
                 self.used = pages;
@@ -322,7 +327,9 @@ impl<D: Disk, W: Draw> Staged<D, W> {
             overlay,
             finder,
             memo,
+            index,
         } = &mut self.lookup;
+        forget(index);
         let found = find_slots(overlay, finder, &self.changes);
         // Whatever was found, the slots are the disk's again.
         empty(&mut overlay.touched);

@@ -1,4 +1,4 @@
-use Rattle.std.proofs.Common.{refl, sym, ◌∙◌}
+use Rattle.std.proofs.Common.{sym, ◌∙◌}
 use Rattle.page_store.proofs.KnownLemmas.{known_by_memo, known_as_staged}
 use Rattle.page_store.proofs.changes.Changes.knows.Goals as goal
 

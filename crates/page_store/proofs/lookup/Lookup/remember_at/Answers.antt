@@ -2,7 +2,9 @@ use Rattle.std.proofs.Common.{Err, ap, ◌∙◌}
 use Rattle.std.proofs.lemmas.Result.{err_from_is_err_and}
 use Rattle.store_model.specs.Parameters.{Parameters}
 use Rattle.page_store.specs.Overlays.{slots_seen}
+use Rattle.table_memory.proofs.MemoLemmas.{memo_read}
 use Rattle.page_store.proofs.LookupLemmas.{page_read, consults_get}
+use Rattle.page_store.proofs.IndexLemmas.{index_read}
 use Rattle.page_store.proofs.KnownLemmas.{memo_more}
 use Rattle.page_store.proofs.lookup.Lookup.remember_at.Goals as goal
 
@@ -18,6 +20,8 @@ invariant_of-self-2 g c =
       drawn = ap (λ (p : Parameters). p.slots) c.in_ok-get.ensures.follows.params ∙ s.drawn;
       remembered = memo_more d old new s.memo c.remember.new.self c.args.label.now _ read
           s.remembered c.remember.ensures;
+      indexed = index_read (g.W.Draw.digests s.finder.draw) old new s.index c.get.result c.get.ensures.call.calls
+          (λ observable. (c.get.ensures.call.observed observable).slots) s.indexed;
     }
 
 pub returns-clause-call : goal.returns-clause-call
@@ -33,3 +37,17 @@ returns-in_err-get-clause-call g c =
 
 pub returns-in_err-get-clause-follows : goal.returns-in_err-get-clause-follows
 returns-in_err-get-clause-follows g c = c.in_err-get.ensures.follows
+
+pub invariant_of-self : goal.invariant_of-self
+invariant_of-self g c =
+    let s = c.args.self.now in
+    let d = g.W.Draw.drawn s.finder.draw in
+    let old = slots_seen g.D.Disk.state s.overlay in
+    let new = slots_seen g.D.Disk.state c.get.new.self in
+    record {
+      drawn = ap (λ (p : Parameters). p.slots) c.in_err-get.ensures.follows.params ∙ s.drawn;
+      remembered = memo_read d old new s.memo c.get.result c.get.ensures.call.calls
+          (λ observable. (c.get.ensures.call.observed observable).slots) s.remembered;
+      indexed = index_read (g.W.Draw.digests s.finder.draw) old new s.index c.get.result c.get.ensures.call.calls
+          (λ observable. (c.get.ensures.call.observed observable).slots) s.indexed;
+    }

@@ -33,8 +33,8 @@ tell_slot-requires-clause-cached g c =
     subst (λ (n : ℕ). IsSlotCacheOf n (g.D.Disk.state c.args.self.now.disk) c.args.self.now.cache)
     (sym c.slots-slots.ensures.value) c.args.self.now.cached
 
-pub invariant_of-self-clause-cached : goal.invariant_of-self-clause-cached
-invariant_of-self-clause-cached g c =
+pub invariant_of-self-2-clause-cached : goal.invariant_of-self-2-clause-cached
+invariant_of-self-2-clause-cached g c =
     subst (λ (n : ℕ). IsSlotCacheOf n (g.D.Disk.state c.tell_slot.new.disk) c.tell_slot.new.cache)
     c.slots-slots.ensures.value c.tell_slot.ensures.call.cached
 

@@ -2,7 +2,7 @@ use Rattle.std.proofs.Common.{refl, ◌∙◌}
 use Rattle.table_memory.proofs.CacheLemmas.{cache_read}
 use Rattle.page_store.proofs.OverlayLemmas.{view_read}
 use Rattle.page_store.proofs.StagedCalls.{view_follows}
-use Rattle.page_store.proofs.StagedLemmas.{read_below, staged_later, memo_later}
+use Rattle.page_store.proofs.StagedLemmas.{read_below, staged_later, memo_later, index_later}
 use Rattle.page_store.proofs.staged.Staged.digest.Goals as goal
 
 pub invariant_of-self : goal.invariant_of-self
@@ -27,9 +27,13 @@ invariant_of-self-inside g c =
     let remembered = memo_later (g.W.Draw.drawn s.lookup.finder.draw) overlay.params overlay.params old new
     overlay.touched.entries overlay.touched.entries s.lookup.memo
     (read_below overlay.params old new overlay.touched.entries c.digest.ensures.calls.observable
-    c.digest.ensures.reads) s.lookup.remembered in (
+    c.digest.ensures.reads) s.lookup.remembered in
+    let indexed = index_later (g.W.Draw.digests s.lookup.finder.draw) overlay.params overlay.params old new
+    overlay.touched.entries overlay.touched.entries s.lookup.index
+    (read_below overlay.params old new overlay.touched.entries c.digest.ensures.calls.observable
+    c.digest.ensures.reads) s.lookup.indexed in (
       (c.digest.ensures.calls.size ∙ overlay.sized, (overlay.within, (overlay.filled, (cached, tt)))),
-      (s.lookup.drawn, (remembered, tt)),
+      (s.lookup.drawn, (remembered, (indexed, tt))),
     )
 
 pub returns-clause-follows : goal.returns-clause-follows

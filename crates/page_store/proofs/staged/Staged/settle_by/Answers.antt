@@ -8,6 +8,7 @@ use Rattle.table_memory.specs.SlotCaches.{IsSlotCacheOf}
 use Rattle.page_store.specs.Preparing.{FindsSlots}
 use Rattle.page_store.specs.Settling.{SettlesBy}
 use Rattle.page_store.specs.StagedState.{StagedState, staged_state}
+use Rattle.page_store.proofs.IndexLemmas.{index_forgotten}
 use Rattle.page_store.proofs.SettleLemmas.{read_since, runs, refused, not_found, read_staged, read_memo, durable_mid}
 use Rattle.page_store.proofs.SettleLemmas.{empty_mid, failed, failed_staged, done, done_staged, done_memo}
 use Rattle.page_store.proofs.staged.Staged.settle_by.Goals as goal
@@ -52,6 +53,7 @@ invariant_of-self-inside g c =
           (ap (λ (p : Parameters). p.slots) c.find_slots-found.ensures.follows.params ∙ s.lookup.drawn);
       remembered = rw c.find_slots-found.ensures.draw
           (read_memo at c.empty.new.map.entries c.empty.ensures s.lookup.memo s.lookup.remembered);
+      indexed = index_forgotten _ _ c.forget.new.index c.forget.ensures;
     }
 
 pub returns-in_err-changed : goal.returns-in_err-changed
@@ -139,6 +141,7 @@ invariant_of-self-inside-in-Ok g c =
           c.in_ok-changed.changed c.in_ok-changed.was c.find_slots-found.ensures.call c.commit_slots.new.disk
           c.in-Ok.field-0 c.in-Ok.ensures.call c.params-overlay.result c.params-overlay.ensures c.empty.new.map.entries
           c.empty.ensures s.lookup.memo c.hand_to.new.memo s.lookup.remembered c.hand_to.ensures.renews);
+      indexed = index_forgotten _ _ c.forget.new.index c.forget.ensures;
     }
 
 pub returns-in-Ok : goal.returns-in-Ok
