@@ -9,7 +9,7 @@ use crate::reading::Reading;
 use crate::wanted::Wanted;
 use host_folders::{Folder, FolderFault, Found};
 use host_names::{HostPathFault, host_text, image_path};
-use path_keys::{AttrName, Path, attr_key};
+use path_keys::{Path, attr_key};
 use script_lines::Sink;
 use std::fs::{self, DirEntry, Metadata, ReadDir};
 use std::io::{self, Error, ErrorKind};
@@ -170,23 +170,19 @@ impl<W: Sink + Drop> StdFolder<W> {
         let Ok(metadata) = entry.metadata() else {
             return Err(LeftOut::Unreadable);
         };
-        let kind = kind_of(&metadata)?;
-        let seconds = self.seconds_of(&metadata)?;
-        let is_executable = self.wanted.mode && can_be_executed(&metadata);
-        if is_executable && !has_room(&path, b"mode")
-            || seconds.is_some() && !has_room(&path, b"mtime")
-        {
+        let found = Found {
+            path,
+            kind: kind_of(&metadata)?,
+            seconds: self.seconds_of(&metadata)?,
+            is_executable: self.wanted.mode && can_be_executed(&metadata),
+        };
+        if !has_room(&found) {
             return Err(LeftOut::NoRoom);
         }
-        if self.tries_files && !can_be_opened(&self.rt, kind, entry) {
+        if self.tries_files && !can_be_opened(&self.rt, found.kind, entry) {
             return Err(LeftOut::Unreadable);
         }
-        Ok(Found {
-            path,
-            kind,
-            is_executable,
-            seconds,
-        })
+        Ok(found)
     }
 
     /// The seconds since 1970 that are packed, if times are.
@@ -243,12 +239,17 @@ fn can_be_executed(metadata: &Metadata) -> bool {
     metadata.is_file() && metadata.mode() & OWNER_EXECUTES != 0
 }
 
-/// Whether an attribute of what stands at a path has room in an image.
-fn has_room(path: &Path, name: &[u8]) -> bool {
-    match AttrName::parse(name) {
-        Some(name) => attr_key(path, &name).is_some(),
-        None => false,
+/// Whether each attribute of what was found has room in an image.
+fn has_room(found: &Found) -> bool {
+    for at in 0..usize::MAX {
+        let Some(attribute) = found.attribute(at) else {
+            return true;
+        };
+        if attr_key(&found.path, &attribute.name).is_none() {
+            return false;
+        }
     }
+    false
 }
 
 /// Whether a file or a folder can be opened.

@@ -1,4 +1,4 @@
--- The entries of what was found: one more, and the last one again.
+-- The entries of what was found: one more, and the last file again.
 use Rattle.std.proofs.Common.{◌≡◌, ℕ, suc, ◌+◌, List, [], ◌∷◌, ◌++◌, length, map, refl, sym, ap, ap₂, ◌∙◌, arith}
 use Rattle.std.proofs.lemmas.List.{append-nil, length-append, length-map, map-append}
 use Rattle.std.proofs.lemmas.List.Concat.{flat_map-append, flat_map-cons}
@@ -173,39 +173,6 @@ ends_with_file found files t last len has kind =
       files_are = split.2;
       tree = has.tree ∙ ap (λ (fs : List (Path × List ℕ)). entries_of (found ++ last ∷ []) (contents_of_files fs))
           split.2 ∙ sym again.tree;
-    }
-
--- the last entry, whose attributes may be others
-pub record EndsWith (found : List Found) (files : List (Path × List ℕ)) (t : Tree) (last : Found) : Type 0 where
-  pub front : Tree
-  pub node : Node
-  pub tree : t ≡ front ++ (last.path, record { node = node; attributes = found_attributes last }) ∷ []
-  pub again : (other : Found) → other.path ≡ last.path → other.kind ≡ last.kind
-      → HasFiles (found ++ other ∷ []) files
-      (front ++ (last.path, record { node = node; attributes = found_attributes other }) ∷ [])
-
-pub ends_with : (found : List Found) (files : List (Path × List ℕ)) (t : Tree) (last : Found)
-    → HasFiles (found ++ last ∷ []) files t → EndsWith found files t last
-ends_with found files t last has =
-    let contents = contents_of_files files in
-    record {
-      front = entries_of found contents;
-      node = found_node last.kind (contents_here last.kind (left_of found contents));
-      tree = has.tree ∙ entries_more found last contents;
-      again = λ other path kind. record {
-        paths = has.paths ∙ paths_more found last
-            ∙ ap₂ (λ (x : Path) (k : Kind). file_paths found ++ path_of_file x k) (sym path) (sym kind)
-            ∙ sym (paths_more found other);
-        tree = ap₂ (λ (x : Path) (k : Kind). entries_of found contents
-            ++ (
-              x,
-              record {
-                node = found_node k (contents_here k (left_of found contents));
-                attributes = found_attributes other;
-              },
-            ) ∷ [])
-            (sym path) (sym kind) ∙ sym (entries_more found other contents);
-      };
     }
 
 -- how many entries there are

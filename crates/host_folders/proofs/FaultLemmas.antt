@@ -1,10 +1,9 @@
 -- Why a stream of a folder ends before its dump does.
-use Rattle.std.proofs.Common.{◌≡◌, ℕ, zero, suc, ◌+◌, Bool, true, false, List, [], ◌∷◌, ◌++◌, length, take, codes}
-use Rattle.std.proofs.Common.{Option, Some, Result, Ok, Err, refl, sym, ap, subst, ◌∙◌, arith}
+use Rattle.std.proofs.Common.{◌≡◌, ℕ, zero, suc, ◌+◌, false, List, [], ◌∷◌, ◌++◌, length, take}
+use Rattle.std.proofs.Common.{Some, Result, Ok, Err, sym, ap, subst, ◌∙◌, arith}
 use Rattle.std.specs.Prelude.{IfErr, IsErrAnd}
-use Rattle.std.specs.Fmt.{decimal}
 use Rattle.std.specs.List.{Contains, slice_get}
-use Rattle.std.proofs.lemmas.List.Elements.{Contains-append_right}
+use Rattle.std.proofs.lemmas.Option.{slice_get_within, get_or_from_slice_get}
 use Rattle.dump_streams.specs.Dumps.{DumpStep}
 use Rattle.store_model.specs.Trees.{Tree}
 use Rattle.dump_streams.specs.Reading.{AddsStep}
@@ -12,8 +11,7 @@ use Rattle.dump_streams.specs.declared.reader.ListingReader.{ListingReader}
 use Rattle.dump_streams.specs.declared.fault.StreamFault.{StreamFault}
 use Rattle.dump_streams.specs.declared.fault.StreamFault.TheVariants as faults
 use Rattle.host_folders.specs.FolderState.{FolderState}
-use Rattle.host_folders.specs.FoundEntries.{found_attributes, mode_attributes, mtime_attributes}
-use Rattle.host_folders.specs.Packed.{CameOf, AreCome, IsFile, AsksFor, AsksTooMuch, EndsBy, found_at}
+use Rattle.host_folders.specs.Packed.{CameOf, IsSoFar, IsFile, AsksFor, AsksTooMuch, EndsBy, found_at}
 use Rattle.host_folders.specs.declared.found.Found.{Found}
 use Rattle.host_folders.specs.declared.stream.FolderStream.{FolderStream}
 use Rattle.host_folders.specs.declared.stream.Place.{Place}
@@ -33,20 +31,9 @@ here_is [] (suc n) x e = let counts : 0 ≡ 1 = ap length e in absurd (omega (ar
 here_is (y ∷ ys) zero x e = let head : y ≡ x = cc in ap Some head
 here_is (y ∷ ys) (suc n) x e = let tail : take (suc n) ys ≡ take n ys ++ x ∷ [] = cc in here_is ys n x tail
 
--- the attributes of what was found
-pub mode_asked : (found : Found) → found.is_executable ≡ true
-    → Contains (found_attributes found) (codes "mode", 0x78 ∷ [])
-mode_asked found executable =
-    subst (λ b. Contains (mode_attributes b ++ mtime_attributes found.seconds) (codes "mode", 0x78 ∷ []))
-    (sym executable) (0, omega arith, refl)
-
-pub mtime_asked : (found : Found) (seconds : ℕ) → found.seconds ≡ Some seconds
-    → Contains (found_attributes found) (codes "mtime", decimal seconds)
-mtime_asked found seconds some =
-    Contains-append_right (mode_attributes found.is_executable) (mtime_attributes found.seconds)
-    (codes "mtime", decimal seconds)
-    (subst (λ (s : Option ℕ). Contains (mtime_attributes s) (codes "mtime", decimal seconds)) (sym some)
-    (0, omega arith, refl))
+-- what stands at an index stands in the list
+pub stands_in : {X : Type 0} (xs : List X) (n : ℕ) (x : X) → slice_get xs n ≡ Some x → Contains xs x
+stands_in xs n x here = (n, slice_get_within xs n x here, get_or_from_slice_get xs n x x here)
 
 module _ {F : Type 0} (state_of : F → FolderState) where
   -- the entry that is begun
@@ -62,7 +49,7 @@ module _ {F : Type 0} (state_of : F → FolderState) where
   pub read_kind : (old : FolderStream F) (found : Found) (at : ℕ) (t : Tree) → old.place ≡ places.Piece found at
       → CameOf state_of old t → IsFile found.kind
   read_kind old found at t place was =
-      (subst (λ (p : Place). AreCome p (take old.at old.found.items) was.came) place was.come).2
+      (subst (λ (p : Place). IsSoFar p (take old.at old.found.items) was.whole t) place was.so_far).2
 
   -- the reader refused the step
   pub asks_too_much : (old new : FolderStream F) (t : Tree) (found : Found) (c : DumpStep) (reader : ListingReader)

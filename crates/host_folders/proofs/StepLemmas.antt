@@ -1,10 +1,11 @@
 -- What a step adds to what came.
-use Rattle.std.proofs.Common.{◌≡◌, ℕ, ◌+◌, ◌-◌, ◌^◌, ◌<◌, ◌≤◌, min, Bool, true, false, nat_lt, if◌then◌else◌, IsTrue}
-use Rattle.std.proofs.Common.{List, [], ◌∷◌, ◌++◌, length, map, take, vec_len, codes, Option, Some, Result, Ok, ◌⊎◌}
+use Rattle.std.proofs.Common.{◌≡◌, ℕ, zero, suc, ◌+◌, ◌-◌, ◌^◌, ◌<◌, ◌≤◌, min, Bool, true, false, nat_lt, if◌then◌else◌, IsTrue}
+use Rattle.std.proofs.Common.{List, [], ◌∷◌, ◌++◌, length, map, take, vec_len, Some, None, Result, Ok, ◌⊎◌}
 use Rattle.std.proofs.Common.{inl, inr, refl, sym, ap, ap₂, subst, ◌∙◌, arith}
-use Rattle.std.specs.Fmt.{decimal}
+use Rattle.std.specs.List.{slice_get}
 use Rattle.std.proofs.lemmas.List.{append-nil, append_assoc, length-append, length-take-le, map-append, same_from_push}
-use Rattle.std.proofs.lemmas.List.{take_all}
+use Rattle.std.proofs.lemmas.List.{take_all, take_more}
+use Rattle.std.proofs.lemmas.Option.{slice_get_within, get_or_from_slice_get}
 use Rattle.store_model.specs.declared.version.Version.TheVariants.{Two}
 use Rattle.store_model.specs.declared.draw_kind.DrawKind.TheVariants as draws
 use Rattle.dump_streams.specs.Dumps.{DumpStep}
@@ -23,17 +24,15 @@ use Rattle.dump_streams.proofs.NextTrees.{IsNext, IsFirstWrite, IsLaterWrite, Is
 use Rattle.dump_streams.proofs.NextTrees.{tree_of_first, later_leads, name_leads}
 use Rattle.dump_streams.specs.Streams.{Extends, IsNext as IsNextOf}
 use Rattle.dump_streams.specs.declared.fault.StreamFault.{StreamFault}
-use Rattle.host_folders.specs.FoundEntries.{found_attributes, mode_attributes, mtime_attributes, entries_of, file_paths}
+use Rattle.host_folders.specs.FoundEntries.{found_attributes, entries_of, file_paths}
 use Rattle.host_folders.specs.FolderState.{FolderState, IsObservable, ReadsFile, IsOpened, OpensFile, whole_files}
-use Rattle.host_folders.specs.Packed.{HasFiles, ReadsFiles, IsPacked, bare_found, timeless_found, CameLast, AreCome}
-use Rattle.host_folders.specs.Packed.{AreAnswers, CameOf}
+use Rattle.host_folders.specs.Packed.{HasFiles, ReadsFiles, IsPacked, IsCut, IsSoFar, AreAnswers, CameOf}
 use Rattle.host_folders.specs.Steps.{Gives, IsPiece, place_behind}
 use Rattle.host_folders.specs.declared.found.Found.{Found}
 use Rattle.host_folders.specs.declared.stream.FolderStream.{FolderStream}
 use Rattle.host_folders.specs.declared.stream.Place.{Place}
 use Rattle.host_folders.specs.declared.stream.Place.TheVariants as places
-use Rattle.host_folders.proofs.EntryLemmas.{folder_more, file_more, EndsWithFile, ends_with_file, ends_with}
-use Rattle.host_folders.proofs.EntryLemmas.{entries_length}
+use Rattle.host_folders.proofs.EntryLemmas.{folder_more, file_more, EndsWithFile, ends_with_file, entries_length}
 
 -- some parameters of version 2
 some_parameters : Parameters
@@ -49,17 +48,30 @@ pub record IsTakenBy (reader : ListingReader) (t : Tree) (c : DumpStep) : Type 0
   pub next : IsNext t parameters c
 
 -- as many entries came as were begun
-last_count : (begun came : List Found) (last so_far : Found) → CameLast begun last so_far came
-    → length came ≡ length begun
-last_count begun came last so_far come =
-    ap length come.2
-    ∙ omega (arith, length-append come.0 (so_far ∷ []), length-append come.0 (last ∷ []), ap length come.1)
+cut_count : (begun : List Found) (last : Found) (count : ℕ) (whole t : Tree) → IsCut begun last count whole t
+    → length t ≡ length whole
+cut_count begun last count whole t cut =
+    let part : Path × Entry = (last.path, named_entry cut.node (take count (found_attributes last))) in
+    let all : Path × Entry = (last.path, named_entry cut.node (found_attributes last)) in
+    ap length cut.so_far
+    ∙ omega (arith, length-append cut.front (part ∷ []), length-append cut.front (all ∷ []), ap length cut.whole_is)
 
-come_count : (place : Place) (begun came : List Found) → AreCome place begun came → length came ≡ length begun
-come_count places.Start begun came come = ap length come
-come_count (places.Piece found at) begun came come = last_count begun came found (bare_found found) come.0
-come_count (places.Mode found) begun came come = last_count begun came found (bare_found found) come
-come_count (places.Mtime found) begun came come = last_count begun came found (timeless_found found) come
+so_far_count : (place : Place) (begun : List Found) (whole t : Tree) → IsSoFar place begun whole t
+    → length t ≡ length whole
+so_far_count places.Start begun whole t came = ap length came
+so_far_count (places.Piece found at) begun whole t came = cut_count begun found 0 whole t came.0
+so_far_count (places.Attribute found index) begun whole t came = cut_count begun found index whole t came
+
+-- the first of a list, one more and all
+one_more : {X : Type 0} (xs : List X) (n : ℕ) (x : X) → slice_get xs n ≡ Some x → take (n + 1) xs ≡ take n xs ++ x ∷ []
+one_more xs n x here = take_more xs n x (slice_get_within xs n x here)
+    ∙ ap (λ y. take n xs ++ y ∷ []) (get_or_from_slice_get xs n x x here)
+
+no_more : {X : Type 0} (xs : List X) (n : ℕ) → slice_get xs n ≡ None → take n xs ≡ xs
+no_more [] zero none = refl
+no_more [] (suc n) none = refl
+no_more (x ∷ xs) zero none = cc
+no_more (x ∷ xs) (suc n) none = ap (λ ys. x ∷ ys) (no_more xs n none)
 
 -- whole files, one more
 whole_more : (files : List (Path × List ℕ)) (path : Path) (bytes : List ℕ)
@@ -68,14 +80,14 @@ whole_more files path bytes = map-append (λ (file : Path × List ℕ). (file.0,
 
 -- behind a piece of a file
 place_of : Bool → Found → ℕ → Place
-place_of whole found end = if whole then places.Mode found else places.Piece found end
+place_of whole found end = if whole then places.Attribute found 0 else places.Piece found end
 
-come_behind : (whole : Bool) (begun came : List Found) (found : Found) (end : ℕ)
-    → CameLast begun found (bare_found found) came → 0 < end → (len : ℕ) × (found.kind ≡ kinds.File len)
-    → AreCome (place_of whole found end) begun came
+cut_behind : (is_whole : Bool) (begun : List Found) (found : Found) (end : ℕ) (whole t : Tree)
+    → IsCut begun found 0 whole t → 0 < end → (len : ℕ) × (found.kind ≡ kinds.File len)
+    → IsSoFar (place_of is_whole found end) begun whole t
 unfolding place_of
-come_behind true begun came found end come some kind = come
-come_behind false begun came found end come some kind = (come, some, kind)
+cut_behind true begun found end whole t cut some kind = cut
+cut_behind false begun found end whole t cut some kind = (cut, some, kind)
 
 answers_behind : (whole : Bool) (found : Found) (end : ℕ) (before : List (Path × List ℕ)) (path : Path) (bytes : List ℕ)
     → AreAnswers (place_of whole found end) (before ++ (path, bytes) ∷ [])
@@ -205,11 +217,10 @@ module _ {F : Type 0} (state_of : F → FolderState) where
     version = version;
     observable = ap (λ (folder : F). (state_of folder).is_observable) same;
     within = omega (arith, at);
-    came = [];
-    come = subst (λ (p : Place). AreCome p (take stream.at stream.found.items) []) (sym place)
-        (sym (ap (λ n. take n stream.found.items) at));
     files = [];
-    entries = record { paths = refl; tree = refl };
+    whole = [];
+    entries = subst (λ n. HasFiles (take n stream.found.items) [] []) (sym at) (record { paths = refl; tree = refl });
+    so_far = subst (λ (p : Place). IsSoFar p (take stream.at stream.found.items) [] []) (sym place) refl;
     told = λ observable. record {
       answers = [];
       reads = record {
@@ -220,19 +231,25 @@ module _ {F : Type 0} (state_of : F → FolderState) where
     };
   }
 
+  -- the entries that came where none is under way
+  at_start : (stream : FolderStream F) (t : Tree) → stream.place ≡ places.Start → (was : CameOf state_of stream t)
+      → HasFiles (take stream.at stream.found.items) was.files t
+  at_start stream t place was =
+      let begun = take stream.at stream.found.items in
+      let all : t ≡ was.whole = subst (λ (p : Place). IsSoFar p begun was.whole t) place was.so_far in
+      subst (λ (u : Tree). HasFiles begun was.files u) (sym all) was.entries
+
   -- all came
   pub came_whole : (stream : FolderStream F) (t : Tree) → stream.place ≡ places.Start → vec_len stream.found ≤ stream.at
       → CameOf state_of stream t → IsPacked state_of stream t
   unfolding some_parameters
   came_whole stream t place all was =
-      let come : AreCome places.Start (take stream.at stream.found.items) was.came =
-      subst (λ (p : Place). AreCome p (take stream.at stream.found.items) was.came) place was.come in
-      let found : was.came ≡ stream.found.items =
-      come ∙ take_all stream.at stream.found.items (omega (arith, stream.found.ok.0)) in
+      let found : take stream.at stream.found.items ≡ stream.found.items =
+      take_all stream.at stream.found.items (omega (arith, stream.found.ok.0)) in
       record {
         is_tree = ((was.read some_parameters refl).under).is_tree;
         files = was.files;
-        entries = subst (λ (fs : List Found). HasFiles fs was.files t) found was.entries;
+        entries = subst (λ (fs : List Found). HasFiles fs was.files t) found (at_start stream t place was);
         told = λ observable.
             let tells = was.told observable in
             let are : AreAnswers places.Start was.files tells.answers =
@@ -247,13 +264,13 @@ module _ {F : Type 0} (state_of : F → FolderState) where
   -- as many entries came as were begun
   pub came_length : (stream : FolderStream F) (t : Tree) → CameOf state_of stream t → stream.at ≡ length t
   came_length stream t was =
-      let all = ap length (was.entries).tree
-      ∙ entries_length was.came (map (λ (file : Path × List ℕ). file.1) was.files) in
-      let begun = come_count stream.place (take stream.at stream.found.items) was.came was.come in
+      let begun = take stream.at stream.found.items in
+      let came = so_far_count stream.place begun was.whole t was.so_far in
+      let all = ap length (was.entries).tree ∙ entries_length begun (map (λ (file : Path × List ℕ). file.1) was.files) in
       let within = was.within in
       let ok = stream.found.ok.0 in
       let taken = length-take-le stream.at stream.found.items (omega (arith, within, ok)) in
-      omega (arith, all, begun, taken)
+      omega (arith, came, all, taken)
 
   -- what is taken where an entry is begun
   pub record IsBegun (old : FolderStream F) (found : Found) : Type 0 where
@@ -261,37 +278,36 @@ module _ {F : Type 0} (state_of : F → FolderState) where
     pub more : old.at < vec_len old.found
     pub here : take (old.at + 1) old.found.items ≡ take old.at old.found.items ++ found ∷ []
 
-  -- what came where none is begun
-  at_start : (old : FolderStream F) (t : Tree) → old.place ≡ places.Start → (was : CameOf state_of old t)
-      → was.came ≡ take old.at old.found.items
-  at_start old t place was = subst (λ (p : Place). AreCome p (take old.at old.found.items) was.came) place was.come
-
-  begun_last : (old : FolderStream F) (found : Found) (t : Tree) → IsBegun old found → (was : CameOf state_of old t)
-      → CameLast (take (old.at + 1) old.found.items) found (bare_found found) (was.came ++ bare_found found ∷ [])
-  begun_last old found t begins was =
-      (was.came, begins.here ∙ ap (λ (fs : List Found). fs ++ found ∷ []) (sym (at_start old t begins.start was)), refl)
-
   -- a folder is made
   pub gives_folder : {E : Type 0} (old : FolderStream F) (found : Found) (reader : ListingReader) → IsBegun old found
       → found.kind ≡ kinds.Directory → AddsStep old.reader reader (Make found.path) true
       → Gives {E = E} (CameOf state_of old)
-      (CameOf state_of (record old { at = old.at + 1; place = places.Mode found; reader = reader }))
+      (CameOf state_of (record old { at = old.at + 1; place = places.Attribute found 0; reader = reader }))
       (Make found.path) (Ok tt)
   gives_folder old found reader begins kind adds = record {
     came = λ t was.
         let taken = taken_by old reader t (Make found.path) was adds in
+        let begun = take old.at old.found.items in
         let leads : after_step t (Make found.path) ≡ t ++ (found.path, named_entry Directory []) ∷ [] =
         tree_of_make t found.path taken.next in
+        let all = t ++ (found.path, named_entry Directory (found_attributes found)) ∷ [] in
         record {
           read = taken.read;
           version = taken.version;
           observable = was.observable;
           within = let more = begins.more in omega (arith, more);
-          came = was.came ++ bare_found found ∷ [];
-          come = begun_last old found t begins was;
           files = was.files;
-          entries = subst (λ (u : Tree). HasFiles (was.came ++ bare_found found ∷ []) was.files u) (sym leads)
-              (folder_more was.came was.files t (bare_found found) was.entries kind);
+          whole = all;
+          entries = subst (λ (fs : List Found). HasFiles fs was.files all) (sym begins.here)
+              (folder_more begun was.files t found (at_start old t begins.start was) kind);
+          so_far = record {
+            before = begun;
+            begun_is = begins.here;
+            front = t;
+            node = Directory;
+            whole_is = refl;
+            so_far = leads;
+          };
           told = λ observable.
               let tells = was.told observable in
               record {
@@ -337,19 +353,28 @@ module _ {F : Type 0} (state_of : F → FolderState) where
         subst (λ (d : DumpStep). IsNext t taken.parameters d) piece.step_is taken.next in
         let leads : after_step t c ≡ t ++ (found.path, named_entry (File bytes) []) ∷ [] =
         ap (after_step t) piece.step_is ∙ first_tree t found.path bytes next in
+        let begun = take old.at old.found.items in
+        let all = t ++ (found.path, named_entry (File bytes) (found_attributes found)) ∷ [] in
         let whole = nat_lt count dump_piece in
         record {
           read = taken.read;
           version = taken.version;
           observable = same ∙ opens.observable ∙ was.observable;
           within = let more = begins.more in omega (arith, more);
-          came = was.came ++ bare_found found ∷ [];
-          come = come_behind whole (take (old.at + 1) old.found.items) (was.came ++ bare_found found ∷ []) found
-              (min (0 + dump_piece) (2 ^ 32 - 1)) (begun_last old found t begins was) (omega arith) (len, kind);
           files = was.files ++ (found.path, bytes) ∷ [];
-          entries = subst (λ (u : Tree). HasFiles (was.came ++ bare_found found ∷ [])
-              (was.files ++ (found.path, bytes) ∷ []) u) (sym leads)
-              (file_more was.came was.files t (bare_found found) len bytes was.entries kind);
+          whole = all;
+          entries = subst (λ (fs : List Found). HasFiles fs (was.files ++ (found.path, bytes) ∷ []) all)
+              (sym begins.here)
+              (file_more begun was.files t found len bytes (at_start old t begins.start was) kind);
+          so_far = cut_behind whole (take (old.at + 1) old.found.items) found (min (0 + dump_piece) (2 ^ 32 - 1)) all
+              (after_step t c) (record {
+                before = begun;
+                begun_is = begins.here;
+                front = t;
+                node = File bytes;
+                whole_is = refl;
+                so_far = leads;
+              }) (omega arith) (len, kind);
           told = λ observable.
               let tells = was.told observable in
               let here : IsObservable (state_of old.folder) = subst IsTrue (sym was.observable) observable in
@@ -373,36 +398,39 @@ module _ {F : Type 0} (state_of : F → FolderState) where
   -- ---- behind the beginning of an entry
 
   -- what came of a file that still is read
-  pub record IsInFile (stream : FolderStream F) (t : Tree) (found : Found) (came : List Found)
-      (files : List (Path × List ℕ)) : Type 0 where
-    pub others : List Found
-    pub begun_is : take stream.at stream.found.items ≡ others ++ found ∷ []
-    pub came_is : came ≡ others ++ bare_found found ∷ []
+  pub record IsInFile (stream : FolderStream F) (t : Tree) (found : Found) (files : List (Path × List ℕ))
+      (whole : Tree) : Type 0 where
+    pub cut : IsCut (take stream.at stream.found.items) found 0 whole t
     pub len : ℕ
     pub kind_is : found.kind ≡ kinds.File len
-    pub ends : EndsWithFile others files t (bare_found found)
+    pub ends : EndsWithFile cut.before files whole found
+    pub so_far : t ≡ ends.front ++ (found.path, named_entry (File ends.bytes) []) ∷ []
     pub told : IsObservable (state_of stream.first.value)
         → (answers : List (Path × List ℕ × Bool)) × (is_ended : Bool)
         × (answers ≡ whole_files ends.before ++ (found.path, ends.bytes, is_ended) ∷ [])
         × ReadsFiles (state_of stream.first.value) (state_of stream.folder) answers
 
   in_file : (stream : FolderStream F) (t : Tree) (found : Found) (at : ℕ) → stream.place ≡ places.Piece found at
-      → (was : CameOf state_of stream t) → IsInFile stream t found was.came was.files
+      → (was : CameOf state_of stream t) → IsInFile stream t found was.files was.whole
   in_file stream t found at place was =
-      let come : AreCome (places.Piece found at) (take stream.at stream.found.items) was.came =
-      subst (λ (p : Place). AreCome p (take stream.at stream.found.items) was.came) place was.come in
-      let others = come.0.0 in
-      let kind = come.2.1 in
-      let ends = ends_with_file others was.files t
-      (bare_found found) come.2.0 (subst (λ (fs : List Found). HasFiles fs was.files t) come.0.2 was.entries) kind
-      in
+      let begun = take stream.at stream.found.items in
+      let came : IsSoFar (places.Piece found at) begun was.whole t =
+      subst (λ (p : Place). IsSoFar p begun was.whole t) place was.so_far in
+      let cut = came.0 in
+      let kind = came.2 in
+      let ends = ends_with_file cut.before was.files was.whole found kind.0
+      (subst (λ (fs : List Found). HasFiles fs was.files was.whole) cut.begun_is was.entries) kind.1 in
+      let last = same_from_push cut.front ends.front
+      (found.path, named_entry cut.node (found_attributes found))
+      (found.path, named_entry (File ends.bytes) (found_attributes found)) (sym cut.whole_is ∙ ends.tree) in
       record {
-        others = others;
-        begun_is = come.0.1;
-        came_is = come.0.2;
-        len = come.2.0;
-        kind_is = kind;
+        cut = cut;
+        len = kind.0;
+        kind_is = kind.1;
         ends = ends;
+        so_far = cut.so_far
+            ∙ ap₂ (λ (front : Tree) (e : Path × Entry). front ++ (found.path, named_entry (e.1.node) []) ∷ [])
+            last.0 last.1;
         told = λ observable.
             let tells = was.told observable in
             let are : AreAnswers (places.Piece found at) was.files tells.answers =
@@ -422,7 +450,7 @@ module _ {F : Type 0} (state_of : F → FolderState) where
   pub passes_file : (old : FolderStream F) (t : Tree) (found : Found) (at : ℕ) (now : F) (c : DumpStep) (count : ℕ)
       → old.place ≡ places.Piece found at → (state_of now).is_observable ≡ (state_of old.folder).is_observable
       → IsPiece (state_of old.folder) (state_of now) found.path at c count → count ≡ 0 → CameOf state_of old t
-      → CameOf state_of (record old { folder = now; place = places.Mode found }) t
+      → CameOf state_of (record old { folder = now; place = places.Attribute found 0 }) t
   passes_file old t found at now c count place same piece none was =
       let inside = in_file old t found at place was in
       let ends = inside.ends in
@@ -433,10 +461,10 @@ module _ {F : Type 0} (state_of : F → FolderState) where
         version = was.version;
         observable = same ∙ was.observable;
         within = was.within;
-        came = was.came;
-        come = (inside.others, inside.begun_is, inside.came_is);
         files = was.files;
+        whole = was.whole;
         entries = was.entries;
+        so_far = inside.cut;
         told = λ observable.
             let told = inside.told observable in
             let here : IsObservable (state_of old.folder) = subst IsTrue (sym was.observable) observable in
@@ -474,27 +502,33 @@ module _ {F : Type 0} (state_of : F → FolderState) where
         let bytes = piece.bytes in
         let whole = nat_lt count dump_piece in
         let further : 0 < at =
-        (subst (λ (p : Place). AreCome p (take old.at old.found.items) was.came) place was.come).1 in
+        (subst (λ (p : Place). IsSoFar p (take old.at old.found.items) was.whole t) place was.so_far).1 in
         let next : IsFirstWrite t found.path at bytes ⊎ IsLaterWrite t found.path at bytes =
         subst (λ (d : DumpStep). IsNext t taken.parameters d) piece.step_is taken.next in
         let leads : after_step t c ≡ ends.front ++ (found.path, named_entry (File (ends.bytes ++ bytes)) []) ∷ [] =
         ap (after_step t) piece.step_is ∙ later_tree t ends.front found.path found.path at ends.bytes bytes
-        taken.is_tree further next ends.tree in
+        taken.is_tree further next inside.so_far in
+        let all = ends.front ++ (found.path, named_entry (File (ends.bytes ++ bytes)) (found_attributes found)) ∷ [] in
         record {
           read = taken.read;
           version = taken.version;
           observable = same ∙ was.observable;
           within = was.within;
-          came = was.came;
-          come = come_behind whole (take old.at old.found.items) was.came found (min (at + dump_piece) (2 ^ 32 - 1))
-              (inside.others, inside.begun_is, inside.came_is) (omega arith) (inside.len, inside.kind_is);
           files = ends.before ++ (found.path, ends.bytes ++ bytes) ∷ [];
-          entries = subst (λ (u : Tree). HasFiles was.came (ends.before ++ (found.path, ends.bytes ++ bytes) ∷ []) u)
-              (sym leads)
-              (subst (λ (fs : List Found). HasFiles fs (ends.before ++ (found.path, ends.bytes ++ bytes) ∷ [])
-              (ends.front ++ (found.path, named_entry (File (ends.bytes ++ bytes)) []) ∷ [])) (sym inside.came_is)
-              (file_more inside.others ends.before ends.front (bare_found found) inside.len (ends.bytes ++ bytes)
-              ends.has inside.kind_is));
+          whole = all;
+          entries = subst (λ (fs : List Found). HasFiles fs (ends.before ++ (found.path, ends.bytes ++ bytes) ∷ []) all)
+              (sym (inside.cut).begun_is)
+              (file_more (inside.cut).before ends.before ends.front found inside.len (ends.bytes ++ bytes)
+              ends.has inside.kind_is);
+          so_far = cut_behind whole (take old.at old.found.items) found (min (at + dump_piece) (2 ^ 32 - 1)) all
+              (after_step t c) (record {
+                before = (inside.cut).before;
+                begun_is = (inside.cut).begun_is;
+                front = ends.front;
+                node = File (ends.bytes ++ bytes);
+                whole_is = refl;
+                so_far = leads;
+              }) (omega arith) (inside.len, inside.kind_is);
           told = λ observable.
               let told = inside.told observable in
               let here : IsObservable (state_of old.folder) = subst IsTrue (sym was.observable) observable in
@@ -513,79 +547,74 @@ module _ {F : Type 0} (state_of : F → FolderState) where
 
   -- ---- attributes
 
-  -- an attribute of the last entry is given
-  gives_name : {E : Type 0} (old : FolderStream F) (found so_far more : Found) (behind : Place) (name : Name)
-      (bytes : List ℕ) (reader : ListingReader) → so_far.path ≡ found.path → more.path ≡ so_far.path
-      → more.kind ≡ so_far.kind
-      → found_attributes more ≡ found_attributes so_far ++ (name, bytes) ∷ []
-      → ((came : List Found) → AreCome old.place (take old.at old.found.items) came
-      → CameLast (take old.at old.found.items) found so_far came)
-      → ((came : List Found) → CameLast (take old.at old.found.items) found more came
-      → AreCome behind (take old.at old.found.items) came)
-      → ((files : List (Path × List ℕ)) (answers : List (Path × List ℕ × Bool)) → AreAnswers old.place files answers
-      → AreAnswers behind files answers)
+  -- the attribute at an index is given
+  pub gives_attribute : {E : Type 0} (old : FolderStream F) (found : Found) (index : ℕ) (name : Name) (bytes : List ℕ)
+      (reader : ListingReader) → old.place ≡ places.Attribute found index
+      → slice_get (found_attributes found) index ≡ Some (name, bytes)
       → AddsStep old.reader reader (Set found.path name bytes) true
-      → Gives {E = E} (CameOf state_of old) (CameOf state_of (record old { place = behind; reader = reader }))
-      (Set found.path name bytes) (Ok tt)
-  gives_name old found so_far more behind name bytes reader path same_path same_kind attributes before after
-      answers adds = record {
-        came = λ t was.
-            let taken = taken_by old reader t (Set found.path name bytes) was adds in
-            let come = before was.came was.come in
-            let ends = ends_with come.0 was.files t so_far
-            (subst (λ (fs : List Found). HasFiles fs was.files t) come.2 was.entries) in
-            let leads : after_step t (Set found.path name bytes)
-            ≡ ends.front ++ (so_far.path, named_entry ends.node (found_attributes more)) ∷ [] =
-            name_tree t ends.front taken.parameters found.path so_far.path name bytes
-            ends.node (found_attributes so_far)
-            taken.is_tree taken.next ends.tree
-            ∙ ap (λ (a : Attributes). ends.front ++ (so_far.path, named_entry ends.node a) ∷ []) (sym attributes) in
-            record {
-              read = taken.read;
-              version = taken.version;
-              observable = was.observable;
-              within = was.within;
-              came = come.0 ++ more ∷ [];
-              come = after (come.0 ++ more ∷ []) (come.0, come.1, refl);
-              files = was.files;
-              entries = subst (λ (u : Tree). HasFiles (come.0 ++ more ∷ []) was.files u) (sym leads)
-                  (ends.again more same_path same_kind);
-              told = λ observable.
-                  let tells = was.told observable in
-                  record {
-                    answers = tells.answers;
-                    reads = tells.reads;
-                    are = answers was.files tells.answers tells.are;
-                  };
-            };
-        extends = λ t was. (taken_by old reader t (Set found.path name bytes) was adds).extends;
-      }
-
-  -- that an entry may be executed
-  pub gives_mode : {E : Type 0} (old : FolderStream F) (found : Found) (reader : ListingReader)
-      → old.place ≡ places.Mode found → found.is_executable ≡ true
-      → AddsStep old.reader reader (Set found.path (codes "mode") (0x78 ∷ [])) true
       → Gives {E = E} (CameOf state_of old)
-      (CameOf state_of (record old { place = places.Mtime found; reader = reader }))
-      (Set found.path (codes "mode") (0x78 ∷ [])) (Ok tt)
-  gives_mode old found reader place executable adds =
-      gives_name old found (bare_found found) (timeless_found found) (places.Mtime found) (codes "mode")
-      (0x78 ∷ []) reader refl refl refl (ap (λ b. mode_attributes b ++ []) executable)
-      (λ came come. subst (λ (p : Place). AreCome p (take old.at old.found.items) came) place come) (λ came come. come)
-      (λ files answers are. subst (λ (p : Place). AreAnswers p files answers) place are) adds
+      (CameOf state_of (record old { place = places.Attribute found (index + 1); reader = reader }))
+      (Set found.path name bytes) (Ok tt)
+  gives_attribute old found index name bytes reader place here adds = record {
+    came = λ t was.
+        let taken = taken_by old reader t (Set found.path name bytes) was adds in
+        let attributes : Attributes = found_attributes found in
+        let cut : IsCut (take old.at old.found.items) found index was.whole t =
+        subst (λ (p : Place). IsSoFar p (take old.at old.found.items) was.whole t) place was.so_far in
+        record {
+          read = taken.read;
+          version = taken.version;
+          observable = was.observable;
+          within = was.within;
+          files = was.files;
+          whole = was.whole;
+          entries = was.entries;
+          so_far = record {
+            before = cut.before;
+            begun_is = cut.begun_is;
+            front = cut.front;
+            node = cut.node;
+            whole_is = cut.whole_is;
+            so_far = name_tree t cut.front taken.parameters found.path found.path name bytes cut.node
+                (take index attributes) taken.is_tree taken.next cut.so_far
+                ∙ ap (λ (a : Attributes). cut.front ++ (found.path, named_entry cut.node a) ∷ [])
+                (sym (one_more attributes index (name, bytes) here));
+          };
+          told = λ observable.
+              let tells = was.told observable in
+              record {
+                answers = tells.answers;
+                reads = tells.reads;
+                are = subst (λ (p : Place). AreAnswers p was.files tells.answers) place tells.are;
+              };
+        };
+    extends = λ t was. (taken_by old reader t (Set found.path name bytes) was adds).extends;
+  }
 
-  -- when it was changed
-  pub gives_mtime : {E : Type 0} (old : FolderStream F) (found : Found) (seconds : ℕ) (reader : ListingReader)
-      → old.place ≡ places.Mtime found → found.seconds ≡ Some seconds
-      → AddsStep old.reader reader (Set found.path (codes "mtime") (decimal seconds)) true
-      → Gives {E = E} (CameOf state_of old) (CameOf state_of (record old { place = places.Start; reader = reader }))
-      (Set found.path (codes "mtime") (decimal seconds)) (Ok tt)
-  gives_mtime old found seconds reader place some adds =
-      gives_name old found (timeless_found found) found places.Start (codes "mtime")
-      (decimal seconds) reader refl refl refl
-      (ap (λ (s : Option ℕ). mode_attributes found.is_executable ++ mtime_attributes s) some
-      ∙ ap (λ (a : Attributes). a ++ mtime_attributes (Some seconds))
-      (sym (append-nil (mode_attributes found.is_executable))))
-      (λ came come. subst (λ (p : Place). AreCome p (take old.at old.found.items) came) place come)
-      (λ came come. come.2 ∙ sym come.1)
-      (λ files answers are. subst (λ (p : Place). AreAnswers p files answers) place are) adds
+  -- an entry with all of its attributes is whole
+  pub passes_entry : (old : FolderStream F) (t : Tree) (found : Found) (index : ℕ)
+      → old.place ≡ places.Attribute found index → slice_get (found_attributes found) index ≡ None
+      → CameOf state_of old t → CameOf state_of (record old { place = places.Start }) t
+  passes_entry old t found index place none was =
+      let cut : IsCut (take old.at old.found.items) found index was.whole t =
+      subst (λ (p : Place). IsSoFar p (take old.at old.found.items) was.whole t) place was.so_far in
+      record {
+        read = was.read;
+        version = was.version;
+        observable = was.observable;
+        within = was.within;
+        files = was.files;
+        whole = was.whole;
+        entries = was.entries;
+        so_far = cut.so_far
+            ∙ ap (λ (a : Attributes). cut.front ++ (found.path, named_entry cut.node a) ∷ [])
+            (no_more (found_attributes found) index none)
+            ∙ sym cut.whole_is;
+        told = λ observable.
+            let tells = was.told observable in
+            record {
+              answers = tells.answers;
+              reads = tells.reads;
+              are = subst (λ (p : Place). AreAnswers p was.files tells.answers) place tells.are;
+            };
+      }

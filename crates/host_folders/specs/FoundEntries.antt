@@ -1,26 +1,23 @@
 -- What was found in a folder, as the entries of a tree.
-use Rattle.std.specs.Prelude.{ℕ, List, [], ◌∷◌, ◌++◌, Bool, Option, Some, None, if◌then◌else◌, codes}
+use Rattle.std.specs.Prelude.{ℕ, List, [], ◌∷◌, Option, codes}
 use Rattle.std.specs.List.{flat_map}
-use Rattle.std.specs.Fmt.{decimal}
-use Rattle.store_model.specs.Paths.{Path}
+use Rattle.store_model.specs.Paths.{Name, Path}
 use Rattle.store_model.specs.Trees.{Tree, Node, Entry, Attributes}
 use Rattle.store_model.specs.Trees.Node.{Directory, File}
 use Rattle.tree_pairs.specs.declared.kind.Kind.{Kind}
 use Rattle.tree_pairs.specs.declared.kind.Kind.TheVariants as kinds
+use Rattle.host_folders.specs.Facts.{marked, numbered, somes}
 use Rattle.host_folders.specs.declared.found.Found.{Found}
 
--- the attribute that says that a file may be executed: its one byte is `x`
-abbrev pub mode_attributes : Bool → Attributes
-mode_attributes is_executable = if is_executable then (codes "mode", 0x78 ∷ []) ∷ [] else []
+-- what attributes are to say of what was found, in the order of their names: the fields of `Found` say what each is
+abbrev pub facts_of : Found → List (Option (Name × List ℕ))
+facts_of found = marked (codes "mode") found.is_executable
+    ∷ numbered (codes "mtime") found.seconds
+    ∷ []
 
--- the attribute that says when it was changed: the seconds since 1970 in decimal digits
-abbrev pub mtime_attributes : Option ℕ → Attributes
-mtime_attributes None = []
-mtime_attributes (Some seconds) = (codes "mtime", decimal seconds) ∷ []
-
--- the attributes of what was found, in the order of names
+-- the attributes of what was found
 abbrev pub found_attributes : Found → Attributes
-found_attributes found = mode_attributes found.is_executable ++ mtime_attributes found.seconds
+found_attributes found = somes (facts_of found)
 
 -- a file is told by its bytes, which come in the order in which the files were found
 abbrev pub found_node : Kind → List ℕ → Node

@@ -1,3 +1,4 @@
+pub mod Facts
 pub mod FoundEntries
 pub mod FolderState
 pub mod Walks

@@ -1,11 +1,11 @@
 -- The tree that a folder's answers give, and how much of its dump came.
-use Rattle.std.specs.Prelude.{◌≡◌, ℕ, ◌<◌, ◌≤◌, Bool, false, List, [], ◌∷◌, ◌++◌, map, take, vec_len, Option, Some}
-use Rattle.std.specs.Prelude.{None, ⊤}
+use Rattle.std.specs.Prelude.{◌≡◌, ℕ, ◌<◌, ◌≤◌, Bool, List, [], ◌∷◌, ◌++◌, map, take, vec_len, Option, Some}
+use Rattle.std.specs.Prelude.{⊤}
 use Rattle.std.specs.List.{slice_get, Contains}
 use Rattle.store_model.specs.declared.version.Version.TheVariants.{Two}
 use Rattle.store_model.specs.Parameters.{Parameters}
 use Rattle.store_model.specs.Paths.{Path}
-use Rattle.store_model.specs.Trees.{Tree, IsTree}
+use Rattle.store_model.specs.Trees.{Tree, Node, IsTree}
 use Rattle.dump_streams.specs.Dumps.{DumpStep}
 use Rattle.dump_streams.specs.Dumps.DumpStep.{Make, Write, Set}
 use Rattle.tree_pairs.specs.declared.kind.Kind.{Kind}
@@ -54,8 +54,7 @@ AsksFor found (Set path name bytes) = (path ≡ found.path) × Contains (found_a
 abbrev pub found_at : Place → ℕ → List Found → Option Found
 found_at places.Start at found = slice_get found at
 found_at (places.Piece last offset) at found = Some last
-found_at (places.Mode last) at found = Some last
-found_at (places.Mtime last) at found = Some last
+found_at (places.Attribute last index) at found = Some last
 
 -- the entry at which the stream is asks for a step with which no dump goes on
 pub record AsksTooMuch {F : Type 0} (stream : FolderStream F) (t : Tree) : Type 0 where
@@ -79,29 +78,21 @@ pub record IsOfSame {F : Type 0} (start now : FolderStream F) : Type 0 where
 
 -- ---- how far a stream is
 
--- what was found, before its attributes came
-abbrev pub bare_found : Found → Found
-bare_found found = record { path = found.path; kind = found.kind; is_executable = false; seconds = None }
+-- Of the attributes of the last entry that was begun only the first ones came, this many; the entries before it came
+-- whole. `whole` is the tree with all of its attributes.
+pub record IsCut (begun : List Found) (last : Found) (count : ℕ) (whole t : Tree) : Type 0 where
+  pub before : List Found
+  pub begun_is : begun ≡ before ++ last ∷ []
+  pub front : Tree
+  pub node : Node
+  pub whole_is : whole ≡ front ++ (last.path, record { node = node; attributes = found_attributes last }) ∷ []
+  pub so_far : t ≡ front ++ (last.path, record { node = node; attributes = take count (found_attributes last) }) ∷ []
 
--- and before its time came
-abbrev pub timeless_found : Found → Found
-timeless_found found = record {
-  path = found.path;
-  kind = found.kind;
-  is_executable = found.is_executable;
-  seconds = None;
-}
-
--- of the last entry that was begun this came; the others before it came whole
-abbrev pub CameLast : List Found → Found → Found → List Found → Type 0
-CameLast begun last so_far came = (before : List Found) × (begun ≡ before ++ last ∷ []) × (came ≡ before ++ so_far ∷ [])
-
--- of the entries that were begun these came, the last of them as far as its place tells
-abbrev pub AreCome : Place → List Found → List Found → Type 0
-AreCome places.Start begun came = came ≡ begun
-AreCome (places.Piece found at) begun came = CameLast begun found (bare_found found) came × (0 < at) × IsFile found.kind
-AreCome (places.Mode found) begun came = CameLast begun found (bare_found found) came
-AreCome (places.Mtime found) begun came = CameLast begun found (timeless_found found) came
+-- this came of the tree of the entries that were begun, as its place tells
+abbrev pub IsSoFar : Place → List Found → Tree → Tree → Type 0
+IsSoFar places.Start begun whole t = t ≡ whole
+IsSoFar (places.Piece found at) begun whole t = IsCut begun found 0 whole t × (0 < at) × IsFile found.kind
+IsSoFar (places.Attribute found index) begun whole t = IsCut begun found index whole t
 
 -- so the folder answered of these files: each was read to its end, but for one that still is read
 abbrev pub AreAnswers : Place → List (Path × List ℕ) → List (Path × List ℕ × Bool) → Type 0
@@ -109,8 +100,7 @@ AreAnswers (places.Piece found at) files answers =
     (before : List (Path × List ℕ)) × (path : Path) × (bytes : List ℕ) × (is_ended : Bool)
     × (files ≡ before ++ (path, bytes) ∷ []) × (answers ≡ whole_files before ++ (path, bytes, is_ended) ∷ [])
 AreAnswers places.Start files answers = answers ≡ whole_files files
-AreAnswers (places.Mode found) files answers = answers ≡ whole_files files
-AreAnswers (places.Mtime found) files answers = answers ≡ whole_files files
+AreAnswers (places.Attribute found index) files answers = answers ≡ whole_files files
 
 -- what the folder told since an earlier moment of files with these bytes
 pub record TellsFiles (old new : FolderState) (place : Place) (files : List (Path × List ℕ)) : Type 0 where
@@ -118,15 +108,15 @@ pub record TellsFiles (old new : FolderState) (place : Place) (files : List (Pat
   pub reads : ReadsFiles old new answers
   pub are : AreAnswers place files answers
 
--- What came so far is the dump of this tree, which has the entries that came.
+-- What came so far is the dump of this tree, which has the entries that were begun, the last of them as far as it came.
 pub record CameOf {F : Type 0} (state_of : F → FolderState) (stream : FolderStream F) (t : Tree) : Type 0 where
   pub read : (p : Parameters) → p.version ≡ Two → HasRead stream.reader t p
   pub version : stream.reader.version ≡ Two
   pub observable : (state_of stream.folder).is_observable ≡ (state_of stream.first.value).is_observable
   pub within : stream.at ≤ vec_len stream.found
-  pub came : List Found
-  pub come : AreCome stream.place (take stream.at stream.found.items) came
   pub files : List (Path × List ℕ)
-  pub entries : HasFiles came files t
+  pub whole : Tree
+  pub entries : HasFiles (take stream.at stream.found.items) files whole
+  pub so_far : IsSoFar stream.place (take stream.at stream.found.items) whole t
   pub told : IsObservable (state_of stream.first.value)
       → TellsFiles (state_of stream.first.value) (state_of stream.folder) stream.place files

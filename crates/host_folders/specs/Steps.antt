@@ -34,7 +34,7 @@ pub record ReadsPiece {E : Type 0} (old new : FolderState) (path : Path) (at : �
 
 -- what comes behind the piece of a file that begins at an offset: a full one leaves it open whether there is another
 abbrev pub place_behind : Found → ℕ → ℕ → Place
-place_behind found at count = if nat_lt count dump_piece then places.Mode found else places.Piece found
+place_behind found at count = if nat_lt count dump_piece then places.Attribute found 0 else places.Piece found
     (min (at + dump_piece) (2 ^ 32 - 1))
 
 -- the path of the entry at which a stream is

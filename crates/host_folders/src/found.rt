@@ -1,5 +1,10 @@
 //! What was found in a folder.
 
+ghost use Rattle.std.specs.Prelude.{◌≡◌, ◌<◌, option_map, slice_get, IfSome};
+ghost use Rattle.host_folders.specs.Facts.{attribute_of};
+ghost use Rattle.host_folders.specs.FoundEntries.{found_attributes};
+
+use crate::attribute::{Attribute, present_at};
 use path_keys::Path;
 use tree_pairs::Kind;
 
@@ -14,4 +19,19 @@ pub struct Found {
     pub is_executable: bool,
     /// The seconds since 1970 that the attribute `mtime` is to say, if it is to say some.
     pub seconds: Option<u64>,
+}
+
+impl Found {
+    /// The attribute at an index among those that it is to get, in the order of names; nothing behind the last.
+    pub fn attribute(&self, at: usize) -> Option<Attribute>
+        ensures value { option_map attribute_of result
+            ≡ slice_get (found_attributes self.now) at }
+        ensures few { IfSome result (λ attribute. at < usize.MAX) }
+    {
+        let all = [
+            Attribute::mark(b"mode", self.is_executable),
+            Attribute::number(b"mtime", self.seconds),
+        ];
+        present_at(&all, at)
+    }
 }

@@ -5,6 +5,7 @@
 //! held in memory, but the paths of all that stands in the folder are.
 #![tactic(auto)]
 
+mod attribute;
 mod fault;
 mod folder;
 mod found;
@@ -14,6 +15,7 @@ mod pieces;
 mod stream;
 mod walk;
 
+pub use attribute::Attribute;
 pub use fault::FolderFault;
 pub use folder::Folder;
 pub use found::Found;

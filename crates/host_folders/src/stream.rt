@@ -1,9 +1,7 @@
 //! The steps of the dump of a folder.
 
 ghost use Rattle.std.specs.Prelude.{◌≡◌, ◌<◌, ◌+◌, ◌++◌, ◌∷◌, [], take, length, true, false, vec_len, OnOk, IfErr};
-ghost use Rattle.std.specs.Prelude.{IsTrue};
 ghost use Rattle.store_model.specs.Trees.{Tree, empty_tree};
-ghost use Rattle.store_model.specs.Paths.{is_attribute_name};
 ghost use Rattle.dump_streams.specs.Reading.{AddsStep};
 ghost use Rattle.dump_streams.specs.Streams.{IsNext};
 ghost use Rattle.host_folders.specs.Packed.{CameOf, IsFile, IsPacked, IsOfSame, EndsBy};
@@ -14,8 +12,7 @@ use crate::folder::Folder;
 use crate::found::Found;
 use crate::pieces::read_piece;
 use dump_streams::{DUMP_PIECE, DumpStep, DumpStream, ListingReader, StreamFault};
-use path_keys::{AttrName, Path};
-use script_lines::Text;
+use path_keys::Path;
 use std::snapshot::Snapshot;
 use store_base::Version;
 use tree_pairs::Kind;
@@ -27,10 +24,8 @@ enum Place {
     Start,
     /// The piece of this file that begins at this offset.
     Piece(Found, u32),
-    /// The attribute that says that this may be executed.
-    Mode(Found),
-    /// The attribute that says when this was changed.
-    Mtime(Found),
+    /// The attribute at this index among those of this.
+    Attribute(Found, usize),
 }
 
 /// The steps of the dump of the tree that a folder's answers give: what was found in it, and what its files hold
@@ -76,7 +71,7 @@ impl<F: Folder> FolderStream<F> {
                 Some(found) => Some(found.path),
                 None => None,
             },
-            Place::Piece(found, _) | Place::Mode(found) | Place::Mtime(found) => Some(found.path),
+            Place::Piece(found, _) | Place::Attribute(found, _) => Some(found.path),
         }
     }
 
@@ -143,7 +138,7 @@ impl<F: Folder> FolderStream<F> {
         into.make(found.path);
         self.add(into)?;
         self.at += 1;
-        self.place = Place::Mode(*found);
+        self.place = Place::Attribute(*found, 0);
         Ok(())
     }
 
@@ -177,48 +172,34 @@ impl<F: Folder> FolderStream<F> {
     {
         let count = read_piece(&mut self.folder, &found.path, at, into)?;
         if count == 0 {
-            self.place = Place::Mode(*found);
-            return self.mode(found, into);
+            self.place = Place::Attribute(*found, 0);
+            return self.attribute(found, 0, into);
         }
         self.add(into)?;
         self.place = place_behind(found, at, count);
         Ok(true)
     }
 
-    /// Gives the attribute that says that an entry may be executed, if it is to say so, and else what comes behind it.
-    fn mode(&mut self, found: &Found, into: &mut DumpStep) -> Result<bool, StreamFault>
-        requires { self.old.place ≡ Place.Mode found.now }
+    /// Gives the attribute at an index among those of an entry, if one is there, and else what comes behind the entry.
+    fn attribute(
+        &mut self,
+        found: &Found,
+        index: usize,
+        into: &mut DumpStep,
+    ) -> Result<bool, StreamFault>
+        requires { self.old.place ≡ Place.Attribute found.now index }
         ensures next { IsNext (CameOf F.state self.old) (CameOf F.state self.new)
             (IsPacked F.state self.new)
             (EndsBy self.new) into.new result }
         ensures same { IsOfSame self.old self.new }
     {
-        self.place = Place::Mtime(*found);
-        if !found.is_executable {
-            return self.mtime(found, into);
-        }
-        into.set(found.path, attribute_name(b"mode"), b"x");
-        self.add(into)?;
-        Ok(true)
-    }
-
-    /// Gives the attribute that says when an entry was changed, if it is to say so, and else what comes behind it.
-    fn mtime(&mut self, found: &Found, into: &mut DumpStep) -> Result<bool, StreamFault>
-        requires { self.old.place ≡ Place.Mtime found.now }
-        ensures next { IsNext (CameOf F.state self.old) (CameOf F.state self.new)
-            (IsPacked F.state self.new)
-            (EndsBy self.new) into.new result }
-        ensures same { IsOfSame self.old self.new }
-    {
-        let Some(seconds) = found.seconds else {
+        let Some(attribute) = found.attribute(index) else {
             self.place = Place::Start;
             return self.begin(into);
         };
-        let mut digits = Text::new();
-        digits.push_long(seconds);
-        into.set(found.path, attribute_name(b"mtime"), digits.as_slice());
+        attribute.set(found.path, into);
         self.add(into)?;
-        self.place = Place::Start;
+        self.place = Place::Attribute(*found, index + 1);
         Ok(true)
     }
 
@@ -254,8 +235,7 @@ impl<F: Folder> DumpStream for FolderStream<F> {
         match self.place {
             Place::Start => self.begin(into),
             Place::Piece(found, at) => self.piece(&found, at, into),
-            Place::Mode(found) => self.mode(&found, into),
-            Place::Mtime(found) => self.mtime(&found, into),
+            Place::Attribute(found, index) => self.attribute(&found, index, into),
         }
     }
 }
@@ -266,19 +246,8 @@ fn place_behind(found: &Found, at: u32, count: usize) -> Place
     ensures { result ≡ steps.place_behind found.now at count }
 {
     if count < DUMP_PIECE as usize {
-        Place::Mode(*found)
+        Place::Attribute(*found, 0)
     } else {
         Place::Piece(*found, at.saturating_add(DUMP_PIECE))
     }
-}
-
-/// A name of an attribute.
-fn attribute_name(text: &[u8]) -> AttrName
-    requires { IsTrue (is_attribute_name text.now) }
-    ensures value { result ≡ text.now }
-{
-    let Some(name) = AttrName::parse(text) else {
-        unreachable!()
-    };
-    name
 }

@@ -17,10 +17,10 @@ returns-clause-gives g c =
     let reader = c.add.new.self.reader in
     subst (λ (stream : FolderStream g.row.F.Denot).
     Gives (CameOf state old)
-    (CameOf state (record stream { at = stream.at + 1; place = places.Mode found })) c.make.new.self (Ok tt))
+    (CameOf state (record stream { at = stream.at + 1; place = places.Attribute found 0 })) c.make.new.self (Ok tt))
     (sym c.add.ensures.same)
     (subst (λ (step : DumpStep). Gives (CameOf state old)
-    (CameOf state (record old { at = old.at + 1; place = places.Mode found; reader = reader })) step (Ok tt))
+    (CameOf state (record old { at = old.at + 1; place = places.Attribute found 0; reader = reader })) step (Ok tt))
     (sym c.make.ensures)
     (gives_folder state old found reader (record {
       start = c.requires.start;

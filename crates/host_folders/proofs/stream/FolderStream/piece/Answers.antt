@@ -14,13 +14,13 @@ pub returns-then-count-eq0-clause-next : goal.returns-then-count-eq0-clause-next
 returns-then-count-eq0-clause-next g c =
     let state = g.F.Folder.state in
     let old = c.args.self.now in
-    let mid = record old { folder = c.read_piece.new.folder; place = places.Mode c.args.found.now } in
-    next_behind (CameOf state old) (CameOf state mid) (CameOf state c.mode.new.self) (IsPacked state c.mode.new.self)
-    (EndsBy c.mode.new.self) c.mode.new.into c.mode.result
+    let mid = record old { folder = c.read_piece.new.folder; place = places.Attribute c.args.found.now 0 } in
+    next_behind (CameOf state old) (CameOf state mid) (CameOf state c.attribute.new.self) (IsPacked state c.attribute.new.self)
+    (EndsBy c.attribute.new.self) c.attribute.new.into c.attribute.result
     (λ t was.
     passes_file state old t c.args.found.now c.args.at c.read_piece.new.folder c.read_piece.new.into
     c.in_ok-count.count c.requires c.read_piece.ensures.observable c.in_ok-count.ensures.piece c.if-count-eq0.true
-    was) c.mode.ensures.next
+    was) c.attribute.ensures.next
 
 pub returns-clause-next : goal.returns-clause-next
 returns-clause-next g c =
