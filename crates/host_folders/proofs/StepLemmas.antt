@@ -1,7 +1,7 @@
 -- What a step adds to what came.
-use Rattle.std.proofs.Common.{◌≡◌, ℕ, zero, suc, ◌+◌, ◌-◌, ◌^◌, ◌<◌, ◌≤◌, min, Bool, true, false, nat_lt, if◌then◌else◌, IsTrue}
-use Rattle.std.proofs.Common.{List, [], ◌∷◌, ◌++◌, length, map, take, vec_len, Some, None, Result, Ok, ◌⊎◌}
-use Rattle.std.proofs.Common.{inl, inr, refl, sym, ap, ap₂, subst, ◌∙◌, arith}
+use Rattle.std.proofs.Common.{◌≡◌, ℕ, zero, suc, ◌+◌, ◌-◌, ◌^◌, ◌<◌, ◌≤◌, min, Bool, true, false, nat_lt, IsTrue}
+use Rattle.std.proofs.Common.{if◌then◌else◌, List, [], ◌∷◌, ◌++◌, length, map, take, vec_len, Some, None, Result, Ok}
+use Rattle.std.proofs.Common.{◌⊎◌, inl, inr, refl, sym, ap, ap₂, subst, ◌∙◌, arith}
 use Rattle.std.specs.List.{slice_get}
 use Rattle.std.proofs.lemmas.List.{append-nil, append_assoc, length-append, length-take-le, map-append, same_from_push}
 use Rattle.std.proofs.lemmas.List.{take_all, take_more}
@@ -266,7 +266,8 @@ module _ {F : Type 0} (state_of : F → FolderState) where
   came_length stream t was =
       let begun = take stream.at stream.found.items in
       let came = so_far_count stream.place begun was.whole t was.so_far in
-      let all = ap length (was.entries).tree ∙ entries_length begun (map (λ (file : Path × List ℕ). file.1) was.files) in
+      let all = ap length (was.entries).tree
+      ∙ entries_length begun (map (λ (file : Path × List ℕ). file.1) was.files) in
       let within = was.within in
       let ok = stream.found.ok.0 in
       let taken = length-take-le stream.at stream.found.items (omega (arith, within, ok)) in

@@ -1,6 +1,7 @@
 -- Lemmas on where all pages lie.
 use Rattle.std.proofs.Common.{◌≡◌, ℕ, ◌+◌, ◌<◌, ◌≤◌, Bool, true, false, List, Option, Some, None, Ok, Err}
-use Rattle.std.proofs.Common.{Result, OnOk, is_err, length, is_some, slice_get, refl, sym, ap, subst, ◌∙◌, inl, inr, arith}
+use Rattle.std.proofs.Common.{Result, OnOk, is_err, length, is_some, slice_get, refl, sym, ap, subst, ◌∙◌, inl, inr}
+use Rattle.std.proofs.Common.{arith}
 use Rattle.std.specs.Bool.{OnTrue}
 use Rattle.std.proofs.lemmas.Bool.{cases_lt}
 use Rattle.std.proofs.lemmas.Option.{same_Some, none-some, slice_get-map, slice_get_within}
@@ -107,7 +108,8 @@ pub index_forgotten : (digests : Label → ℕ) (slots : SlotsState) (index : Op
 index_forgotten digests slots index none = record { of = λ found is. absurd (none-some found (sym none ∙ is)) }
 
 -- where there is one
-pub index_some : (digests : Label → ℕ) (slots : SlotsState) (index : BTreeMap ℕ ℕ) → IsIndexOf digests slots index.entries
+pub index_some : (digests : Label → ℕ) (slots : SlotsState) (index : BTreeMap ℕ ℕ)
+    → IsIndexOf digests slots index.entries
     → IsIndexed digests slots (Some index)
 index_some digests slots index of = record {
   of = λ found is. subst (λ (m : BTreeMap ℕ ℕ). IsIndexOf digests slots m.entries) (same_Some index found is) of;

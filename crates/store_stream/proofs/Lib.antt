@@ -1,2 +1,9 @@
+pub mod NextBelow
+pub mod PartLaws
+pub mod PartPairs
+pub mod PartTrees
+pub mod PathLemmas
 pub mod PullLemmas
+pub mod RootedSteps
+pub mod RootedTrees
 pub mod StreamLemmas

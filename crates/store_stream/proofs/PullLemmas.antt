@@ -30,7 +30,7 @@ use Rattle.store_stream.specs.StoreStreams.{stream_fault_of, CameBy, IsCause, En
 use Rattle.store_stream.specs.Pulling.{StandsWith, Pulled}
 
 -- what of a dump is left where some of its pairs came
-front_of : (steps : PairSteps) (u : Tree) (p : Parameters) (passed : List Pair) (t : Tree)
+pub front_of : (steps : PairSteps) (u : Tree) (p : Parameters) (passed : List Pair) (t : Tree)
     → HasTaken steps u p passed t → (rest : List DumpStep) × (dump u ≡ dump t ++ rest)
 front_of steps u p passed t has = (has.after.file_steps ++ flat_map spot_steps has.after.left, has.after.dump_is)
 

@@ -23,7 +23,7 @@ use Rattle.store_stream.specs.declared.stream.StoreStream.{StoreStream}
 use Rattle.store_stream.specs.StoreStreams.{CameBy, IsWhole, EndsBy}
 use Rattle.store_stream.specs.Pulling.{CameWith, CameToEnd, CameOn, Pulled}
 
-extends_by : (t : Tree) (p : Parameters) (s : DumpStep) → GoesOn t s p → Extends t s
+pub extends_by : (t : Tree) (p : Parameters) (s : DumpStep) → GoesOn t s p → Extends t s
 extends_by t p s goes = record { is_tree = goes.under.is_tree; dump_is = goes.dump_is }
 
 pub under_fitting : (t : Tree) (p : Parameters) → IsFitting t p → IsTreeUnder t p

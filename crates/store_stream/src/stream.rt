@@ -1,10 +1,14 @@
 //! The stream of a store.
 
-ghost use Rattle.std.specs.Prelude.{◌≡◌, ℕ, None};
+ghost use Rattle.std.specs.Prelude.{◌≡◌, ℕ, [], None};
 ghost use Rattle.store_model.specs.Trees.{Tree, empty_tree};
+ghost use Rattle.store_model.specs.Pages.{IsTreeUnder};
+ghost use Rattle.dump_streams.specs.Taking.{HasTaken};
 ghost use Rattle.dump_streams.specs.Streams.{IsNext};
 ghost use Rattle.store_stream.specs.StoreStreams.{stream_fault_of, CameBy, CameOf, IsWhole, EndsBy, ReadsStore};
+ghost use Rattle.image_check.specs.Standing.{IsFitting};
 ghost use Rattle.store_stream.specs.Pulling.{Pulled, Turned};
+ghost use Rattle.store_stream.specs.Reading.{Pulls, Starts};
 
 use disk_model::Disk;
 use dump_streams::{DumpStep, DumpStream, PairSteps, StreamFault, Taken};
@@ -18,13 +22,13 @@ pub struct StoreStream<D: Disk> {
     /// Which pairs came.
     walk: PairsWalk,
     /// The steps that they make.
-    steps: PairSteps,
+    pub(crate) steps: PairSteps,
     /// Why the store gave no pair. Then nothing more is asked of it.
     fault: Option<ApplyFault>,
 }
 
 /// What one more pair gave.
-enum Turn {
+pub(crate) enum Turn {
     /// The next step.
     Step,
     /// No step yet.
@@ -40,6 +44,11 @@ impl<D: Disk> StoreStream<D> {
         ensures store { result.store ≡ store }
         ensures fault { result.fault ≡ None }
         ensures keeps { ReadsStore D.state result result }
+        ensures fitting { IsFitting store.tree store.params }
+
+        // The steps may be those of the pairs of any tree.
+        ensures steps { (u : Tree) → IsTreeUnder u store.params
+            → HasTaken result.steps u store.params [] empty_tree }
     {
         let walk = store.walk();
         let steps = PairSteps::new(store.params().version());
@@ -110,9 +119,10 @@ impl<D: Disk> StoreStream<D> {
     }
 
     /// Pulls the next pair of the store, and keeps a fault. After a fault it tells the same again.
-    fn pull(&mut self) -> Result<Option<(Key, Value)>, StreamFault>
+    pub(crate) fn pull(&mut self) -> Result<Option<(Key, Value)>, StreamFault>
         ensures pulled { (t : Tree) (count : ℕ) → CameBy D.state self.old t count
             → Pulled D.state self.new t count result }
+        ensures pulls { Pulls D.state self.old self.new result }
         ensures keeps { (start : StoreStream D) → ReadsStore D.state start self.old
             → ReadsStore D.state start self.new }
     {
@@ -121,6 +131,28 @@ impl<D: Disk> StoreStream<D> {
         }
         match self.store.next_of(&mut self.walk) {
             Ok(pair) => Ok(pair),
+            Err(fault) => {
+                self.fault = Some(fault);
+                Err(stream_fault(fault))
+            }
+        }
+    }
+
+    /// Goes on with the first pair whose key is not below this one, and keeps a fault. After a fault it tells the same
+    /// again.
+    pub(crate) fn start(&mut self, key: &Key) -> Result<(), StreamFault>
+        ensures starts { Starts D.state key.now self.old self.new result }
+        ensures keeps { (start : StoreStream D) → ReadsStore D.state start self.old
+            → ReadsStore D.state start self.new }
+    {
+        if let Some(fault) = self.fault {
+            return Err(stream_fault(fault));
+        }
+        match self.store.walk_from(key) {
+            Ok(walk) => {
+                self.walk = walk;
+                Ok(())
+            }
             Err(fault) => {
                 self.fault = Some(fault);
                 Err(stream_fault(fault))

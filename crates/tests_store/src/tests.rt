@@ -1,6 +1,7 @@
 //! The tests, a module for each kind, and `support`, which they share.
 
 mod failures;
+mod part_streams;
 mod reads;
 mod recovered;
 mod recovered_disks;

@@ -55,11 +55,7 @@ fn walk_all(store: &mut FailingStore, walked: &mut Walked) -> Result<(), AllocEr
 }
 
 /// Takes the pairs of a store from a key on; none where the walk does not start.
-fn walk_behind(
-    store: &mut FailingStore,
-    key: &Key,
-    walked: &mut Walked,
-) -> Result<(), AllocError> {
+fn walk_behind(store: &mut FailingStore, key: &Key, walked: &mut Walked) -> Result<(), AllocError> {
     match store.walk_from(key) {
         Ok(mut walk) => pull_all(store, &mut walk, walked),
         Err(_) => Ok(()),
@@ -107,7 +103,8 @@ fn expect_pairs(
     let walked = walked_over(rt, alloc, image, NEVER, from).expect(rt, "a store");
     assert!(rt; walked.failed == None && walked.pairs.len() == wanted.len());
     for (pair, (path, block, value)) in walked.pairs.iter().zip(wanted) {
-        let is_wanted = pair.0 == path_of(path).key(*block) && pair.1.as_slice() == value.as_bytes();
+        let is_wanted = pair.0 == path_of(path).key(*block)
+            && pair.1.as_slice() == value.as_bytes();
         assert!(rt; is_wanted, "{path} {block}");
     }
 }
@@ -127,7 +124,8 @@ fn pairs_come_by_rising_key(rt: HostRuntime) {
 }
 
 /// Makes 26 directories: their pairs fill more than two pages, in two groups.
-static LETTERS: &str = "make /A\nmake /B\nmake /C\nmake /D\nmake /E\nmake /F\nmake /G\nmake /H\nmake /I\nmake /J\n\
+static LETTERS: &str =
+    "make /A\nmake /B\nmake /C\nmake /D\nmake /E\nmake /F\nmake /G\nmake /H\nmake /I\nmake /J\n\
     make /K\nmake /L\nmake /M\nmake /N\nmake /O\nmake /P\nmake /Q\nmake /R\nmake /S\nmake /T\n\
     make /U\nmake /V\nmake /W\nmake /X\nmake /Y\nmake /Z\n";
 

@@ -37,10 +37,12 @@ returns-clause-next g c =
     let new = record old { place = places.Attribute found (index + 1); reader = reader } in
     let here : slice_get (found_attributes found) index ≡ Some (attribute.name, says attribute.says) =
     sym c.attribute.ensures.value ∙ ap (option_map attribute_of) c.in-Some.is in
-    subst (λ (stream : FolderStream g.row.F.Denot). let end = record stream { place = places.Attribute found (index + 1) }
+    subst (λ (stream : FolderStream g.row.F.Denot).
+    let end = record stream { place = places.Attribute found (index + 1) }
     in IsNext (CameOf state old) (CameOf state end) (IsPacked state end) (EndsBy end) step (Ok true))
     (sym c.add.ensures.same)
-    (subst (λ (d : DumpStep). IsNext (CameOf state old) (CameOf state new) (IsPacked state new) (EndsBy new) d (Ok true))
+    (subst (λ (d : DumpStep). IsNext (CameOf state old) (CameOf state new) (IsPacked state new)
+    (EndsBy new) d (Ok true))
     (sym c.set.ensures)
     (next_given (CameOf state old) (CameOf state new) (IsPacked state new) (EndsBy new) _
     (gives_attribute state old found index attribute.name (says attribute.says) reader c.requires here

@@ -15,7 +15,8 @@ returns-then-count-eq0-clause-next g c =
     let state = g.F.Folder.state in
     let old = c.args.self.now in
     let mid = record old { folder = c.read_piece.new.folder; place = places.Attribute c.args.found.now 0 } in
-    next_behind (CameOf state old) (CameOf state mid) (CameOf state c.attribute.new.self) (IsPacked state c.attribute.new.self)
+    next_behind (CameOf state old) (CameOf state mid) (CameOf state c.attribute.new.self)
+    (IsPacked state c.attribute.new.self)
     (EndsBy c.attribute.new.self) c.attribute.new.into c.attribute.result
     (λ t was.
     passes_file state old t c.args.found.now c.args.at c.read_piece.new.folder c.read_piece.new.into
