@@ -3,6 +3,7 @@
 mod differences;
 mod folder_streams;
 mod folder_walks;
+mod host_trees;
 mod listing_streams;
 mod pictures;
 mod real_folders;

@@ -1,0 +1,20 @@
+//! Trees that are made on the host: what a place of the host holds, and the steps of a dump that are carried out there.
+//! Start at `Builder` and `BuildTaker`.
+//!
+//! The steps come in the order of paths. What has to wait is made behind them: links, so that nothing is made or
+//! written by a path that could lead through one, and then the times of folders, which the making of what stands below
+//! changes. This crate must not know how the host is asked.
+#![tactic(auto)]
+
+mod attribute;
+mod builder;
+mod making;
+mod memory;
+mod plan;
+mod taker;
+
+pub use attribute::Wanted;
+pub use builder::Builder;
+pub use making::build;
+pub use memory::{BuiltStep, MemBuilder};
+pub use taker::BuildTaker;
