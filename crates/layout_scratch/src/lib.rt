@@ -2,7 +2,7 @@
 //! pages, and the pages placed by rank.
 //!
 //! Start at `build`. This is the plain program of the layout: what a store in place must come to, and what loads many
-//! pairs at once.
+//! pairs at once: `build_drawn`, by levels that were drawn while the pages were counted.
 #![tactic(auto)]
 
 mod count;

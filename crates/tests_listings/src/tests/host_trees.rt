@@ -1,5 +1,8 @@
 //! A dump that is carried out on the host, by a builder in memory: its steps were written by hand.
 
+ghost use Rattle.std.specs.Prelude.{◌≡◌, false};
+ghost use Rattle.host_builder.specs.Memory.{memory_state};
+
 use super::support::{long_listing, stream_of};
 use dump_streams::{DrainFault, TakerFault, drain};
 use host_builder::{BuildTaker, Builder, BuiltStep, MemBuilder, Wanted, build};
@@ -28,7 +31,9 @@ const NONE: Wanted = Wanted {
 };
 
 /// A builder in memory whose call of that number fails.
-fn builder_of(rt: &impl Abort, alloc: Global, failing: u64) -> MemBuilder {
+fn builder_of(rt: &impl Abort, alloc: Global, failing: u64) -> MemBuilder
+    ensures { (memory_state result).has_links ≡ false }
+{
     MemBuilder::new(
         alloc,
         Vec::from_slice(alloc, &[failing]).expect(rt, "memory"),

@@ -141,11 +141,12 @@ fn expect_letters(rt: &impl Abort, walked: &Walked) {
 fn a_pull_that_fails_leaves_the_walk(rt: HostRuntime) {
     let mut machine = Machine::new(rt.alloc());
     machine.make(&rt, "format 16 2 ruler zeros", LETTERS);
-    let mut in_the_middle = 0;
+    let mut in_the_middle = 0u32;
     for call in 0..MOST_CALLS {
         if let Some(walked) = walked_over(&rt, rt.alloc(), &machine.image, call, None) {
             expect_letters(&rt, &walked);
-            in_the_middle += u32::from(matches!(walked.failed, Some(1..=25)));
+            let is_in_the_middle = matches!(walked.failed, Some(1..=25));
+            in_the_middle = in_the_middle.saturating_add(u32::from(is_in_the_middle));
             if walked.failed == None {
                 break;
             }
