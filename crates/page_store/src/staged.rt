@@ -333,6 +333,8 @@ impl<D: Disk, W: Draw> Staged<D, W> {
         let found = find_slots(overlay, finder, &self.changes);
         // Whatever was found, the slots are the disk's again.
         empty(&mut overlay.touched);
+        // An index serves searches for pages alone, so what a settle looked at doesn't count.
+        overlay.looks = 0;
         let changed = found?;
         let spares = &mut overlay.spares;
         match commit_slots(
