@@ -216,6 +216,10 @@ spelled word = Done ∷ SinkFault ∷ DiskFault ∷ NotImage ∷ Damaged ∷ NoM
 abbrev pub IsEndOf : Subcommand → Status → Type 0
 IsEndOf word status = IsTrue (is_among word (row status).words && not (row status).refuses_image)
 
+-- the work was carried out
+abbrev pub IsDone : Status → Type 0
+IsDone status = IsTrue (row status).is_done
+
 -- how it may end without being done, its image not refused
 abbrev pub IsStopOf : Subcommand → Status → Type 0
 IsStopOf word status =

@@ -1,26 +1,19 @@
 -- Lemmas on what writing a part of a dump leaves of the store and the sink, one part after another.
-use Rattle.std.proofs.Common.{◌≡◌, ◌⊎◌, ℕ, Bool, true, false, List, [], ◌++◌, Result, Ok, Err, inl, inr, refl, sym, ap}
+use Rattle.std.proofs.Common.{◌≡◌, ◌⊎◌, ℕ, false, List, [], ◌++◌, Result, Ok, Err, inl, inr, refl, sym, ap}
 use Rattle.std.proofs.Common.{subst, ◌∙◌}
-use Rattle.std.proofs.lemmas.Bool.{false≢true}
 use Rattle.std.proofs.lemmas.List.{append-nil, append_assoc}
-use Rattle.store_model.specs.Trees.{Tree}
 use Rattle.disk_model.specs.DiskState.{DiskState, IsSound}
 use Rattle.disk_model.specs.DiskState as disks
-use Rattle.gate_journal.specs.Places.{ReadsOnly}
 use Rattle.gate_journal.specs.ReadingLaws.{ReadsOnly-refl, ReadsOnly-trans}
 use Rattle.script_lines.specs.SinkState.{SinkState, AppendsPrefix, PutsBytes}
-use Rattle.image_check.specs.declared.fault.ApplyFault.{ApplyFault}
-use Rattle.image_check.specs.declared.fault.ApplyFault.TheVariants as apply
 use Rattle.store_core.specs.StoreState.{StoreState}
-use Rattle.store_core.specs.StoreCalls.{StepsStore}
 use Rattle.staged_tree.proofs.DiskLemmas.{keeps_then}
 use Rattle.staged_tree.proofs.Unchanged.{keeps_itself}
 use Rattle.image_subcommands.specs.declared.status.Status.{Status}
 use Rattle.image_subcommands.specs.declared.status.Status.TheVariants as statuses
-use Rattle.image_subcommands.specs.Endings.{apply_status}
 use Rattle.image_subcommands.specs.Statuses.{disk_faults_by, sink_faults_by}
 use Rattle.listing_subcommands.specs.Dumping.{KeepsStore, KeepsSink, IsDumpFault, status_so_far}
-use Rattle.listing_subcommands.specs.Dumping.IsDumpFault.{Sink, Disk, NoMemory}
+use Rattle.listing_subcommands.specs.Dumping.IsDumpFault.{Sink, NoMemory}
 
 -- ---- the bytes
 

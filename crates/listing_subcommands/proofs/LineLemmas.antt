@@ -1,15 +1,7 @@
 -- Lemmas on the lines of steps that are gathered.
-use Rattle.std.proofs.Common.{◌≡◌, ℕ, List, [], ◌∷◌, Result, Ok, Err, OnOk, inl, inr, refl, sym, ap, subst, ◌∙◌}
+use Rattle.std.proofs.Common.{ℕ, List, [], Result, Ok, Err, OnOk, inl, inr, refl, sym, ap, ◌∙◌}
 use Rattle.std.proofs.lemmas.List.{append-nil}
-use Rattle.store_model.specs.Pairs.{attribute_value}
-use Rattle.store_model.specs.Commands.Reply.{Content}
-use Rattle.store_model.specs.Paths.{Path, Name}
 use Rattle.script_lines.specs.SinkState.{SinkState, IsObservable, PutsBytes}
-use Rattle.script_lines.specs.declared.reply.Reply.{Reply}
-use Rattle.script_lines.specs.declared.reply.Reply.TheVariants as replies
-use Rattle.script_lines.specs.Replies.{reply_of}
-use Rattle.dump_streams.specs.Dumps.{DumpStep, step_line, steps_text}
-use Rattle.dump_streams.specs.Dumps.DumpStep.{Set, Write}
 use Rattle.dump_streams.specs.declared.gather.GatheredLines.{GatheredLines}
 use Rattle.dump_streams.specs.declared.taker.TakerFault.{TakerFault}
 use Rattle.dump_streams.specs.declared.taker.TakerFault.TheVariants as takers

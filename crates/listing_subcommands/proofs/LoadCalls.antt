@@ -40,16 +40,16 @@ use Rattle.image_subcommands.specs.declared.status.Status.TheVariants as statuse
 use Rattle.image_subcommands.specs.Endings.{attach_status}
 use Rattle.image_subcommands.specs.Limits.{KeepsLimit}
 use Rattle.image_subcommands.specs.Outside.{outside_of}
-use Rattle.image_subcommands.specs.Statuses.{Subcommand as words, IsEndOf, IsReadWhole, done_of_work}
+use Rattle.image_subcommands.specs.Statuses.{Subcommand as words, IsDone, IsEndOf, IsReadWhole, done_of_work}
 use Rattle.image_subcommands.specs.Statuses.{disk_faults_by, source_faults_by, sink_faults_by}
 use Rattle.image_subcommands.proofs.ReportLemmas.{rose}
 use Rattle.image_work.specs.Works.{IsReady, around, idle_with, IsUnopened, WorksOnStore}
-use Rattle.image_work.proofs.OpeningEnds.{never_behind, none_done, memory_only, comes_first, none_taken, memory_left}
+use Rattle.image_work.proofs.OpeningEnds.{none_done, memory_only, comes_first, none_taken, memory_left}
 use Rattle.listing_subcommands.specs.Filling.{SparesStore, EndsReading, LoadsRead, FillsStore, filled_by}
 use Rattle.listing_subcommands.specs.Filling.{full_status, PrintsFilled}
 use Rattle.listing_subcommands.specs.Filling.{FillsStore as fills}
 use Rattle.listing_subcommands.specs.Listings.{HoldsListing, IsReadFault}
-use Rattle.listing_subcommands.specs.LoadCall.{Lists, CanBeLoaded, TellsLoad, full_text, LoadsTree, LoadsFrom}
+use Rattle.listing_subcommands.specs.LoadCall.{Lists, TellsLoad, full_text, LoadsTree, LoadsFrom}
 use Rattle.listing_subcommands.specs.LoadCall.{KeepsLoad, LoadsAt}
 use Rattle.listing_subcommands.proofs.LoadEnds.{keeps_opened, keeps_unopened, loads_tree, tells_first, tells_not_empty}
 use Rattle.listing_subcommands.proofs.LoadEnds.{tells_source_fault, tells_too_long, tells_bad, tells_done}
@@ -85,8 +85,11 @@ too_large disk_of sound store t need slots ready more need_is slots_are =
 
 -- ---- no store was had
 
-not_done : (fault : AttachFault) → attach_status fault ≡ statuses.Done → ⊥
-not_done fault e = never_behind fault statuses.Done refl e
+not_done : (fault : AttachFault) → IsDone (attach_status fault) → ⊥
+not_done faults.Disk e = false≢true e
+not_done faults.NoMemory e = false≢true e
+not_done faults.NotImage e = false≢true e
+not_done faults.Damaged e = false≢true e
 
 not_whole : (fault : AttachFault) → IsReadWhole (attach_status fault) → ⊥
 not_whole faults.Disk whole = false≢true whole
@@ -188,7 +191,7 @@ module _ {D R W : Type 0} (disk_of : D → DiskState) (source_of : R → SourceS
 
   module _ (status : Status) (store_new : StoreState D) (source_new : R) (sink_new : W) where
     -- nothing was written
-    kept_loads : Still (disk_of store.disk) (disk_of store_new.disk) → (status ≡ statuses.Done → ⊥) → (disk : D)
+    kept_loads : Still (disk_of store.disk) (disk_of store_new.disk) → (IsDone status → ⊥) → (disk : D)
         → Attached disk → TellsOf disk status store_new source_new sink_new → disks.IsObservable (disk_of disk)
         → Loaded disk status store_new source_new sink_new
     kept_loads still not_done disk attached tells o =
@@ -211,7 +214,7 @@ module _ {D R W : Type 0} (disk_of : D → DiskState) (source_of : R → SourceS
         → KeepsLimit status (source_of source) (source_of source_new))
         → (sources.IsObservable (source_of source) → IsReadWhole status
         → (source_of source_new).left ≡ [])
-        → (status ≡ statuses.NotEmpty → source_new ≡ source) → (status ≡ statuses.Done → ⊥)
+        → (status ≡ statuses.NotEmpty → source_new ≡ source) → (IsDone status → ⊥)
         → ((disk : D) → Attached disk → disks.IsObservable (disk_of disk)
         → sources.IsObservable (source_of source) → TellsOf disk status store_new source_new sink_new)
         → Ends status store_new source_new sink_new
@@ -241,7 +244,7 @@ module _ {D R W : Type 0} (disk_of : D → DiskState) (source_of : R → SourceS
       → (disk : D) → Attached disk → disks.IsObservable (disk_of disk)
       → ChangesImage store.tree (loaded_tree store.params store.tree t) store.params (disk_of store.disk)
       (disk_of store_new.disk) store_new.is_stopped loaded
-      → (status ≡ statuses.Done → (value : T) × (loaded ≡ Ok value))
+      → (IsDone status → (value : T) × (loaded ≡ Ok value))
       → LoadsTree t store.params status (disk_of disk) (disk_of store_new.disk)
   load_changed {T} status store_new loaded t empty under room disk attached o changes was_ok =
       let mid = disk_of store.disk in
@@ -274,7 +277,7 @@ module _ {D R W : Type 0} (disk_of : D → DiskState) (source_of : R → SourceS
         whole = λ e. absurd (cc);
       })
       (λ os whole. absurd (false≢true whole))
-      (λ e. refl) (λ e. cc)
+      (λ e. refl) false≢true
       (λ disk attached o os. tells_not_empty store.tree store.params script (disk_of disk) (disk_of store.disk)
       (source_of source) (source_of source) (sink_of sink) (sink_of sink)
       (spares.holds (told disk attached o)))
@@ -290,7 +293,7 @@ module _ {D R W : Type 0} (disk_of : D → DiskState) (source_of : R → SourceS
       quiet_ends statuses.SourceFault store source_new sink refl still_here refl refl refl
       reads.observable reads.faults reads.limit
       (λ os whole. absurd (false≢true whole))
-      (λ e. absurd (cc)) (λ e. cc)
+      (λ e. absurd (cc)) false≢true
       (λ disk attached o os. tells_source_fault store.tree store.params script (disk_of disk) (disk_of store.disk)
       (source_of source) (source_of source_new) (sink_of sink) (sink_of sink) ended.empty
       (rose (source_of source).faults (source_of source_new).faults reads.faults))
@@ -302,7 +305,7 @@ module _ {D R W : Type 0} (disk_of : D → DiskState) (source_of : R → SourceS
       quiet_ends statuses.TooLong store source_new sink refl still_here refl refl refl
       reads.observable reads.faults reads.limit
       (λ os whole. absurd (false≢true whole))
-      (λ e. absurd (cc)) (λ e. cc)
+      (λ e. absurd (cc)) false≢true
       (λ disk attached o os. tells_too_long store.tree store.params script (disk_of disk) (disk_of store.disk)
       (source_of source) (source_of source_new) (sink_of sink) (sink_of sink) ended.empty
       (too_long_by (source_of source) (source_of source_new) (reads.limit os)))
@@ -314,7 +317,7 @@ module _ {D R W : Type 0} (disk_of : D → DiskState) (source_of : R → SourceS
       quiet_ends statuses.NoMemory store source_new sink refl still_here refl refl refl
       reads.observable reads.faults reads.limit
       (λ os whole. absurd (false≢true whole))
-      (λ e. absurd (cc)) (λ e. cc)
+      (λ e. absurd (cc)) false≢true
       (λ disk attached o os. tells_first store.tree store.params script (disk_of disk) (disk_of store.disk)
       (source_of source)
       (source_of source_new) (sink_of sink) (sink_of sink) statuses.NoMemory refl (λ whole. refl))
@@ -326,7 +329,7 @@ module _ {D R W : Type 0} (disk_of : D → DiskState) (source_of : R → SourceS
       quiet_ends statuses.BadListing store source_new sink refl still_here refl refl refl
       reads.observable reads.faults reads.limit
       (λ os whole. (reads.bad os refl).0)
-      (λ e. absurd (cc)) (λ e. cc)
+      (λ e. absurd (cc)) false≢true
       (λ disk attached o os. tells_bad store.tree store.params script (disk_of disk) (disk_of store.disk)
       (source_of source)
       (source_of source_new) (sink_of sink) (sink_of sink) ended.empty
@@ -467,7 +470,7 @@ module _ {D R W : Type 0} (disk_of : D → DiskState) (source_of : R → SourceS
             };
             does = λ disk attached o os.
                 let here = told disk attached o in
-                kept_loads statuses.TooFull store_new source_new sink_new full_still (λ e. cc) disk attached
+                kept_loads statuses.TooFull store_new source_new sink_new full_still false≢true disk attached
                 (tells_too_full store.tree store.params script (disk_of disk) (disk_of store_new.disk)
                 (source_of source) (source_of source_new) (sink_of sink) (sink_of sink_new) read.empty
                 (full_tree here os) (lists (Ok (answers.Full need slots)) read os) (full_told here os).2
@@ -496,7 +499,7 @@ module _ {D R W : Type 0} (disk_of : D → DiskState) (source_of : R → SourceS
             };
             does = λ disk attached o os.
                 let here = told disk attached o in
-                kept_loads statuses.SinkFault store_new source_new sink_new full_still (λ e. cc) disk attached
+                kept_loads statuses.SinkFault store_new source_new sink_new full_still false≢true disk attached
                 (tells_unprinted store.tree store.params script (disk_of disk) (disk_of store_new.disk)
                 (source_of source) (source_of source_new) (sink_of sink) (sink_of sink_new) read.empty
                 (full_tree here os) (lists (Ok (answers.Full need slots)) read os) (full_told here os).2
@@ -514,7 +517,7 @@ module _ {D R W : Type 0} (disk_of : D → DiskState) (source_of : R → SourceS
         (λ t changes answer o. changes.no_memory refl)) refl refl refl reads.observable reads.faults
         (λ os. limit_read statuses.NoMemory (source_of source) (source_of source_new)
         (λ e. cc) (reads.limit os))
-        (λ os whole. (reads.limit os).whole refl) (λ e. absurd (cc)) (λ e. cc)
+        (λ os whole. (reads.limit os).whole refl) (λ e. absurd (cc)) false≢true
         (λ disk attached o os. tells_first store.tree store.params script (disk_of disk) (disk_of store_new.disk)
         (source_of source) (source_of source_new) (sink_of sink)
         (sink_of sink) statuses.NoMemory refl (λ whole. refl))
@@ -545,7 +548,7 @@ module _ {D R W : Type 0} (disk_of : D → DiskState) (source_of : R → SourceS
         fault_large more =
             from_kept disk_of source_of sink_of store.tree store.params script
             (outside_of disk source sink) (after_load statuses.DiskFault store_new source_new sink) fault_tells
-            (λ e. cc)
+            false≢true
             (keeps_opened store.tree store.params statuses.DiskFault (disk_of disk) (disk_of store_new.disk)
             (disk_of store.disk) ready.fitting (attached.observed o)
             (changes.still (loaded_full store.params store.tree t more)))
@@ -557,7 +560,7 @@ module _ {D R W : Type 0} (disk_of : D → DiskState) (source_of : R → SourceS
             (outside_of disk source sink) (after_load statuses.DiskFault store_new source_new sink) fault_tells
             false≢true t (record { empty = read.empty; lists = lists; room = room })
             (load_changed statuses.DiskFault store_new (Err apply.Disk) t read.empty lists.under room disk attached o
-            changes (λ e. absurd (cc)))
+            changes (λ e. absurd (false≢true e)))
 
         fault_loads : FaultLoads
         fault_loads = ⊎_elim fault_large fault_fits (cases_lt store.params.slots (page_count t store.params))

@@ -2,14 +2,13 @@
 use Rattle.std.proofs.Common.{◌≡◌, ◌⊎◌, ℕ, ◌+◌, ◌<◌, ◌≤◌, Bool, false, List, ◌++◌, length, Result, Ok}
 use Rattle.std.proofs.Common.{OnOk, refl, sym, subst, ◌∙◌, arith, inl, inr, ⊎_elim}
 use Rattle.std.specs.Prelude.{not, ◌&&◌}
-use Rattle.store_model.specs.declared.refusal.Refusal.{Refusal}
+use Rattle.std.proofs.lemmas.Bool.{false≢true}
 use Rattle.store_model.specs.Parameters.{Parameters}
 use Rattle.store_model.specs.Trees.{Tree, empty_tree}
 use Rattle.store_model.specs.Pages.{page_count}
 use Rattle.store_model.specs.Images.{Represents}
 use Rattle.store_model.specs.Scripts.{script_limit}
 use Rattle.store_base.specs.Counts.{Rose}
-use Rattle.dump_streams.specs.Dumps.{dump}
 use Rattle.dump_streams.proofs.DumpFronts.{dumps_tell_trees}
 use Rattle.dump_streams.proofs.StepLemmas.{one_dump}
 use Rattle.disk_model.specs.DiskState.{DiskState}
@@ -35,7 +34,7 @@ use Rattle.image_subcommands.specs.declared.status.Status.TheVariants as statuse
 use Rattle.image_subcommands.specs.Endings.{attach_status}
 use Rattle.image_subcommands.specs.Outside.{Outside}
 use Rattle.image_subcommands.specs.Statuses.{Subcommand as words, Row, row, is_among, MayComeFirst, LoadsNothing}
-use Rattle.image_subcommands.specs.Statuses.{EndsBeforeListing, ComesExactly}
+use Rattle.image_subcommands.specs.Statuses.{IsDone, EndsBeforeListing, ComesExactly}
 use Rattle.image_subcommands.proofs.EachStatus.{implied}
 use Rattle.image_subcommands.proofs.StatusLemmas.{other_than}
 use Rattle.listing_subcommands.specs.LoadCall.{EndsBeforeTree, Lists, CanBeLoaded, TellsLoad, full_text}
@@ -90,7 +89,7 @@ module _ (u : Tree) (p : Parameters) (status : Status) (old new : DiskState) whe
       }
 
   -- what a load into it does then, which is not done
-  pub loads_none : (t : Tree) → (status ≡ statuses.Done → ⊥) → u ≡ empty_tree → KeepsTree u p status old new
+  pub loads_none : (t : Tree) → (IsDone status → ⊥) → u ≡ empty_tree → KeepsTree u p status old new
       → LoadsTree t p status old new
   loads_none t not_done empty keeps = record {
     loaded = λ e. absurd (not_done e);
@@ -131,8 +130,8 @@ keeps_unopened u p fault old new o refused keeps = record {
 pub loads_tree : {T : Type 0} (t : Tree) (p : Parameters) (status : Status) (old mid new : DiskState)
     (is_stopped : Bool) (result : Result T ApplyFault)
     → IsFitting empty_tree p → IsOpened empty_tree p old mid → ChangesImage empty_tree t p mid new is_stopped result
-    → (status ≡ statuses.Done → (value : T) × (result ≡ Ok value))
-    → (status ≡ statuses.Done → page_count t p ≤ p.slots)
+    → (IsDone status → (value : T) × (result ≡ Ok value))
+    → (IsDone status → page_count t p ≤ p.slots)
     → slots_between p empty_tree t ≡ page_count t p → LoadsTree t p status old new
 loads_tree {T} t p status old mid new is_stopped result fitting opened changes was_ok room count =
     let either = λ (image : List ℕ). old.crash_images image ⊎ (Represents image empty_tree p ⊎ Represents image t p) in
@@ -176,6 +175,9 @@ first_before : (status : Status) → MayComeFirst status → EndsBeforeListing s
 first_before = implied (λ s. (row s).may_come_first)
     (λ s. is_among words.Load (row s).words && not (row s).refuses_image && not (row s).is_read_whole) refl
 
+undone_first : (status : Status) → MayComeFirst status → IsDone status → ⊥
+undone_first status first done = grind arith
+
 -- nothing is printed of a tree that is too large
 none_printed : (p : Parameters) (script : List ℕ) (status : Status) (old new : SinkState)
     → (status ≡ statuses.TooFull → ⊥) → (status ≡ statuses.SinkFault → ⊥) → PrintsFull p script status old new
@@ -202,7 +204,7 @@ module _ (u : Tree) (p : Parameters) (script : List ℕ) (disk disk_new : DiskSt
         too_full = first_not status statuses.TooFull (ListsTooMany p script) EndsBeforeTree first refl
             (inr (first_before status first));
         unprinted = λ e. absurd (never statuses.SinkFault refl e);
-        done = λ e. absurd (never statuses.Done refl e);
+        done = λ e. absurd (undone_first status first e);
         printed = λ o. none_printed p script status sink sink_new (never statuses.TooFull refl)
             (never statuses.SinkFault refl);
         complete = λ t can within disk_whole source_whole. inr (memory disk_whole);
@@ -215,7 +217,7 @@ module _ (u : Tree) (p : Parameters) (script : List ℕ) (disk disk_new : DiskSt
     bad_listing = record { only = λ e. absurd (cc); always = λ h. inr refl };
     too_full = record { only = λ e. absurd (cc); always = λ h. inr (inr refl) };
     unprinted = λ e. absurd (cc);
-    done = λ e. absurd (cc);
+    done = λ e. absurd (false≢true e);
     printed = λ o. none_printed p script statuses.NotEmpty sink sink_new (λ e. cc) (λ e. cc);
     complete = λ t can within disk_whole source_whole. absurd (holds can.empty);
   }
@@ -232,7 +234,7 @@ module _ (u : Tree) (p : Parameters) (script : List ℕ) (disk disk_new : DiskSt
       bad_listing = record { only = λ e. absurd (cc); always = λ h. inr refl };
       too_full = record { only = λ e. absurd (cc); always = λ h. inr (inr refl) };
       unprinted = λ e. absurd (cc);
-      done = λ e. absurd (cc);
+      done = λ e. absurd (false≢true e);
       printed = λ o. none_printed p script statuses.SourceFault sink sink_new (λ e. cc) (λ e. cc);
       complete = λ t can within disk_whole source_whole. absurd (source_whole rose);
     }
@@ -244,7 +246,7 @@ module _ (u : Tree) (p : Parameters) (script : List ℕ) (disk disk_new : DiskSt
       bad_listing = record { only = λ e. absurd (cc); always = λ h. inr refl };
       too_full = record { only = λ e. absurd (cc); always = λ h. inr (inr refl) };
       unprinted = λ e. absurd (cc);
-      done = λ e. absurd (cc);
+      done = λ e. absurd (false≢true e);
       printed = λ o. none_printed p script statuses.TooLong sink sink_new (λ e. cc) (λ e. cc);
       complete = λ t can within disk_whole source_whole. absurd (long within);
     }
@@ -259,7 +261,7 @@ module _ (u : Tree) (p : Parameters) (script : List ℕ) (disk disk_new : DiskSt
         always = λ many. absurd (lists_some many.tree p script many.lists none);
       };
       unprinted = λ e. absurd (cc);
-      done = λ e. absurd (cc);
+      done = λ e. absurd (false≢true e);
       printed = λ o. none_printed p script statuses.BadListing sink sink_new (λ e. cc) (λ e. cc);
       complete = λ t can within disk_whole source_whole. absurd (lists_some t p script can.lists none);
     }
@@ -309,7 +311,7 @@ module _ (u : Tree) (p : Parameters) (script : List ℕ) (disk disk_new : DiskSt
           bad_listing = is_listing statuses.TooFull (λ e. cc);
           too_full = record { only = λ e. too_many; always = λ h. inl refl };
           unprinted = λ e. absurd (cc);
-          done = λ e. absurd (cc);
+          done = λ e. absurd (false≢true e);
           printed = λ o. record {
             line = λ e v other. subst (λ (w : Tree). sink_new.written ≡ sink.written ++ full_text w p)
                 (lists_one t v p script lists other) (written o);
@@ -325,7 +327,7 @@ module _ (u : Tree) (p : Parameters) (script : List ℕ) (disk disk_new : DiskSt
           bad_listing = is_listing statuses.SinkFault (λ e. cc);
           too_full = record { only = λ e. absurd (cc); always = λ h. inr (inl refl) };
           unprinted = λ e. too_many;
-          done = λ e. absurd (cc);
+          done = λ e. absurd (false≢true e);
           printed = λ o. record {
             line = λ e. absurd (cc);
             in_part = λ e v other. subst (λ (w : Tree). AppendsPrefix sink.written sink_new.written (full_text w p))
@@ -347,7 +349,7 @@ module _ {D R W : Type 0} (disk_of : D → DiskState) (source_of : R → SourceS
   new = disk_of after.disk
 
   -- nothing was loaded
-  pub from_kept : (after.status ≡ statuses.Done → ⊥) → KeepsTree u p after.status old new
+  pub from_kept : (IsDone after.status → ⊥) → KeepsTree u p after.status old new
       → (after.status ≡ statuses.NoMemory → Stands new u p ⊎ LeavesImage old new)
       → LoadsFrom disk_of source_of sink_of u p script before after
   from_kept not_done keeps no_memory = record {

@@ -29,7 +29,7 @@ use Rattle.image_subcommands.specs.declared.status.Status.TheVariants as statuse
 use Rattle.image_subcommands.specs.Limits.{KeepsLimit}
 use Rattle.image_subcommands.specs.Outside.{Outside, IsIdle}
 use Rattle.image_subcommands.specs.Statuses.{Subcommand as words, MayComeFirst, LoadsNothing, EndsBeforeListing}
-use Rattle.image_subcommands.specs.Statuses.{IsReadWhole, ComesExactly, done_of_work}
+use Rattle.image_subcommands.specs.Statuses.{IsDone, IsReadWhole, ComesExactly, done_of_work}
 use Rattle.image_work.specs.Works.{Works}
 
 -- a call may end so before the tree of its listing is judged
@@ -71,15 +71,15 @@ pub record PrintsFull (p : Parameters) (script : List ℕ) (status : Status) (ol
 -- The tree of a listing is loaded into an image of the empty tree.
 pub record LoadsTree (t : Tree) (p : Parameters) (status : Status) (old new : DiskState) : Type 0 where
   -- where it is done the disk reads the layout of the tree, and nothing is pending
-  pub loaded : status ≡ statuses.Done → Stands new t p
-  pub room : status ≡ statuses.Done → page_count t p ≤ p.slots
+  pub loaded : IsDone status → Stands new t p
+  pub room : IsDone status → page_count t p ≤ p.slots
   -- an image that a crash at any moment of the call may leave is one that a crash before it might have left, or
   -- represents the empty tree or this one; and the disk reads such an image, after a fault too
   pub crash : LeavesOnly old new (λ image. old.crash_images image
       ⊎ (Represents image empty_tree p ⊎ Represents image t p))
   pub reads : Represents new.bytes empty_tree p ⊎ Represents new.bytes t p
   -- the slots that hold its pages are committed together, and the image was opened
-  pub made : status ≡ statuses.Done → Made (opening_writes p.slots old.bytes + commit_writes (page_count t p))
+  pub made : IsDone status → Made (opening_writes p.slots old.bytes + commit_writes (page_count t p))
       (opening_syncs p.slots old.bytes + commit_syncs (page_count t p)) old new
   pub limit : MadeAtMost (opening_writes p.slots old.bytes + commit_writes (page_count t p))
       (opening_syncs p.slots old.bytes + commit_syncs (page_count t p)) old new
@@ -101,12 +101,12 @@ pub record TellsLoad (u : Tree) (p : Parameters) (script : List ℕ) (status : S
   pub bad_listing : ComesExactly statuses.BadListing (ListsNone p script) EndsBeforeListing status
   pub too_full : ComesExactly statuses.TooFull (ListsTooMany p script) EndsBeforeTree status
   pub unprinted : status ≡ statuses.SinkFault → ListsTooMany p script
-  pub done : status ≡ statuses.Done → (t : Tree) × CanBeLoaded u t p script
+  pub done : IsDone status → (t : Tree) × CanBeLoaded u t p script
   pub printed : sinks.IsObservable sink → PrintsFull p script status sink sink_new
   -- it is done where the script can be loaded and is within its limit, no call failed and memory was there
   pub complete : (t : Tree) → CanBeLoaded u t p script → length script ≤ script_limit
       → (Rose disk.faults disk_new.faults → ⊥) → (Rose source.faults source_new.faults → ⊥)
-      → (status ≡ statuses.Done) ⊎ (status ≡ statuses.NoMemory)
+      → IsDone status ⊎ (status ≡ statuses.NoMemory)
 
 module _ {D R W : Type 0} (disk_of : D → DiskState) (source_of : R → SourceState) (sink_of : W → SinkState) where
   -- A load into an image that represents the tree u, of a listing that the source tells.

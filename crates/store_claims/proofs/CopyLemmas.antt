@@ -13,6 +13,7 @@ use Rattle.dump_streams.specs.Dumps.{dump_text, IsListing}
 use Rattle.dump_streams.specs.Laws.{RunsListing}
 use Rattle.image_subcommands.specs.declared.status.Status.TheVariants as statuses
 use Rattle.image_subcommands.specs.Outside.{outside_of}
+use Rattle.image_subcommands.specs.Statuses.{IsDone}
 use Rattle.listing_subcommands.specs.DumpCall.{DumpsTree}
 use Rattle.listing_subcommands.specs.LoadCall.{Lists, LoadsFrom}
 use Rattle.store_claims.specs.Answered.{AnswersScript}
@@ -58,7 +59,7 @@ copies_image t p disk lines empty source sink copied short listing represents no
         let is = under t p (bytes_of disk) represents in
         record { under = is; listing = subst (IsListing t) (sym (text dumped)) (listing t p is) }
 
-    image : copied.dump.status ≡ statuses.Done → copied.load.status ≡ statuses.Done → HasImage copied.load.disk t p
+    image : copied.dump.status ≡ statuses.Done → IsDone copied.load.status → HasImage copied.load.disk t p
     image dumped loaded = image_of copied.load.disk t p ((load.loads refl t (lists dumped)).loaded loaded)
 
 -- ---- a load that is a run
@@ -94,7 +95,7 @@ loads_as_run p loaded run source other sink run_sink both law same load answers 
 }
   where
     -- what a run of the lines does
-    runs : (done : both.load.status ≡ statuses.Done) → RunsListing (load.tells.done done).0 p source.left
+    runs : (done : IsDone both.load.status) → RunsListing (load.tells.done done).0 p source.left
     runs done =
         let some = load.tells.done done in
         let lists = some.1.lists in

@@ -1,13 +1,13 @@
 -- A crash leaves all of a load or nothing: from what the load did, and the run behind it.
-use Rattle.std.proofs.Common.{◌≡◌, ◌⊎◌, List, ℕ, inl, inr, refl, sym, ◌∙◌, subst, ⊎_elim}
+use Rattle.std.proofs.Common.{◌⊎◌, List, ℕ, inl, inr, refl, sym, ◌∙◌, subst, ⊎_elim}
 use Rattle.store_model.specs.Parameters.{Parameters}
 use Rattle.store_model.specs.Trees.{Tree, empty_tree}
 use Rattle.store_model.specs.Images.{Represents}
 use Rattle.store_model.proofs.ImagesLemmas.{Represents-layout}
 use Rattle.disk_model.specs.DiskState.{MayLeaveOnly}
 use Rattle.script_lines.specs.Memory.{SourceMemory, SinkMemory, source_state, sink_state}
-use Rattle.image_subcommands.specs.declared.status.Status.TheVariants as statuses
 use Rattle.image_subcommands.specs.Outside.{outside_of}
+use Rattle.image_subcommands.specs.Statuses.{IsDone}
 use Rattle.listing_subcommands.specs.LoadCall.{Lists, LoadsTree, LoadsFrom}
 use Rattle.store_claims.specs.declared.crash.Crash.{Crash}
 use Rattle.store_claims.specs.Crashes.{RunsBehind}
@@ -38,7 +38,7 @@ leaves_all_or_nothing t p failing source sink left crash only is load behind = r
     left_is might = ⊎_elim (λ before. inl (only left before)) (λ either. either) (whole.crash.each left might)
 
     -- and behind a load that was done, of that of the lines
-    left_all : crash.first.status ≡ statuses.Done → MayLeave crash.first.disk left → Represents left t p
+    left_all : IsDone crash.first.status → MayLeave crash.first.disk left → Represents left t p
     left_all loaded may =
         let stands = whole.loaded loaded in
         let in_range = (read_is failing (λ (image : List ℕ). Represents image empty_tree p) only).names.in_range in

@@ -40,13 +40,13 @@ accepted : (status : Status) → (status ≡ statuses.NotImage → ⊥) → (sta
     → not (row status).refuses_image ≡ true
 accepted status image whole = grind arith
 
--- and one that isn't done stops
-undone : (status : Status) → (status ≡ statuses.Done → ⊥) → not (row status).is_done ≡ true
-undone status other = grind arith
+-- and a run or an upgrade that does not end with 0 stops
+pub run_stop : (status : Status) → IsEndOf words.Run status → (status ≡ statuses.Done → ⊥) → IsStopOf words.Run status
+run_stop status ends other = grind arith
 
-pub stop_of : (word : Subcommand) (status : Status) → IsEndOf word status → (status ≡ statuses.Done → ⊥)
-    → IsStopOf word status
-stop_of word status ends other = and_from _ _ ends (undone status other)
+pub upgrade_stop : (status : Status) → IsEndOf words.Upgrade status → (status ≡ statuses.Done → ⊥)
+    → IsStopOf words.Upgrade status
+upgrade_stop status ends other = grind arith
 
 -- over the image of a tree a call ends as one that found its image
 pub found : (word : Subcommand) (t : Tree) (p : Parameters) (disk : Disk) (status : Status) → IsStatusOf word status

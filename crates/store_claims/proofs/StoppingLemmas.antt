@@ -15,7 +15,7 @@ use Rattle.image_subcommands.specs.Statuses.{source_faults_by, sink_faults_by}
 use Rattle.script_runs.specs.ScriptCall.{IsRun}
 use Rattle.store_claims.specs.Machines.{Disk, Ended, bytes_of, meaning}
 use Rattle.store_claims.specs.Makings.{SparesCounts, StopsRuns, StopsFormat}
-use Rattle.store_claims.proofs.RunWays.{stop_of, way}
+use Rattle.store_claims.proofs.RunWays.{run_stop, way}
 
 -- an error that is handed on as it is
 pub handed_on : {T E : Type 0} (P : E → Type 0) (fault : E) (result : Result T E) → IsErrAnd result (λ e. e ≡ fault)
@@ -56,7 +56,7 @@ module _ (disk : Disk) (source : SourceMemory) (sink : SinkMemory) (after : Ende
       → IsRun meaning source_state sink_state (outside_of disk source sink) after → Represents (bytes_of disk) t p
       → (after.status ≡ statuses.Done → ⊥) → StopsRuns disk (λ script. script ≡ source) sink after
   run_stops t p run represents other = record {
-    ends = stop_of words.Run after.status (way (λ status ends. ends) t p disk source sink after run represents) other;
+    ends = run_stop after.status (way (λ status ends. ends) t p disk source sink after run represents) other;
     disk_fault = disk_by statuses.DiskFault;
     sink_fault = sink_by statuses.SinkFault;
     source_fault = λ e. (source, refl, source_by statuses.SourceFault e);

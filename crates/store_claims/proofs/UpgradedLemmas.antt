@@ -32,7 +32,7 @@ use Rattle.store_claims.specs.Upgrades.{HaveSameArguments, AreSameScripts, IsNot
 use Rattle.store_claims.specs.Upgrades.{StopsUpgrade}
 use Rattle.store_claims.proofs.MakingLemmas.{represented}
 use Rattle.store_claims.proofs.RequestedParameters.{format_by}
-use Rattle.store_claims.proofs.RunWays.{found, image_of, stop_of}
+use Rattle.store_claims.proofs.RunWays.{found, image_of, upgrade_stop}
 use Rattle.store_claims.proofs.StoppingLemmas.{disk_by}
 
 -- ---- words
@@ -149,7 +149,7 @@ pub upgrade_stops : (t : Tree) (p : Parameters) (disk : Disk) (source : SourceMe
 upgrade_stops t p disk source sink after upgrade outside is image other =
     let on_disk = upgrade.observed refl in
     record {
-      ends = stop_of words.Upgrade after.status (found words.Upgrade t p disk after.status upgrade.ends
+      ends = upgrade_stop after.status (found words.Upgrade t p disk after.status upgrade.ends
           on_disk.not_image on_disk.damaged (represented disk t p is image)) other;
       disk_fault = disk_by disk source sink after outside statuses.DiskFault;
     }

@@ -14,7 +14,8 @@ use Rattle.script_lines.specs.SourceState.{SourceState}
 use Rattle.script_lines.specs.SourceState as sources
 use Rattle.script_lines.specs.SinkState.{SinkState}
 use Rattle.image_subcommands.specs.declared.status.Status.{Status}
-use Rattle.image_subcommands.specs.declared.status.Status.TheVariants.{Done, NoMemory}
+use Rattle.image_subcommands.specs.declared.status.Status.TheVariants.{NoMemory}
+use Rattle.image_subcommands.specs.Statuses.{IsDone}
 use Rattle.listing_subcommands.specs.LoadCall.{CanBeLoaded}
 
 -- no call of the disk, the source or the sink failed
@@ -26,7 +27,7 @@ pub record NoneFailed (disk disk_new : DiskState) (source source_new : SourceSta
 
 -- the work is done, or memory ran out
 abbrev pub IsDoneOrLacks : Status → Type 0
-IsDoneOrLacks status = (status ≡ Done) ⊎ (status ≡ NoMemory)
+IsDoneOrLacks status = IsDone status ⊎ (status ≡ NoMemory)
 
 -- the disk holds an image into which a listing that the script is can be loaded
 abbrev pub TakesListing : DiskState → List ℕ → Type 0

@@ -4,6 +4,7 @@ use Rattle.store_model.specs.Parameters.{Parameters}
 use Rattle.store_model.specs.Trees.{Tree, empty_tree}
 use Rattle.disk_model.specs.Memory.{Memory, memory_state}
 use Rattle.image_subcommands.specs.declared.status.Status.TheVariants as statuses
+use Rattle.image_subcommands.specs.Statuses.{IsDone}
 use Rattle.store_claims.specs.declared.crash.Crash.{Crash}
 use Rattle.store_claims.specs.Crashes.{NeverFailed}
 use Rattle.store_claims.specs.Machines.{HasImage, MayLeave, MightHaveLeft}
@@ -15,7 +16,7 @@ pub record LeavesAllOrNothing (t : Tree) (p : Parameters) (disk : Memory) (left 
   pub either : MightHaveLeft (memory_state disk).clock crash.first.disk left → crash.next.status ≡ statuses.Done
       → HasImage crash.next.disk empty_tree p ⊎ HasImage crash.next.disk t p
   -- of an image that a crash after a load that was done may leave
-  pub acknowledged : crash.first.status ≡ statuses.Done → MayLeave crash.first.disk left
+  pub acknowledged : IsDone crash.first.status → MayLeave crash.first.disk left
       → crash.next.status ≡ statuses.Done → HasImage crash.next.disk t p
   -- and it ends so where no call of it failed and memory was there
   pub recovers : MightHaveLeft (memory_state disk).clock crash.first.disk left → NeverFailed crash.next

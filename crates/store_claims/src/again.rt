@@ -33,8 +33,8 @@ fn source_of(alloc: Global, sink: &MemSink) -> Result<MemSource, NoMemory>
 }
 
 /// Dumps an image to an empty sink, and loads what it put out into another one, which is empty and has the same
-/// parameters. Where both end with 0, the two images are equal, byte for byte. `CopiesImage` says when the load of a
-/// whole dump ends with 0.
+/// parameters. Where both succeed, the two images are equal, byte for byte. `CopiesImage` says when the load of a whole
+/// dump does.
 ///
 /// `NoMemory`: there was none for the words, or for the bytes between.
 pub fn a_dump_is_loaded_again(

@@ -19,7 +19,7 @@ use store_base::NoMemory;
 /// Loads a listing into an empty image on a disk that fails from its call `from` on, and then runs no line on an
 /// image that a crash may have left, whichever of these it is. Where the run ends with 0 the image is, byte for byte,
 /// that of the empty tree or that of the tree that the lines say; it is the latter where the crash came after a load
-/// that ended with 0. The run ends with 0 unless a call of it fails or memory is short.
+/// that succeeded. The run ends with 0 unless a call of it fails or memory is short.
 ///
 /// `NoMemory`: there was none for the run's disk and sink, or for the word `load` or `run`.
 pub fn a_crash_leaves_all_of_a_load_or_nothing(

@@ -16,7 +16,7 @@ use std::alloc::Global;
 use store_base::NoMemory;
 use store_top::top;
 
-/// Loads a listing into an image. With status 0 the lines are those of the dump of a tree that could be loaded
+/// Loads a listing into an image. Where that succeeds the lines are those of the dump of a tree that could be loaded
 /// (`CanBeLoaded`), and the image is that of this tree, by one commit. `TellsLoad` says exactly where each status comes
 /// that refuses the image or the listing. After these the image is that of the tree that it had. However the load ends,
 /// and whenever a crash comes, all of the tree is loaded or nothing of it.

@@ -22,8 +22,8 @@ pub struct LoadAndRun {
     pub run: Ended,
 }
 
-/// Loads a script into an empty image, and runs the same script on another one of the same parameters. Where both end
-/// with 0, the run answered each line with `ok`, and the two images are equal, byte for byte.
+/// Loads a script into an empty image, and runs the same script on another one of the same parameters. Where both
+/// succeed, the run answered each line with `ok`, and the two images are equal, byte for byte.
 ///
 /// `NoMemory`: there was none for the words.
 pub fn a_load_is_a_run(alloc: Global, loaded: Machine, run: Machine) -> Result<LoadAndRun, NoMemory>
