@@ -1,10 +1,10 @@
 -- What is said of the recovered image is said of the disk below.
-use Rattle.std.proofs.Common.{◌≡◌, ℕ, ◌+◌, ◌-◌, ◌^◌, ◌<◌, ◌≤◌, List, length, Bool, true, false, nat_le, refl, sym, ap}
+use Rattle.std.proofs.Common.{◌≡◌, ℕ, ◌≤◌, List, length, Bool, true, false, nat_le, refl, sym, ap}
 use Rattle.std.proofs.Common.{subst, ◌∙◌}
 use Rattle.std.proofs.Common.{arith, leb-true}
 use Rattle.std.proofs.lemmas.Bool.{leb-false}
-use Rattle.store_base.specs.Counts.{raised, raised_by, Rose}
-use Rattle.store_model.specs.Parameters.{Parameters, IsParameters, image_len}
+use Rattle.store_base.specs.Counts.{raised, raised_by}
+use Rattle.store_model.specs.Parameters.{Parameters}
 use Rattle.store_model.specs.Trees.{Tree}
 use Rattle.store_model.specs.Images.{Represents, recovered, viewed_header, header}
 use Rattle.store_model.proofs.ImagesLemmas.{Represents-recovered, recovered-recovered, length-recovered}
@@ -13,7 +13,6 @@ use Rattle.store_model.proofs.TreesLemmasBytes.{viewed_headers_same}
 use Rattle.disk_model.specs.DiskState.{DiskState, IsObservable}
 use Rattle.gate_journal.specs.Phases.{HasEmptyJournal}
 use Rattle.gate_journal.specs.Headers.{IsImageWith, HasParameters}
-use Rattle.gate_journal.specs.Costs.{MadeAtMost, opening_writes, opening_syncs}
 use Rattle.gate_journal.proofs.Recovering.{empty-recovered}
 use Rattle.gate_journal.proofs.Openings.{opening_of_empty}
 use Rattle.recovered_store.specs.RecoveredDisks.{IsRecoveredOf}
@@ -104,6 +103,7 @@ module _ (below disk : DiskState) (is : IsRecoveredOf below disk) where
       fitting = attached.fitting;
       runs = attached.runs;
       observable = attached.kept.observable ∙ is.observable;
+      faults = attached.faults ∙ is.counts.faults;
       represents = λ seen. represents_below seen store.tree store.params
           (attached.observed (seen_too seen)).represents;
       stands = λ seen. (attached.observed (seen_too seen)).stands;

@@ -2,3 +2,4 @@ mod Blocks
 mod Filling
 mod RecoveredImages
 mod Attaching
+pub mod BelowLemmas

@@ -1,3 +1,4 @@
+pub mod BelowDisks
 pub mod SlotsDisks
 pub mod RecoveredDisks
 pub mod RecoveredStores

@@ -1,6 +1,6 @@
 -- A store over the image that recovery would leave of a disk.
-use Rattle.std.specs.Prelude.{◌≡◌, ℕ, false}
-use Rattle.store_base.specs.Counts.{Rose}
+use Rattle.std.specs.Prelude.{◌≡◌, false}
+use Rattle.store_base.specs.Counts.{Rose, raised_by}
 use Rattle.store_model.specs.Images.{Represents}
 use Rattle.disk_model.specs.DiskState.{DiskState, IsObservable}
 use Rattle.gate_journal.specs.Headers.{HasParameters}
@@ -24,6 +24,8 @@ pub record IsOpened {R : Type 0} (state : R → DiskState) (old : DiskState) (st
   pub fitting : IsFitting store.tree store.params
   pub runs : store.is_stopped ≡ false
   pub observable : (state store.disk).is_observable ≡ old.is_observable
+  -- no call failed, as far as the count goes
+  pub faults : (state store.disk).faults ≡ raised_by old.faults 0
   pub represents : IsObservable old → Represents old.bytes store.tree store.params
   pub stands : IsObservable old → Stands (state store.disk) store.tree store.params
   pub unwritten : IsObservable old → (state store.disk).writes ≡ 0

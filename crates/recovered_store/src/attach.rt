@@ -1,9 +1,11 @@
 //! How a disk becomes a store that only reads.
 
 ghost use Rattle.std.specs.Prelude.{◌≡◌, IfOk, IfErr};
+ghost use Rattle.disk_model.specs.DiskState.{IsObservable};
+ghost use Rattle.recovered_store.specs.BelowDisks.{IsOver, IsUntouched};
 ghost use Rattle.recovered_store.specs.RecoveredStores.{IsOpened, IsRefused, attach_fault_of};
 
-use crate::{SlotsDisk, ViewFault, open_recovered};
+use crate::{SlotsDisk, ViewFault, into_below, open_recovered};
 use disk_model::Disk;
 use gate_journal::View;
 use std::alloc::Global;
@@ -32,6 +34,10 @@ pub fn attach_recovered<D: Disk>(
 ) -> Result<Store<SlotsDisk<View<D>>>, (AttachFault, D)>
     ensures opened { IfOk result
         (IsOpened (⟦<SlotsDisk<View<D>> as Disk>⟧.state) (D.state disk)) }
+    ensures over { IfOk result (λ store. IsObservable (D.state disk)
+        → IsOver (D.state disk) (⟦<SlotsDisk<View<D>> as Disk>⟧.state store.disk)) }
+    ensures untouched { IfErr result (λ refused. IsObservable (D.state disk)
+        → IsUntouched (D.state disk) (D.state refused.1)) }
     ensures refused { IfErr result
         (λ refused. IsRefused (D.state disk) refused.0 (D.state refused.1)) }
 {
@@ -41,6 +47,6 @@ pub fn attach_recovered<D: Disk>(
     };
     match Store::attach(alloc, recovered) {
         Ok(store) => Ok(store),
-        Err((fault, recovered)) => Err((fault, recovered.into_slots().into_disk())),
+        Err((fault, recovered)) => Err((fault, into_below(recovered))),
     }
 }

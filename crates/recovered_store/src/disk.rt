@@ -6,6 +6,7 @@ ghost use Rattle.store_model.specs.Images.{bytes_at};
 ghost use Rattle.store_base.specs.SlotsState.{IsObservable, TakesNone};
 ghost use Rattle.recovered_store.specs.SlotsDisks.{image_of, ReadsSlots, IsPart};
 
+use crate::below::DiskSlots;
 use disk_model::Disk;
 use store_base::{DiskFault, Params, ReadSlots, image_len as len_of, table_at, write_header};
 use store_model::{BLOCK, Slot};
@@ -68,6 +69,7 @@ impl<S: ReadSlots> SlotsDisk<S> {
         ensures params { self.new.params ≡ self.old.params }
         ensures refused { self.new.refused ≡ self.old.refused }
         ensures syncs { self.new.syncs ≡ self.old.syncs }
+        ensures follows { S.follows self.old.slots self.new.slots }
         ensures bytes { IsObservable (S.state self.old.slots)
             → OnOk result (into.new
             ≡ bytes_at (image_of self.old.params (S.state self.old.slots).slots)
@@ -98,6 +100,7 @@ impl<S: ReadSlots> SlotsDisk<S> {
         ensures params { self.new.params ≡ self.old.params }
         ensures refused { self.new.refused ≡ self.old.refused }
         ensures syncs { self.new.syncs ≡ self.old.syncs }
+        ensures follows { S.follows self.old.slots self.new.slots }
         ensures part { IfOk result (λ count. IsPart count into.new) }
         ensures bytes { IsObservable (S.state self.old.slots)
             → IfOk result (λ count. take count into.new
@@ -120,6 +123,7 @@ impl<S: ReadSlots> SlotsDisk<S> {
         ensures params { self.new.params ≡ self.old.params }
         ensures refused { self.new.refused ≡ self.old.refused }
         ensures syncs { self.new.syncs ≡ self.old.syncs }
+        ensures follows { S.follows self.old.slots self.new.slots }
         ensures part { IfOk result (λ count. IsPart count into.new) }
         ensures bytes { IsObservable (S.state self.old.slots)
             → IfOk result (λ count. take count into.new
@@ -141,6 +145,7 @@ impl<S: ReadSlots> SlotsDisk<S> {
         ensures params { self.new.params ≡ self.old.params }
         ensures refused { self.new.refused ≡ self.old.refused }
         ensures syncs { self.new.syncs ≡ self.old.syncs }
+        ensures follows { S.follows self.old.slots self.new.slots }
         ensures part { IfOk result (λ count. IsPart count into.new) }
         ensures bytes { IsObservable (S.state self.old.slots)
             → IfOk result (λ count. take count into.new
@@ -162,6 +167,7 @@ impl<S: ReadSlots> SlotsDisk<S> {
         ensures params { self.new.params ≡ self.old.params }
         ensures refused { self.new.refused ≡ self.old.refused }
         ensures syncs { self.new.syncs ≡ self.old.syncs }
+        ensures follows { S.follows self.old.slots self.new.slots }
         ensures bytes { IsObservable (S.state self.old.slots)
             → OnOk result (into.new
             ≡ bytes_at (image_of self.old.params (S.state self.old.slots).slots) at
@@ -175,13 +181,14 @@ impl<S: ReadSlots> SlotsDisk<S> {
     }
 }
 
-impl<S: ReadSlots> Disk for SlotsDisk<S> {
+impl<S: DiskSlots> Disk for SlotsDisk<S> {
     ghost use Rattle.recovered_store.specs.SlotsDisks.{disk_state, disk_sound};
 
-    ghost state = { λ disk. disk_state (S.state disk.slots) disk.params disk.refused disk.syncs };
+    ghost state = { λ disk. disk_state (S.state disk.slots) (S.below disk.slots)
+        disk.params disk.refused disk.syncs };
 
-    ghost sound = { λ disk observable. disk_sound (S.state disk.slots) disk.params disk.refused
-        disk.syncs disk.in_range disk.counted (S.counted disk.slots observable)
+    ghost sound = { λ disk observable. disk_sound (S.state disk.slots) (S.below disk.slots)
+        disk.params disk.refused disk.syncs disk.in_range disk.counted (S.counted disk.slots observable)
         (S.whole disk.slots observable) };
 
     fn len(&self) -> u64 {

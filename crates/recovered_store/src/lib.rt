@@ -7,9 +7,11 @@
 #![tactic(auto)]
 
 mod attach;
+mod below;
 mod disk;
 mod recovered;
 
 pub use attach::attach_recovered;
+pub use below::{DiskSlots, into_below};
 pub use disk::SlotsDisk;
 pub use recovered::{ViewFault, open_recovered, recovered_disk};

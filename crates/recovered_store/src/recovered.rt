@@ -4,6 +4,7 @@ ghost use Rattle.std.specs.Prelude.{◌≡◌, IfOk, IfErr};
 ghost use Rattle.store_model.specs.Parameters.{image_len};
 ghost use Rattle.store_model.specs.Images.{NamesParameters, recovered};
 ghost use Rattle.disk_model.specs.DiskState.{IsObservable};
+ghost use Rattle.recovered_store.specs.BelowDisks.{IsOver};
 ghost use Rattle.recovered_store.specs.RecoveredDisks.{HasCounts, IsRecoveredOf, IsNotOpened};
 
 use crate::disk::SlotsDisk;
@@ -35,6 +36,8 @@ pub fn recovered_disk<D: Disk>(disk: D, params: &Params) -> SlotsDisk<View<D>>
     ensures bytes { IsObservable (D.state disk)
         → (⟦<SlotsDisk<View<D>> as Disk>⟧.state result).bytes
         ≡ recovered params.now.slots (D.state disk).bytes }
+    ensures over { IsObservable (D.state disk)
+        → IsOver (D.state disk) (⟦<SlotsDisk<View<D>> as Disk>⟧.state result) }
     ensures counts { HasCounts (D.state disk) (⟦<SlotsDisk<View<D>> as Disk>⟧.state result) }
 {
     SlotsDisk::new(View::new(disk, params), params)
@@ -46,6 +49,8 @@ pub fn recovered_disk<D: Disk>(disk: D, params: &Params) -> SlotsDisk<View<D>>
 pub fn open_recovered<D: Disk>(mut disk: D) -> Result<SlotsDisk<View<D>>, (ViewFault, D)>
     ensures opened { IfOk result (λ opened. IsRecoveredOf (D.state disk)
         (⟦<SlotsDisk<View<D>> as Disk>⟧.state opened)) }
+    ensures over { IfOk result (λ opened. IsObservable (D.state disk)
+        → IsOver (D.state disk) (⟦<SlotsDisk<View<D>> as Disk>⟧.state opened)) }
     ensures refused { IfErr result (λ refused. IsNotOpened (D.state disk) refused.0
         (D.state refused.1)) }
 {

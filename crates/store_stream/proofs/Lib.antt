@@ -1,8 +1,8 @@
-pub mod NextBelow
-pub mod PartLaws
+pub mod FirstNames
+pub mod KeyPlaces
 pub mod PartPairs
 pub mod PartTrees
-pub mod PathLemmas
+pub mod PartsLemmas
 pub mod PullLemmas
 pub mod RootedSteps
 pub mod RootedTrees

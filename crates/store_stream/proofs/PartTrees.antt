@@ -1,214 +1,323 @@
--- The part of a tree at a path is a tree.
-use Rattle.std.proofs.Common.{◌≡◌, ℕ, zero, suc, ◌+◌, ◌-◌, ◌<◌, ◌≤◌, [], ◌∷◌, ◌++◌, length, take, drop}
-use Rattle.std.proofs.Common.{Bool, true, false, cond, ◌⊎◌, inl, inr, IsTrue, Some, refl, sym, ap, subst, ◌∙◌, arith}
-use Rattle.std.specs.List.{AllByRecursion, list_all, filter}
-use Rattle.std.specs.List.Sorted.{IsStrictlySortedBy}
+-- The parts of a tree at some paths are a tree.
+use Rattle.std.proofs.Common.{◌≡◌, [], ◌∷◌, ◌++◌, List, length, drop, map, Bool, true, false, cond, ◌&&◌, ◌||◌}
+use Rattle.std.proofs.Common.{◌⊎◌, inl, inr, Option, Some, None, refl, sym, ap, ap₂, ◌∙◌}
+use Rattle.std.specs.List.{AllByRecursion, filter}
+use Rattle.std.specs.List.Sorted.{IsPermutation}
 use Rattle.std.specs.FinMap.{find}
-use Rattle.std.specs.FinMap.Entries.{find-where_key}
-use Rattle.std.proofs.lemmas.Bool.{and_parts, and_from, cond-true, le-leb, leb-true}
-use Rattle.std.proofs.lemmas.List.{append-nil, append_assoc, length-append, take-append-drop, take_all}
-use Rattle.std.proofs.lemmas.List.Folds.{list_all-append}
-use Rattle.std.proofs.lemmas.List.Concat.{flat_map-append}
-use Rattle.store_model.specs.Lists.{numbers_from}
+use Rattle.std.specs.Ordering.{eq_by_cmp}
+use Rattle.std.proofs.lemmas.Bool.{and_from, and_parts, or_left, or_right, false≢true}
+use Rattle.std.proofs.lemmas.List.{append-nil, append_assoc}
+use Rattle.std.proofs.lemmas.List.Kept.{IsStrictlySortedBy-filter}
+use Rattle.std.proofs.lemmas.List.Sorted.{list_any-IsPermutation}
+use Rattle.std.proofs.lemmas.Option.{none-some, same_Some}
 use Rattle.store_model.specs.Parameters.{Parameters}
-use Rattle.store_model.specs.Paths.{Path, Name, is_root, is_name, is_path, path_cmp, same_path, parent, is_at_or_inside}
-use Rattle.store_model.specs.Paths.{name_bytes, field_len, fits_field}
-use Rattle.store_model.specs.Trees.{Tree, Entry, IsNode, IsTree, IsEntry, AreAttributes, is_directory}
+use Rattle.store_model.specs.Paths.{Path, root, is_root, path_cmp, same_path, parent, is_inside, is_at_or_inside}
+use Rattle.store_model.specs.Trees.{Tree, Entry, IsNode, IsTree, IsEntry, AreAttributes, is_directory, node_at, node_of}
 use Rattle.store_model.specs.Trees.{is_directory_node}
-use Rattle.store_model.specs.Trees.{node_of}
 use Rattle.store_model.specs.Pages.{IsTreeUnder}
-use Rattle.store_model.proofs.ListsLemmas.{all_weaker, all_filter, all_append, all_none, all_map}
-use Rattle.store_model.proofs.ListsLemmas.{rising_cons, rising_from_is_sorted, is_sorted_from_rising}
+use Rattle.store_model.proofs.ListsLemmas.{all_map, all_filter, rising_to_map, rising_from_is_sorted}
+use Rattle.store_model.proofs.ListsLemmas.{is_sorted_from_rising}
 use Rattle.store_model.proofs.PairsLemmas.{entry_cmp}
-use Rattle.store_model.proofs.PathsLemmasPlaces.{below_longer}
-use Rattle.store_model.proofs.TreesLemmas.{sorted-where_key, all_kept}
-use Rattle.store_model.proofs.TreesLemmasPaths.{same_from_tie, same_path-itself, at_or_inside-append}
-use Rattle.store_model.proofs.TreesLemmasPaths.{at_or_inside-split}
-use Rattle.store_model.proofs.TreesLemmasPaths.{last_step, parent-push, parent-root}
-use Rattle.store_stream.specs.Parts.{bare_directory, directories_from, directories_to, entries_at, part_at}
+use Rattle.store_model.proofs.TreesLemmasPaths.{same_from_test, same_path-itself, inside-append, at_or_inside-append}
+use Rattle.store_model.proofs.TreesLemmasPaths.{at_or_inside-split, last_step, parent-push}
+use Rattle.dir_tree.proofs.OrderLemmas.{at_or_inside_root}
+use Rattle.store_stream.specs.Parts.{bare_directory, is_within, is_above, is_kept, entry_kept, parts_at}
+use Rattle.store_stream.specs.Rooted.{tree_below}
 
--- ---- the first names of a path
+-- ---- the paths above
 
--- they are a path
-pub is_path-take : (n : ℕ) (q : Path) → IsTrue (is_path q) → IsTrue (is_path (take n q))
-unfolding name_bytes
-is_path-take n q h =
-    let parts = and_parts (list_all is_name q) (fits_field q) h in
-    let split : q ≡ take n q ++ drop n q = sym (take-append-drop n q) in
-    let names = and_parts (list_all is_name (take n q)) (list_all is_name (drop n q))
-    (sym (list_all-append is_name (take n q) (drop n q)) ∙ ap (list_all is_name) (sym split) ∙ parts.0) in
-    let len : field_len q ≡ field_len (take n q) + field_len (drop n q) =
-    ap field_len split ∙ ap length (flat_map-append (λ m. m ++ 0 ∷ []) (take n q) (drop n q))
-    ∙ length-append (name_bytes (take n q)) (name_bytes (drop n q)) in
-    and_from _ _ names.0 (le-leb (field_len (take n q)) 120 (omega (arith, len, leb-true (field_len q) 120 parts.1)))
-
--- one more of them
-pub take_one_more : (k : ℕ) (q : Path) → k < length q → (n : Name) × (take (suc k) q ≡ take k q ++ n ∷ [])
-take_one_more k [] l = absurd (omega arith)
-take_one_more zero (n ∷ q) l = (n, refl)
-take_one_more (suc k) (n ∷ q) l = let more = take_one_more k q (omega arith) in (more.0, ap (λ s. n ∷ s) more.1)
-
-pub not_root-take : (k : ℕ) (q : Path) → 1 ≤ k → 1 ≤ length q → is_root (take k q) ≡ false
-not_root-take k [] l m = absurd (omega arith)
-not_root-take zero (n ∷ q) l m = absurd (omega arith)
-not_root-take (suc k) (n ∷ q) l m = refl
-
--- ---- entries that are a tree's but for what stands above them
-
--- the entry is at the top or below it, and its parent is a directory unless it is at the top
-pub record IsEntryUnder (top : Path) (es : Tree) (e : Path × Entry) : Type 0 where
-  pub path : IsTrue (is_path e.0)
-  pub below_root : is_root e.0 ≡ false
-  pub within : is_at_or_inside e.0 top ≡ true
-  pub parent_directory : (e.0 ≡ top) ⊎ (is_directory es (parent e.0) ≡ true)
-  pub node : IsNode e.1.node
-  pub attributes : AreAttributes e.0 e.1.attributes
-
-pub record IsUnder (top : Path) (es : Tree) : Type 0 where
-  pub sorted : IsStrictlySortedBy entry_cmp es
-  pub entries : AllByRecursion (IsEntryUnder top es) es
-
--- what a tree has at a path and below it
-module _ (t : Tree) (q : Path) (h : IsTree t) where
-  kept_directory : (x : Path) → is_at_or_inside x q ≡ true → is_directory t x ≡ true
-      → is_directory (filter (λ e. is_at_or_inside e.0 q) t) x ≡ true
-  kept_directory [] at is = refl
-  kept_directory (n ∷ x) at is =
-      ap (λ o. is_directory_node (node_of o))
-      (find-where_key path_cmp (λ y. is_at_or_inside y q) (n ∷ x)
-      (λ y e. ap (λ z. is_at_or_inside z q) (sym (same_from_tie (n ∷ x) y e))) t
-      ∙ cond-true _ _ _ at) ∙ is
-
-  parent_kept : (x s : Path) → x ≡ q ++ s → is_directory t (parent x) ≡ true
-      → (x ≡ q) ⊎ (is_directory (filter (λ e. is_at_or_inside e.0 q) t) (parent x) ≡ true)
-  parent_kept x [] is up = inl (is ∙ append-nil q)
-  parent_kept x (n ∷ s) is up =
-      let step = last_step (n ∷ s) refl in
-      let above : parent x ≡ q ++ parent (n ∷ s) =
-      ap parent (is ∙ ap (λ r. q ++ r) step.1 ∙ sym (append_assoc q (parent (n ∷ s)) (step.0 ∷ [])))
-      ∙ parent-push (q ++ parent (n ∷ s)) step.0 in
-      inr (kept_directory (parent x) (ap (λ y. is_at_or_inside y q) above ∙ at_or_inside-append q (parent (n ∷ s))) up)
-
-  pub entries_under : IsUnder q (entries_at t q)
-  unfolding entries_at
-  entries_under = record {
-    sorted = rising_from_is_sorted path_cmp _ (sorted-where_key path_cmp (λ y. is_at_or_inside y q) t h.sorted);
-    entries = all_kept (IsEntry t) (IsEntryUnder q (filter (λ e. is_at_or_inside e.0 q) t))
-        (λ y. is_at_or_inside y q) (λ e g at. record {
-          path = g.path;
-          below_root = g.below_root;
-          within = at;
-          parent_directory = parent_kept e.0 (drop (length q) e.0) (at_or_inside-split e.0 q at) g.parent_directory;
-          node = g.node;
-          attributes = g.attributes;
-        }) t h.entries;
-  }
-
--- a directory before what lies below it
-module _ (top : Path) (n : Name) (es : Tree) (path : IsTrue (is_path top)) (below : is_root top ≡ false)
-    (under : IsUnder (top ++ n ∷ []) es) where
-  more : Tree
-  more = (top, bare_directory) ∷ es
-
-  behind_top : (x : Path) → is_at_or_inside x (top ++ n ∷ []) ≡ true → x ≡ top ++ n ∷ drop (length (top ++ n ∷ [])) x
-  behind_top x at = at_or_inside-split x (top ++ n ∷ []) at ∙ append_assoc top (n ∷ []) _
-
-  top_is_directory : (x : Path) → x ≡ top → is_directory ((top, bare_directory) ∷ es) x ≡ true
-  top_is_directory [] is = refl
-  top_is_directory (m ∷ x) is =
-      ap (λ y. is_directory_node (node_of (cond (same_path y top) (Some bare_directory) (find path_cmp (m ∷ x) es)))) is
-      ∙ ap (λ b. is_directory_node (node_of (cond b (Some bare_directory) (find path_cmp (m ∷ x) es))))
-      (same_path-itself top)
-
-  directory_stays : (x : Path) → is_directory es x ≡ true → is_directory ((top, bare_directory) ∷ es) x ≡ true
-  directory_stays [] is = refl
-  directory_stays (m ∷ x) is = by_test (same_path (m ∷ x) top)
-    where
-      by_test : (b : Bool)
-          → is_directory_node (node_of (cond b (Some bare_directory) (find path_cmp (m ∷ x) es))) ≡ true
-      by_test true = refl
-      by_test false = is
-
-  up : (x : Path) → (x ≡ top ++ n ∷ []) ⊎ (is_directory es (parent x) ≡ true)
-      → (x ≡ top) ⊎ (is_directory ((top, bare_directory) ∷ es) (parent x) ≡ true)
-  up x (inl is) = inr (top_is_directory (parent x) (ap parent is ∙ parent-push top n))
-  up x (inr is) = inr (directory_stays (parent x) is)
-
-  pub one_more_under : IsUnder top ((top, bare_directory) ∷ es)
-  one_more_under = record {
-    sorted = rising_cons entry_cmp (top, bare_directory) es
-        (all_weaker (IsEntryUnder (top ++ n ∷ []) es) _
-        (λ e g. ap (path_cmp top) (behind_top e.0 g.within) ∙ below_longer top n _) es under.entries) under.sorted;
-    entries = (
-      record {
-        path = path;
-        below_root = below;
-        within = ap (λ x. is_at_or_inside x top) (sym (append-nil top)) ∙ at_or_inside-append top [];
-        parent_directory = inl refl;
-        node = tt;
-        attributes = record { sorted = refl; each = tt };
-      },
-      all_weaker (IsEntryUnder (top ++ n ∷ []) es) (IsEntryUnder top ((top, bare_directory) ∷ es)) (λ e g. record {
-        path = g.path;
-        below_root = g.below_root;
-        within = ap (λ x. is_at_or_inside x top) (behind_top e.0 g.within) ∙ at_or_inside-append top _;
-        parent_directory = up e.0 g.parent_directory;
-        node = g.node;
-        attributes = g.attributes;
-      }) es under.entries,
-    );
-  }
-
--- all directories from the number of names on
-pub directories_under : (q : Path) (es : Tree) → IsTrue (is_path q) → IsUnder q es → (count first : ℕ) → 1 ≤ first
-    → first + count ≡ length q → IsUnder (take first q) (directories_from q first count ++ es)
-unfolding numbers_from
-directories_under q es path under zero first l all =
-    subst (λ top. IsUnder top es) (sym (take_all first q (omega (arith, all)))) under
-directories_under q es path under (suc count) first l all =
-    let step = take_one_more first q (omega (arith, all)) in
-    one_more_under (take first q) step.0 (directories_from q (suc first) count ++ es) (is_path-take first q path)
-    (not_root-take first q l (omega (arith, all)))
-    (subst (λ top. IsUnder top (directories_from q (suc first) count ++ es)) step.1
-    (directories_under q es path under count (suc first) (omega arith) (omega (arith, all))))
-
--- ---- the part
-
--- what lies under the root or right below it is a tree
-tree_of_under : (top : Path) (es : Tree) → parent top ≡ [] → IsUnder top es → IsTree es
-tree_of_under top es front under = record {
-  sorted = is_sorted_from_rising path_cmp es under.sorted;
-  entries = all_weaker (IsEntryUnder top es) (IsEntry es) (λ e g. record {
-    path = g.path;
-    below_root = g.below_root;
-    parent_directory = up e.0 g.parent_directory;
-    node = g.node;
-    attributes = g.attributes;
-  }) es under.entries;
-}
+-- the parent of what is at a path or below it is there too, or leads there
+parent_within : (x q : Path) → is_root x ≡ false → is_at_or_inside x q ≡ true
+    → (is_at_or_inside (parent x) q ≡ true) ⊎ (is_inside q (parent x) ≡ true)
+parent_within x q below at = by_rest (drop (length q) x) (at_or_inside-split x q at)
   where
-    up : (x : Path) → (x ≡ top) ⊎ (is_directory es (parent x) ≡ true) → is_directory es (parent x) ≡ true
-    up x (inl is) = ap (is_directory es) (ap parent is ∙ front)
-    up x (inr is) = is
+    by_rest : (s : Path) → x ≡ q ++ s → (is_at_or_inside (parent x) q ≡ true) ⊎ (is_inside q (parent x) ≡ true)
+    by_rest [] is =
+        let step = last_step x below in
+        let same : q ≡ parent x ++ step.0 ∷ [] = sym (is ∙ append-nil q) ∙ step.1 in
+        inr (ap (λ y. is_inside y (parent x)) same ∙ inside-append (parent x) step.0 [])
+    by_rest (n ∷ s) is =
+        let step = last_step (n ∷ s) refl in
+        let above : parent x ≡ q ++ parent (n ∷ s) =
+        ap parent (is ∙ ap (λ r. q ++ r) step.1 ∙ sym (append_assoc q (parent (n ∷ s)) (step.0 ∷ [])))
+        ∙ parent-push (q ++ parent (n ∷ s)) step.0 in
+        inl (ap (λ y. is_at_or_inside y q) above ∙ at_or_inside-append q (parent (n ∷ s)))
 
-parent_of_first : (n : Name) (q : Path) → parent (take 1 (n ∷ q)) ≡ []
-parent_of_first n q = parent-push [] n
+-- and what leads to what leads there does so itself
+parent_above : (x q : Path) → is_root x ≡ false → is_inside q x ≡ true → is_inside q (parent x) ≡ true
+parent_above x q below inside =
+    let step = last_step x below in
+    let split : q ≡ x ++ drop (length x) q =
+    at_or_inside-split q x (or_right (same_path q x) (is_inside q x) inside) in
+    let same : q ≡ parent x ++ step.0 ∷ drop (length x) q =
+    split ∙ ap (λ y. y ++ drop (length x) q) step.1 ∙ append_assoc (parent x) (step.0 ∷ []) (drop (length x) q) in
+    ap (λ y. is_inside y (parent x)) same ∙ inside-append (parent x) step.0 (drop (length x) q)
 
-pub IsTree-part_at : (t : Tree) (q : Path) → IsTree t → IsTrue (is_path q) → IsTree (part_at t q)
-unfolding part_at directories_to numbers_from
-IsTree-part_at t [] h path = tree_of_under [] (entries_at t []) parent-root (entries_under t [] h)
-IsTree-part_at t (n ∷ q) h path =
-    tree_of_under (take 1 (n ∷ q)) (directories_from (n ∷ q) 1 (length (n ∷ q) - 1) ++ entries_at t (n ∷ q))
-    (parent_of_first n q) (directories_under (n ∷ q) (entries_at t (n ∷ q)) path (entries_under t (n ∷ q) h)
-    (length (n ∷ q) - 1) 1 (omega arith) (omega arith))
+either : (a b : Bool) → (a ≡ true) ⊎ (b ≡ true) → (a || b) ≡ true
+either a b (inl e) = or_left a b e
+either a b (inr e) = or_right a b e
 
-pub under-part_at : (t : Tree) (q : Path) (p : Parameters) → IsTreeUnder t p → IsTrue (is_path q)
-    → IsTreeUnder (part_at t q) p
-unfolding part_at directories_to entries_at
-under-part_at t q p h path = record {
-  is_tree = IsTree-part_at t q h.is_tree path;
-  bare = λ e. all_append (λ f. f.1.attributes ≡ []) (directories_to q) (entries_at t q)
-      (all_map (λ n. Unit {0}) (λ f. f.1.attributes ≡ []) (λ n. (take n q, bare_directory)) (λ n u. refl)
-      (numbers_from 1 (length q - 1)) (all_none (λ n. Unit {0}) (λ n. tt) (numbers_from 1 (length q - 1))))
-      (all_filter (λ f. f.1.attributes ≡ []) (λ f. is_at_or_inside f.0 q) t (h.bare e));
-}
+or_parts : (a b : Bool) → (a || b) ≡ true → (a ≡ true) ⊎ (b ≡ true)
+or_parts true b e = inl refl
+or_parts false b e = inr e
+
+-- one of the tests passes an element
+parent_of_within : (paths : List Path) (x : Path) → is_root x ≡ false → is_within paths x ≡ true
+    → (is_within paths (parent x) ≡ true) ⊎ (is_above paths (parent x) ≡ true)
+parent_of_within [] x below h = absurd (false≢true h)
+parent_of_within (q ∷ paths) x below h =
+    by_first (or_parts (is_at_or_inside x q) (is_within paths x) h) (parent_of_within paths x below)
+  where
+    by_first : (is_at_or_inside x q ≡ true) ⊎ (is_within paths x ≡ true)
+        → (is_within paths x ≡ true → (is_within paths (parent x) ≡ true) ⊎ (is_above paths (parent x) ≡ true))
+        → (is_within (q ∷ paths) (parent x) ≡ true) ⊎ (is_above (q ∷ paths) (parent x) ≡ true)
+    by_first (inl at) rest = here (parent_within x q below at)
+      where
+        here : (is_at_or_inside (parent x) q ≡ true) ⊎ (is_inside q (parent x) ≡ true)
+            → (is_within (q ∷ paths) (parent x) ≡ true) ⊎ (is_above (q ∷ paths) (parent x) ≡ true)
+        here (inl e) = inl (or_left (is_at_or_inside (parent x) q) (is_within paths (parent x)) e)
+        here (inr e) = inr (or_left (is_inside q (parent x)) (is_above paths (parent x)) e)
+    by_first (inr more) rest = there (rest more)
+      where
+        there : (is_within paths (parent x) ≡ true) ⊎ (is_above paths (parent x) ≡ true)
+            → (is_within (q ∷ paths) (parent x) ≡ true) ⊎ (is_above (q ∷ paths) (parent x) ≡ true)
+        there (inl e) = inl (or_right (is_at_or_inside (parent x) q) (is_within paths (parent x)) e)
+        there (inr e) = inr (or_right (is_inside q (parent x)) (is_above paths (parent x)) e)
+
+parent_of_above : (paths : List Path) (x : Path) → is_root x ≡ false → is_above paths x ≡ true
+    → is_above paths (parent x) ≡ true
+parent_of_above [] x below h = absurd (false≢true h)
+parent_of_above (q ∷ paths) x below h =
+    by_first (or_parts (is_inside q x) (is_above paths x) h) (parent_of_above paths x below)
+  where
+    by_first : (is_inside q x ≡ true) ⊎ (is_above paths x ≡ true)
+        → (is_above paths x ≡ true → is_above paths (parent x) ≡ true)
+        → is_above (q ∷ paths) (parent x) ≡ true
+    by_first (inl inside) rest =
+        or_left (is_inside q (parent x)) (is_above paths (parent x)) (parent_above x q below inside)
+    by_first (inr more) rest = or_right (is_inside q (parent x)) (is_above paths (parent x)) (rest more)
+
+-- ---- what stands in the parts
+
+module _ (paths : List Path) where
+  -- what is kept of a path is found there
+  pub found_kept : (t : Tree) (x : Path) (entry : Entry) → find path_cmp x t ≡ Some entry
+      → is_kept paths (x, entry) ≡ true
+      → find path_cmp x (map (entry_kept paths) (filter (is_kept paths) t)) ≡ Some (entry_kept paths (x, entry)).1
+  found_kept [] x entry found kept = absurd (none-some entry found)
+  found_kept (e ∷ es) x entry found kept = by_same (found_kept es x entry) (eq_by_cmp path_cmp x e.0) refl found
+    where
+      rest : Tree
+      rest = map (entry_kept paths) (filter (is_kept paths) es)
+
+      by_same : (find path_cmp x es ≡ Some entry → is_kept paths (x, entry) ≡ true
+          → find path_cmp x rest ≡ Some (entry_kept paths (x, entry)).1)
+          → (b : Bool) → eq_by_cmp path_cmp x e.0 ≡ b → cond b (Some e.1) (find path_cmp x es) ≡ Some entry
+          → find path_cmp x (map (entry_kept paths) (cond (is_kept paths e) (e ∷ filter (is_kept paths) es)
+          (filter (is_kept paths) es))) ≡ Some (entry_kept paths (x, entry)).1
+      by_same more true same is =
+          let path : e.0 ≡ x = sym (same_from_test x e.0 same) in
+          let value : e.1 ≡ entry = same_Some e.1 entry is in
+          let whole : e ≡ (x, entry) = λ i. (path i, value i) in
+          ap (λ b. find path_cmp x (map (entry_kept paths) (cond b (e ∷ filter (is_kept paths) es)
+          (filter (is_kept paths) es)))) (ap (is_kept paths) whole ∙ kept)
+          ∙ ap (λ b. cond b (Some (entry_kept paths e).1) (find path_cmp x rest)) same
+          ∙ ap (λ (f : Path × Entry). Some (entry_kept paths f).1) whole
+      by_same more false other is = by_kept (is_kept paths e)
+        where
+          by_kept : (b : Bool) → find path_cmp x (map (entry_kept paths) (cond b (e ∷ filter (is_kept paths) es)
+              (filter (is_kept paths) es))) ≡ Some (entry_kept paths (x, entry)).1
+          by_kept true = ap (λ b. cond b (Some (entry_kept paths e).1) (find path_cmp x rest)) other ∙ more is kept
+          by_kept false = more is kept
+
+  -- and where nothing stands nothing does
+  pub none_kept : (t : Tree) (x : Path) → find path_cmp x t ≡ None
+      → find path_cmp x (map (entry_kept paths) (filter (is_kept paths) t)) ≡ None
+  none_kept [] x none = refl
+  none_kept (e ∷ es) x none = by_same (none_kept es x) (eq_by_cmp path_cmp x e.0) refl none
+    where
+      rest : Tree
+      rest = map (entry_kept paths) (filter (is_kept paths) es)
+
+      by_same : (find path_cmp x es ≡ None → find path_cmp x rest ≡ None)
+          → (b : Bool) → eq_by_cmp path_cmp x e.0 ≡ b → cond b (Some e.1) (find path_cmp x es) ≡ None
+          → find path_cmp x (map (entry_kept paths) (cond (is_kept paths e) (e ∷ filter (is_kept paths) es)
+          (filter (is_kept paths) es))) ≡ None
+      by_same more true same is = absurd (none-some e.1 (sym is))
+      by_same more false other is = by_kept (is_kept paths e)
+        where
+          by_kept : (b : Bool) → find path_cmp x (map (entry_kept paths) (cond b (e ∷ filter (is_kept paths) es)
+              (filter (is_kept paths) es))) ≡ None
+          by_kept true = ap (λ b. cond b (Some (entry_kept paths e).1) (find path_cmp x rest)) other ∙ more is
+          by_kept false = more is
+
+  -- a directory that is kept stays one
+  kept_directory : (t : Tree) (x : Path) → (is_within paths x ≡ true) ⊎ (is_above paths x ≡ true)
+      → is_directory t x ≡ true → is_directory (map (entry_kept paths) (filter (is_kept paths) t)) x ≡ true
+  kept_directory t [] at is = refl
+  kept_directory t (n ∷ x) at is = by_found (find path_cmp (n ∷ x) t) refl is
+    where
+      by_found : (o : Option Entry) → find path_cmp (n ∷ x) t ≡ o → is_directory_node (node_of o) ≡ true
+          → is_directory (map (entry_kept paths) (filter (is_kept paths) t)) (n ∷ x) ≡ true
+      by_found None found dir = absurd (false≢true dir)
+      by_found (Some entry) found dir =
+          ap (λ o. is_directory_node (node_of o)) (found_kept t (n ∷ x) entry found (keeps at))
+          ∙ by_within (is_within paths (n ∷ x))
+        where
+          keeps : (is_within paths (n ∷ x) ≡ true) ⊎ (is_above paths (n ∷ x) ≡ true)
+              → is_kept paths (n ∷ x, entry) ≡ true
+          keeps (inl e) = or_left (is_within paths (n ∷ x)) _ e
+          keeps (inr e) = or_right (is_within paths (n ∷ x)) _ (and_from _ _ e dir)
+
+          by_within : (b : Bool) → is_directory_node (node_of (Some (cond b entry bare_directory))) ≡ true
+          by_within true = dir
+          by_within false = refl
+
+  all_filter_with : (P Q : Path × Entry → Type 0) (T : Path × Entry → Bool)
+      → ((e : Path × Entry) → P e → T e ≡ true → Q e) → (es : Tree) → AllByRecursion P es
+      → AllByRecursion Q (filter T es)
+  all_filter_with P Q T f [] h = tt
+  all_filter_with P Q T f (e ∷ es) h = by_test (all_filter_with P Q T f es h.1) (T e) refl
+    where
+      by_test : AllByRecursion Q (filter T es) → (b : Bool) → T e ≡ b
+          → AllByRecursion Q (cond b (e ∷ filter T es) (filter T es))
+      by_test rest true is = (f e h.0 is, rest)
+      by_test rest false is = rest
+
+  module _ (t : Tree) (h : IsTree t) where
+    abbrev parts : Tree
+    parts = map (entry_kept paths) (filter (is_kept paths) t)
+
+    is_entry : (e : Path × Entry) → IsEntry t e → is_kept paths e ≡ true → IsEntry parts (entry_kept paths e)
+    is_entry e g kept = record {
+      path = g.path;
+      below_root = g.below_root;
+      parent_directory = kept_directory t (parent e.0) (above (or_parts _ _ kept)) g.parent_directory;
+      node = by_node (is_within paths e.0);
+      attributes = by_attributes (is_within paths e.0);
+    }
+      where
+        above : (is_within paths e.0 ≡ true) ⊎ ((is_above paths e.0 && is_directory_node (Some e.1.node)) ≡ true)
+            → (is_within paths (parent e.0) ≡ true) ⊎ (is_above paths (parent e.0) ≡ true)
+        above (inl within) = parent_of_within paths e.0 g.below_root within
+        above (inr leads) = inr (parent_of_above paths e.0 g.below_root (and_parts _ _ leads).0)
+
+        by_node : (b : Bool) → IsNode (cond b e.1 bare_directory).node
+        by_node true = g.node
+        by_node false = tt
+
+        by_attributes : (b : Bool) → AreAttributes e.0 (cond b e.1 bare_directory).attributes
+        by_attributes true = g.attributes
+        by_attributes false = record { sorted = refl; each = tt }
+
+    pub IsTree-parts : IsTree parts
+    IsTree-parts = record {
+      sorted = is_sorted_from_rising path_cmp parts
+          (rising_to_map entry_cmp (entry_kept paths) (filter (is_kept paths) t)
+          (IsStrictlySortedBy-filter entry_cmp (is_kept paths) t (rising_from_is_sorted path_cmp t h.sorted)));
+      entries = all_map (λ e. IsEntry t e × (is_kept paths e ≡ true)) (IsEntry parts) (entry_kept paths)
+          (λ e g. is_entry e g.0 g.1) (filter (is_kept paths) t)
+          (all_filter_with (IsEntry t) (λ e. IsEntry t e × (is_kept paths e ≡ true)) (is_kept paths)
+          (λ e g kept. (g, kept)) t h.entries);
+    }
+
+  pub under-parts_at : (t : Tree) (p : Parameters) → IsTreeUnder t p → IsTreeUnder (parts_at t paths) p
+  unfolding parts_at
+  under-parts_at t p h = record {
+    is_tree = IsTree-parts t h.is_tree;
+    bare = λ e. all_map (λ f. f.1.attributes ≡ []) (λ f. f.1.attributes ≡ []) (entry_kept paths)
+        (λ f none. by_bare f (is_within paths f.0) none) (filter (is_kept paths) t)
+        (all_filter (λ f. f.1.attributes ≡ []) (is_kept paths) t (h.bare e));
+  }
+    where
+      by_bare : (f : Path × Entry) (b : Bool) → f.1.attributes ≡ [] → (cond b f.1 bare_directory).attributes ≡ []
+      by_bare f true none = none
+      by_bare f false none = refl
+
+  pub IsTree-parts_at : (t : Tree) → IsTree t → IsTree (parts_at t paths)
+  unfolding parts_at
+  IsTree-parts_at t h = IsTree-parts t h
+
+-- ---- laws
+
+-- what stands at a path is what stands there in the part at that path
+pub node_in_part : (t : Tree) (q : Path) → node_at (parts_at t (q ∷ [])) q ≡ node_at t q
+unfolding parts_at
+node_in_part t [] = refl
+node_in_part t (n ∷ q) = by_found (find path_cmp (n ∷ q) t) refl
+  where
+    within : is_within ((n ∷ q) ∷ []) (n ∷ q) ≡ true
+    within = or_left (is_at_or_inside (n ∷ q) (n ∷ q)) false
+        (or_left (same_path (n ∷ q) (n ∷ q)) (is_inside (n ∷ q) (n ∷ q)) (same_path-itself (n ∷ q)))
+
+    by_found : (o : Option Entry) → find path_cmp (n ∷ q) t ≡ o
+        → node_of (find path_cmp (n ∷ q) (map (entry_kept ((n ∷ q) ∷ [])) (filter (is_kept ((n ∷ q) ∷ [])) t)))
+        ≡ node_of (find path_cmp (n ∷ q) t)
+    by_found None found = ap node_of (none_kept ((n ∷ q) ∷ []) t (n ∷ q) found) ∙ ap node_of (sym found)
+    by_found (Some entry) found =
+        ap node_of (found_kept ((n ∷ q) ∷ []) t (n ∷ q) entry found (or_left _ _ within))
+        ∙ ap (λ b. node_of (Some (cond b entry bare_directory))) within ∙ ap node_of (sym found)
+
+pub part_at_root : (t : Tree) → parts_at t (root ∷ []) ≡ t
+unfolding parts_at
+part_at_root [] = refl
+part_at_root (e ∷ es) =
+    let within : is_within (root ∷ []) e.0 ≡ true =
+    or_left (is_at_or_inside e.0 root) false (at_or_inside_root root e.0 refl) in
+    ap (λ b. map (entry_kept (root ∷ [])) (cond b (e ∷ filter (is_kept (root ∷ [])) es)
+    (filter (is_kept (root ∷ [])) es))) (or_left _ _ within)
+    ∙ ap₂ (λ b rest. (e.0, cond b e.1 bare_directory) ∷ rest) within (part_at_root es)
+
+abbrev cut_at : Path → Path × Entry → Path × Entry
+cut_at q f = (drop (length q) f.0, f.1)
+
+pub below_part : (t : Tree) (q : Path) → tree_below (parts_at t (q ∷ [])) q ≡ tree_below t q
+unfolding parts_at tree_below
+below_part [] q = refl
+below_part (e ∷ es) q = by_inside (below_part es q) (is_inside e.0 q) refl
+  where
+    by_inside : map (cut_at q) (filter (λ f. is_inside f.0 q) (map (entry_kept (q ∷ []))
+        (filter (is_kept (q ∷ [])) es)))
+        ≡ map (cut_at q) (filter (λ f. is_inside f.0 q) es)
+        → (b : Bool) → is_inside e.0 q ≡ b
+        → map (cut_at q) (filter (λ f. is_inside f.0 q) (map (entry_kept (q ∷ []))
+        (cond (is_kept (q ∷ []) e) (e ∷ filter (is_kept (q ∷ [])) es) (filter (is_kept (q ∷ [])) es))))
+        ≡ map (cut_at q) (cond (is_inside e.0 q) (e ∷ filter (λ f. is_inside f.0 q) es)
+        (filter (λ f. is_inside f.0 q) es))
+    by_inside same true inside =
+        let within : is_within (q ∷ []) e.0 ≡ true =
+        or_left (is_at_or_inside e.0 q) false (or_right (same_path e.0 q) (is_inside e.0 q) inside) in
+        ap (λ b. map (cut_at q) (filter (λ f. is_inside f.0 q) (map (entry_kept (q ∷ []))
+        (cond b (e ∷ filter (is_kept (q ∷ [])) es) (filter (is_kept (q ∷ [])) es))))) (or_left _ _ within)
+        ∙ ap (λ b. map (cut_at q) (cond b (entry_kept (q ∷ []) e
+        ∷ filter (λ f. is_inside f.0 q) (map (entry_kept (q ∷ [])) (filter (is_kept (q ∷ [])) es)))
+        (filter (λ f. is_inside f.0 q) (map (entry_kept (q ∷ [])) (filter (is_kept (q ∷ [])) es))))) inside
+        ∙ ap₂ (λ b more. (drop (length q) e.0, cond b e.1 bare_directory) ∷ more) within same
+        ∙ ap (λ b. map (cut_at q) (cond b (e ∷ filter (λ f. is_inside f.0 q) es)
+        (filter (λ f. is_inside f.0 q) es))) (sym inside)
+    by_inside same false outside = by_kept (is_kept (q ∷ []) e)
+        ∙ same ∙ ap (λ b. map (cut_at q) (cond b (e ∷ filter (λ f. is_inside f.0 q) es)
+        (filter (λ f. is_inside f.0 q) es))) (sym outside)
+      where
+        by_kept : (b : Bool) → map (cut_at q) (filter (λ f. is_inside f.0 q)
+            (map (entry_kept (q ∷ [])) (cond b (e ∷ filter (is_kept (q ∷ [])) es) (filter (is_kept (q ∷ [])) es))))
+            ≡ map (cut_at q) (filter (λ f. is_inside f.0 q) (map (entry_kept (q ∷ []))
+            (filter (is_kept (q ∷ [])) es)))
+        by_kept true = ap (λ b. map (cut_at q) (cond b (entry_kept (q ∷ []) e
+            ∷ filter (λ f. is_inside f.0 q) (map (entry_kept (q ∷ [])) (filter (is_kept (q ∷ [])) es)))
+            (filter (λ f. is_inside f.0 q) (map (entry_kept (q ∷ [])) (filter (is_kept (q ∷ [])) es))))) outside
+        by_kept false = refl
+
+-- the order of the paths makes no difference
+kept_by : (Path → Bool) → (Path → Bool) → Tree → Tree
+kept_by within above t =
+    map (λ e. (e.0, cond (within e.0) e.1 bare_directory))
+    (filter (λ e. within e.0 || (above e.0 && is_directory_node (Some e.1.node))) t)
+
+pub parts_permuted : (t : Tree) (paths other : List Path) → IsPermutation paths other
+    → parts_at t paths ≡ parts_at t other
+unfolding parts_at kept_by
+parts_permuted t paths other moved =
+    ap₂ (λ within above. kept_by within above t)
+    (λ i x. list_any-IsPermutation (λ q. is_at_or_inside x q) paths other moved i)
+    (λ i x. list_any-IsPermutation (λ q. is_inside q x) paths other moved i)

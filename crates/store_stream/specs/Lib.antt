@@ -1,6 +1,7 @@
+pub mod StoreStreams
 pub mod Parts
-pub mod PathStreams
+pub mod PartKeys
+pub mod PartsStreams
 pub mod Pulling
 pub mod Reading
 pub mod Rooted
-pub mod StoreStreams

@@ -1,30 +1,32 @@
--- The part of a tree that is at a path and below it.
-use Rattle.std.specs.Prelude.{ℕ, ◌-◌, [], ◌++◌, length, take, map}
-use Rattle.std.specs.List.{filter}
-use Rattle.store_model.specs.Lists.{numbers_from}
-use Rattle.store_model.specs.Paths.{Path, is_at_or_inside}
-use Rattle.store_model.specs.Trees.{Tree, Entry}
+-- What a tree has at some paths and below them.
+use Rattle.std.specs.Prelude.{List, [], map, Bool, ◌&&◌, ◌||◌, Some, if◌then◌else◌}
+use Rattle.std.specs.List.{filter, list_any}
+use Rattle.store_model.specs.Paths.{Path, is_inside, is_at_or_inside}
+use Rattle.store_model.specs.Trees.{Tree, Entry, is_directory_node}
 use Rattle.store_model.specs.Trees.Node.{Directory}
 
 -- a directory without attributes
 abbrev pub bare_directory : Entry
 bare_directory = record { node = Directory; attributes = [] }
 
--- so many of the directories that lead to a path, from this one on, the uppermost first: each stands at as many of the
--- path's names as its number says
-abbrev pub directories_from : Path → ℕ → ℕ → Tree
-directories_from path first count = map (λ n. (take n path, bare_directory)) (numbers_from first count)
+-- whether a path is one of these or lies below one of them
+abbrev pub is_within : List Path → Path → Bool
+is_within paths path = list_any (λ q. is_at_or_inside path q) paths
 
--- all of them: the path's parents but for the root
-unfoldable pub directories_to : Path → Tree
-directories_to path = directories_from path 1 (length path - 1)
+-- whether it leads to one of them
+abbrev pub is_above : List Path → Path → Bool
+is_above paths path = list_any (λ q. is_inside q path) paths
 
--- what a tree has at a path and below it
-unfoldable pub entries_at : Tree → Path → Tree
-entries_at t path = filter (λ e. is_at_or_inside e.0 path) t
+-- whether an entry is one of these parts, or a directory that leads to one
+abbrev pub is_kept : List Path → Path × Entry → Bool
+is_kept paths e = is_within paths e.0 || (is_above paths e.0 && is_directory_node (Some e.1.node))
 
--- The tree that holds what another has at a path and below it, at the same places, and the directories that lead there.
--- These have no attributes. Where nothing stands at the path it holds these directories alone, and of the root it is
--- the whole tree.
-unfoldable pub part_at : Tree → Path → Tree
-part_at t path = directories_to path ++ entries_at t path
+-- what stands there then: a directory that only leads to a part has no attributes
+abbrev pub entry_kept : List Path → Path × Entry → Path × Entry
+entry_kept paths e = (e.0, if is_within paths e.0 then e.1 else bare_directory)
+
+-- The tree that holds what another has at some paths and below them, at the same places, and the directories that lead
+-- there. These have no attributes. Nothing more stands at a path at which nothing stands, and at the root stands the
+-- whole tree.
+unfoldable pub parts_at : Tree → List Path → Tree
+parts_at t paths = map (entry_kept paths) (filter (is_kept paths) t)

@@ -7,6 +7,7 @@ ghost use Rattle.dump_streams.specs.Taking.{HasTaken};
 ghost use Rattle.dump_streams.specs.Streams.{IsNext};
 ghost use Rattle.store_stream.specs.StoreStreams.{stream_fault_of, CameBy, CameOf, IsWhole, EndsBy, ReadsStore};
 ghost use Rattle.image_check.specs.Standing.{IsFitting};
+ghost use Rattle.store_core.specs.Walks.{StandsAfter};
 ghost use Rattle.store_stream.specs.Pulling.{Pulled, Turned};
 ghost use Rattle.store_stream.specs.Reading.{Pulls, Starts};
 
@@ -45,6 +46,7 @@ impl<D: Disk> StoreStream<D> {
         ensures fault { result.fault ≡ None }
         ensures keeps { ReadsStore D.state result result }
         ensures fitting { IsFitting store.tree store.params }
+        ensures walk { StandsAfter store.tree store.params [] result.walk }
 
         // The steps may be those of the pairs of any tree.
         ensures steps { (u : Tree) → IsTreeUnder u store.params

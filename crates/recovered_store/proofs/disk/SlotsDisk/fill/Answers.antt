@@ -13,7 +13,17 @@ loop-done-preserved g c = (
       c.in_ok-done.ensures.bytes,
   c.read_some.ensures.refused ∙ c.loop-done.invariant.1,
   c.read_some.ensures.syncs ∙ c.loop-done.invariant.2,
+  g.met.S.ReadSlots.follows_trans c.args.self.now.slots c.loop-done.self.slots c.read_some.new.self.slots
+      c.loop-done.invariant.3 c.read_some.ensures.follows,
 )
+
+pub returns-in_err-done-clause-follows : goal.returns-in_err-done-clause-follows
+returns-in_err-done-clause-follows g c =
+    g.met.S.ReadSlots.follows_trans c.args.self.now.slots c.loop-done.self.slots c.read_some.new.self.slots
+    c.loop-done.invariant.3 c.read_some.ensures.follows
+
+pub returns-clause-follows : goal.returns-clause-follows
+returns-clause-follows g c = c.loop-done.invariant.3
 
 pub overflow_add-at : goal.overflow_add-at
 overflow_add-at g c =

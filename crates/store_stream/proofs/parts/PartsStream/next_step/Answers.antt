@@ -1,9 +1,10 @@
 use Rattle.std.proofs.Common.{◌≤◌, Ok, subst, arith}
 use Rattle.std.proofs.lemmas.Result.{err_from_is_err_and}
 use Rattle.store_stream.specs.declared.stream.Turn.{Turn}
-use Rattle.store_stream.specs.PathStreams.{PartTurned, turns_limit}
-use Rattle.store_stream.proofs.PathLemmas.{part_not_so_many}
-use Rattle.store_stream.proofs.path.PathStream.next_step.Goals as goal
+use Rattle.store_stream.specs.PartsStreams.{PartsTurned}
+use Rattle.store_stream.proofs.PartsLemmas.{not_so_many}
+use Rattle.tree_pairs.specs.TreeCalls.{pairs_limit}
+use Rattle.store_stream.proofs.parts.PartsStream.next_step.Goals as goal
 
 pub loop-init : goal.loop-init
 loop-init g c = (λ start kept. kept, λ t came. came)
@@ -11,7 +12,7 @@ loop-init g c = (λ start kept. kept, λ t came. came)
 pub loop-preserved : goal.loop-preserved
 loop-preserved g c = (
   λ start kept. c.in_ok-turn.ensures.keeps start (c.loop.invariant.0 start kept),
-  λ t came. subst (λ (turn : Turn). PartTurned g.D.Disk.state c.turn.new.self t c.loop.counter
+  λ t came. subst (λ (turn : Turn). PartsTurned g.D.Disk.state c.turn.new.self t c.loop.counter
       c.turn.new.into (Ok turn))
       c.in-More.is (c.in_ok-turn.ensures.turned t c.loop.counter (c.loop.invariant.1 t came)),
 )
@@ -32,10 +33,10 @@ returns-in_err-turn-clause-keeps g c start kept =
 
 pub returns-in-Step-clause-next : goal.returns-in-Step-clause-next
 returns-in-Step-clause-next g c = record {
-  came = λ t came. (subst (λ (turn : Turn). PartTurned g.D.Disk.state c.turn.new.self t c.loop.counter
+  came = λ t came. (subst (λ (turn : Turn). PartsTurned g.D.Disk.state c.turn.new.self t c.loop.counter
       c.turn.new.into (Ok turn)) c.in-Step.is
       (c.in_ok-turn.ensures.turned t c.loop.counter (c.loop.invariant.1 t came))).came;
-  extends = λ t came. (subst (λ (turn : Turn). PartTurned g.D.Disk.state c.turn.new.self t c.loop.counter
+  extends = λ t came. (subst (λ (turn : Turn). PartsTurned g.D.Disk.state c.turn.new.self t c.loop.counter
       c.turn.new.into (Ok turn)) c.in-Step.is
       (c.in_ok-turn.ensures.turned t c.loop.counter (c.loop.invariant.1 t came))).extends;
   whole = λ t came. tt;
@@ -46,7 +47,7 @@ pub returns-in-End-clause-next : goal.returns-in-End-clause-next
 returns-in-End-clause-next g c = record {
   came = λ t came. tt;
   extends = λ t came. tt;
-  whole = λ t came. subst (λ (turn : Turn). PartTurned g.D.Disk.state c.turn.new.self t c.loop.counter
+  whole = λ t came. subst (λ (turn : Turn). PartsTurned g.D.Disk.state c.turn.new.self t c.loop.counter
       c.turn.new.into (Ok turn)) c.in-End.is (c.in_ok-turn.ensures.turned t c.loop.counter (c.loop.invariant.1 t came));
   failed = λ t came. tt;
 }
@@ -58,6 +59,6 @@ returns-clause-next g c = record {
   whole = λ t came. tt;
   failed = λ t came.
       let test = c.loop-test.false in
-      let many : turns_limit ≤ c.loop.counter = omega (arith, test) in
-      part_not_so_many g.D.Disk.state c.loop.self t c.loop.counter (c.loop.invariant.1 t came) many;
+      let many : pairs_limit ≤ c.loop.counter = omega (arith, test) in
+      not_so_many g.D.Disk.state c.loop.self t c.loop.counter (c.loop.invariant.1 t came) many;
 }
