@@ -10,10 +10,10 @@ use Rattle.host_builder.specs.declared.plan.Made.{Made}
 use Rattle.host_builder.specs.declared.plan.Made.TheVariants as made
 use Rattle.host_builder.specs.declared.plan.Turn.{Turn}
 use Rattle.host_builder.specs.declared.plan.Turn.TheVariants as turns
-use Rattle.host_builder.specs.Turns.{folder_turn, file_turn, attribute_turn}
+use Rattle.host_builder.specs.Turns.{reads_links, folder_turn, file_turn, attribute_turn}
 
 -- paths that were compared
-same_here : (at path : Path) (test answer : Bool) → test ≡ pointwise (pointwise nat_eq) at path → test ≡ answer
+pub same_here : (at path : Path) (test answer : Bool) → test ≡ pointwise (pointwise nat_eq) at path → test ≡ answer
     → same_path at path ≡ answer
 same_here at path test answer test_is is = sym (paths_ties at path) ∙ sym test_is ∙ is
 
@@ -60,12 +60,14 @@ link_not_now wanted (made.Folder at) path is =
       | false ↦ λ e. cc
     ] is
 link_not_now wanted (made.File at is_empty) path is =
-    elim (same_path at path) as (λ b. (if b then (if wanted.link && is_empty then turns.Later else turns.Never)
+    elim (same_path at path) as (λ b. (if b then (if reads_links wanted.links && is_empty then turns.Later else
+    turns.Never)
     else turns.Never) ≡ turns.Now → ⊥) [
-      | true ↦ elim (wanted.link && is_empty) as (λ b. (if b then turns.Later else turns.Never) ≡ turns.Now → ⊥) [
-        | true ↦ λ e. cc
-        | false ↦ λ e. cc
-      ]
+      | true ↦ elim (reads_links wanted.links && is_empty) as
+          (λ b. (if b then turns.Later else turns.Never) ≡ turns.Now → ⊥) [
+            | true ↦ λ e. cc
+            | false ↦ λ e. cc
+          ]
       | false ↦ λ e. cc
     ] is
 

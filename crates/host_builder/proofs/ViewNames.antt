@@ -21,7 +21,7 @@ use Rattle.host_builder.specs.declared.plan.Turn.{Turn}
 use Rattle.host_builder.specs.declared.plan.Turn.TheVariants as turns
 use Rattle.host_builder.specs.HostAttributes.{attribute_of, mode_of, time_of, link_of, seconds_of, is_target, mode_byte}
 use Rattle.host_builder.specs.HostAttributes.{mode_name, mtime_name, link_name}
-use Rattle.host_builder.specs.Turns.{turn_of, set_turn, made_behind, if_now, if_later, steps_now}
+use Rattle.host_builder.specs.Turns.{reads_links, turn_of, set_turn, made_behind, if_now, if_later, steps_now}
 use Rattle.host_builder.specs.Turns.{steps_later}
 use Rattle.host_builder.specs.Views.{folder_has, file_has, link_has, kept, is_link}
 
@@ -85,7 +85,7 @@ module _ (wanted : Wanted) where
         by_tests false false false e = e
 
   -- what a link has no file has
-  link_no_file : (o : Option HostAttribute) → link_has wanted o ≡ true → file_has wanted o ≡ false
+  pub link_no_file : (o : Option HostAttribute) → link_has wanted o ≡ true → file_has wanted o ≡ false
   link_no_file None is = refl
   link_no_file (Some attributes.Executes) is = absurd (false≢true is)
   link_no_file (Some (attributes.Time seconds)) is = absurd (false≢true is)
@@ -116,7 +116,7 @@ module _ (wanted : Wanted) (x : Path) where
       ap (λ (b : Bool). if b then (if wanted.mtime then turns.Now else turns.Never) else turns.Never)
       (same_path-itself x)
   file_is e (Some attributes.Link) =
-      ap (λ (b : Bool). if b then (if wanted.link && e then turns.Later else turns.Never) else turns.Never)
+      ap (λ (b : Bool). if b then (if reads_links wanted.links && e then turns.Later else turns.Never) else turns.Never)
       (same_path-itself x)
 
   nothing_is : (o : Option HostAttribute) → set_turn wanted made.Nothing x o ≡ turns.Never
@@ -215,11 +215,11 @@ file_names wanted x e (a ∷ names) none =
 -- ---- links
 
 -- names that are above another one
-abbrev AreAbove : Name → Attributes → Type 0
+abbrev pub AreAbove : Name → Attributes → Type 0
 AreAbove name names = AllByRecursion (λ b. name_cmp name b.0 ≡ Less) names
 
 -- above the name of a link there is none
-none_above : (wanted : Wanted) (names : Attributes) → AreAbove link_name names → kept (link_has wanted) names ≡ []
+pub none_above : (wanted : Wanted) (names : Attributes) → AreAbove link_name names → kept (link_has wanted) names ≡ []
 none_above wanted [] above = refl
 none_above wanted (a ∷ names) above =
     by_test (link_has wanted (attribute_of a.0 a.1)) refl ∙ none_above wanted names above.1
@@ -232,7 +232,7 @@ none_above wanted (a ∷ names) above =
     by_test false is = refl
 
 -- where a name is below all of them, and one is a link's, it is below a link's
-below_link : (wanted : Wanted) (name : Name) (names : Attributes) → AreAbove name names
+pub below_link : (wanted : Wanted) (name : Name) (names : Attributes) → AreAbove name names
     → list_any (λ a. link_has wanted (attribute_of a.0 a.1)) names ≡ true → name_cmp name link_name ≡ Less
 below_link wanted name [] above some = absurd (false≢true some)
 below_link wanted name (a ∷ names) above some =
@@ -245,7 +245,7 @@ below_link wanted name (a ∷ names) above some =
     by_test rest false is e = rest e
 
 -- so it says nothing of a file
-no_file_below : (wanted : Wanted) (name : Name) (bytes : List ℕ) → name_cmp name link_name ≡ Less
+pub no_file_below : (wanted : Wanted) (name : Name) (bytes : List ℕ) → name_cmp name link_name ≡ Less
     → file_has wanted (attribute_of name bytes) ≡ false
 no_file_below wanted name bytes below = by_test (file_has wanted (attribute_of name bytes)) refl
   where
@@ -313,7 +313,7 @@ made_of x Directory = made.Folder x
 made_of x (File bytes) = made.File x (length bytes == 0)
 
 -- without a link none waits
-each_none : (wanted : Wanted) (e : Bool) (names : Attributes) → is_link wanted e names ≡ false
+pub each_none : (wanted : Wanted) (e : Bool) (names : Attributes) → is_link wanted e names ≡ false
     → AllByRecursion (λ a. (link_has wanted (attribute_of a.0 a.1) && e) ≡ false) names
 each_none wanted true [] none = tt
 each_none wanted false [] none = tt

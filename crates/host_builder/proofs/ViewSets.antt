@@ -22,7 +22,7 @@ use Rattle.host_builder.proofs.Steps.{steps_after-append}
 
 -- ---- a key among others
 
-turned : {K : Type 0} (cmp : K → K → Ordering) → IsTotalOrder cmp → (x y : K) → cmp y x ≡ Less → cmp x y ≡ Greater
+pub turned : {K : Type 0} (cmp : K → K → Ordering) → IsTotalOrder cmp → (x y : K) → cmp y x ≡ Less → cmp x y ≡ Greater
 turned cmp total x y less = total.antisymm x y ∙ ap ordering_reverse less
 
 put_behind : {K X : Type 0} (cmp : K → K → Ordering) → IsTotalOrder cmp → (k : K) (v : X) (es : List (K × X))

@@ -1,6 +1,9 @@
 pub mod Builders
+pub mod Faults
 pub mod HostAttributes
 pub mod Memory
+pub mod Passing
 pub mod Turns
 pub mod Takes
 pub mod Views
+pub mod Viewed

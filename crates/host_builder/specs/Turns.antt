@@ -1,5 +1,5 @@
 -- When a step is carried out on the host: at once, behind all others, or never.
-use Rattle.std.specs.Prelude.{Bool, ◌&&◌, ◌==◌, List, [], ◌∷◌, ◌++◌, length, Option, Some, None}
+use Rattle.std.specs.Prelude.{Bool, true, false, ◌&&◌, ◌==◌, List, [], ◌∷◌, ◌++◌, length, Option, Some, None}
 use Rattle.std.specs.Prelude.{if◌then◌else◌}
 use Rattle.std.specs.List.{flat_map}
 use Rattle.std.specs.Fmt.{decimal}
@@ -7,6 +7,8 @@ use Rattle.store_model.specs.Paths.{Path, same_path}
 use Rattle.dump_streams.specs.Dumps.{DumpStep}
 use Rattle.dump_streams.specs.Dumps.DumpStep.{Make, Write, Set}
 use Rattle.host_builder.specs.declared.attribute.Wanted.{Wanted}
+use Rattle.host_builder.specs.declared.attribute.Links.{Links}
+use Rattle.host_builder.specs.declared.attribute.Links.TheVariants as links
 use Rattle.host_builder.specs.declared.attribute.HostAttribute.{HostAttribute}
 use Rattle.host_builder.specs.declared.attribute.HostAttribute.TheVariants as attributes
 use Rattle.host_builder.specs.declared.plan.Made.{Made}
@@ -17,17 +19,23 @@ use Rattle.host_builder.specs.declared.plan.Later.{Later}
 use Rattle.host_builder.specs.declared.plan.Later.TheVariants as laters
 use Rattle.host_builder.specs.HostAttributes.{attribute_of, mtime_name, link_name}
 
+-- whether an empty file with the attribute is a link, made or left out
+abbrev pub reads_links : Links → Bool
+reads_links links.Made = true
+reads_links links.LeftOut = true
+reads_links links.Data = false
+
 -- of a folder its time waits for what is made below it
 abbrev pub folder_turn : Wanted → HostAttribute → Turn
 folder_turn wanted attributes.Executes = turns.Never
 folder_turn wanted (attributes.Time seconds) = if wanted.mtime then turns.Later else turns.Never
 folder_turn wanted attributes.Link = turns.Never
 
--- of a file the link waits: it stands in the place of an empty one
+-- of a file the link waits: it stands in the place of an empty one, which goes again where links are left out
 abbrev pub file_turn : Wanted → Bool → HostAttribute → Turn
 file_turn wanted is_empty attributes.Executes = if wanted.mode then turns.Now else turns.Never
 file_turn wanted is_empty (attributes.Time seconds) = if wanted.mtime then turns.Now else turns.Never
-file_turn wanted is_empty attributes.Link = if wanted.link && is_empty then turns.Later else turns.Never
+file_turn wanted is_empty attributes.Link = if reads_links wanted.links && is_empty then turns.Later else turns.Never
 
 -- an attribute of a path is of what was made last, and else of nothing on the host
 abbrev pub attribute_turn : Wanted → Made → Path → HostAttribute → Turn
@@ -107,3 +115,11 @@ link_steps later = flat_map link_step later
 
 abbrev pub time_steps : List Later → List DumpStep
 time_steps later = flat_map time_step later
+
+-- the paths of links
+abbrev pub link_path : Later → List Path
+link_path (laters.Link path target) = path ∷ []
+link_path (laters.Time path seconds) = []
+
+abbrev pub link_paths : List Later → List Path
+link_paths later = flat_map link_path later

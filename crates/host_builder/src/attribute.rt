@@ -10,15 +10,37 @@ use script_lines::Text;
 /// The most seconds since 1970 that a host can set.
 const MAX_SECONDS: u64 = i64::MAX as u64;
 
-/// Which attributes the host is to have.
+/// What the host is to have of links: empty files with the attribute `link`, which says where they lead.
+#[derive(Clone, Copy, Debug, PartialEq, Eq)]
+pub enum Links {
+    /// Links.
+    Made,
+    /// Neither a link nor an empty file in its place.
+    LeftOut,
+    /// An empty file: the attribute is data alone.
+    Data,
+}
+
+/// What the host is to have of a tree.
 #[derive(Clone, Copy, Debug, PartialEq, Eq)]
 pub struct Wanted {
     /// `mode`, the byte `x` where a file may be executed.
     pub mode: bool,
     /// `mtime`, the seconds since 1970 of the last change.
     pub mtime: bool,
-    /// `link`, the target of a link, which is an empty file.
-    pub link: bool,
+    /// What becomes of links.
+    pub links: Links,
+    /// Whether what has no path on the host is left out, with all below it. Else the first such path is an obstacle.
+    pub skips: bool,
+}
+
+/// Why an entry is left out.
+#[derive(Clone, Copy, Debug, PartialEq, Eq)]
+pub enum LeftOut {
+    /// Its path has none on the host: one of its names is the spelling of none, or of one that is not UTF-8.
+    NoName,
+    /// It is a link.
+    Link,
 }
 
 /// What an attribute says of the host.

@@ -1,3 +1,4 @@
 pub mod Spellings
 pub mod HostPathNames
 pub mod ImagePathNames
+pub mod TextSpellings

@@ -1,10 +1,12 @@
 //! The path on the host of a path of an image.
 
 ghost use Rattle.std.specs.Prelude.{◌≡◌, ◌≤◌, ◌++◌, length, false, IfOk, OnOk, IsErrOf};
+ghost use Rattle.std.specs.Str.{is_utf8};
 ghost use Rattle.std.specs.String.{string_bytes};
 ghost use Rattle.store_model.specs.Paths as model;
 ghost use Rattle.host_names.specs.HostPaths.{IsHostPath, HasNoHostPath, HasNoText, HasNoHostName, AppendsHostNames};
 ghost use Rattle.host_names.specs.HostPaths.{AppendsHostName};
+ghost use Rattle.host_names.specs.Reading.{is_text_spelling, has_host_text};
 
 use crate::spelling::MAX_NAME;
 use crate::telling::unescape;
@@ -64,6 +66,38 @@ pub fn host_text(alloc: Global, folder: &str, path: &Path) -> Result<String, Hos
     match String::from_utf8(bytes) {
         Ok(text) => Ok(text),
         Err(_) => Err(HostPathFault::NotUtf8),
+    }
+}
+
+/// Whether a path has one on the host that is UTF-8: each of its names is the spelling of a name of the host that is.
+/// So it is of no path below one of which it is not.
+pub fn has_host_text(path: &Path) -> bool
+    ensures { result ≡ has_host_text path.now }
+{
+    let Some(parent) = path.parent() else {
+        return true;
+    };
+    is_text_spelling(last_name(path)) && has_host_text(&parent)
+}
+
+/// Whether a name of a path is the spelling of a name of the host that is UTF-8.
+fn is_text_spelling(text: &[u8]) -> bool
+    requires { length text.now ≤ MAX_NAME }
+    ensures { result ≡ is_text_spelling text.now }
+{
+    match unescape(text) {
+        Some(name) => is_utf8(name.as_slice()),
+        None => false,
+    }
+}
+
+/// Whether the bytes are UTF-8.
+fn is_utf8(bytes: &[u8]) -> bool
+    ensures { result ≡ is_utf8 bytes.now }
+{
+    match str::from_utf8(bytes) {
+        Ok(_) => true,
+        Err(_) => false,
     }
 }
 
