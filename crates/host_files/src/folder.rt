@@ -1,20 +1,24 @@
 //! A folder of the host that is packed.
 
-ghost use Rattle.std.specs.Prelude.{[], false};
+ghost use Rattle.std.specs.Prelude.{◌≡◌, ◌≤◌, [], false, length, IfOk, IsTrue};
+ghost use Rattle.host_builder.specs.HostAttributes.{is_target};
+ghost use Rattle.host_folders.specs.Faults.{faults_after};
 
 use crate::left_out::LeftOut;
 use crate::messages::Messages;
 use crate::opened::open_plain;
+use crate::own::FileId;
 use crate::reading::Reading;
-use crate::wanted::Wanted;
-use host_folders::{Folder, FolderFault, Found};
+use crate::target::read_target;
+use host_builder::{Links, Wanted};
+use host_folders::{Folder, FolderFault, Found, FoundKind, LinkTarget};
 use host_names::{HostPathFault, host_text, image_path};
-use path_keys::{Path, attr_key};
+use path_keys::{AttrName, Path, attr_key};
 use script_lines::Sink;
 use std::fs::{self, DirEntry, Metadata, ReadDir};
 use std::io::{self, Error, ErrorKind};
 use std::os::unix::fs::MetadataExt;
-use tree_pairs::{FILE_LIMIT, Kind};
+use tree_pairs::FILE_LIMIT;
 
 /// The bit of a file's mode that lets its owner execute it.
 const OWNER_EXECUTES: u32 = 0o100;
@@ -22,47 +26,66 @@ const OWNER_EXECUTES: u32 = 0o100;
 /// A folder of the host, to be packed. What has no place in an image is left out: a message says so, and it is
 /// counted.
 ///
-/// The folder may itself be a link to one; no other link is followed.
+/// The folder may itself be a link to one; no other link is followed. Where links are wanted each other one is an entry
+/// of its own, and else it is left out.
 #[derive(Drop)]
 pub struct StdFolder<W: Sink> {
     rt: HostRuntime,
     /// The path of the folder on the host.
     folder: String,
     wanted: Wanted,
-    /// Whether each file and folder is opened once when it is found.
-    tries_files: bool,
+    /// The files that the program itself works on.
+    own: Vec<FileId>,
     messages: Messages<W>,
     left_out: u64,
+    own_left_out: u64,
+    links_left_out: u64,
     reading: Reading,
     /// The path in the image of the file that is read.
     open: Option<Path>,
+    /// How many calls failed.
+    faults: u64,
 }
 
 impl<W: Sink + Drop> StdFolder<W> {
-    /// The folder at a path of the host. With `tries_files` each file and folder is opened once when it is found, and
-    /// left out where it cannot be. Messages go to the sink.
+    /// The folder at a path of the host. Where `wanted` skips each file and folder is opened once when it is found, and
+    /// left out where it cannot be. Links are read where they are made there. The files in `own` are left out wherever
+    /// they stand: the image, and the file to which standard output leads.
     pub fn new(
         rt: HostRuntime,
         folder: String,
         wanted: Wanted,
-        tries_files: bool,
-        sink: W,
+        own: Vec<FileId>,
+        messages: Messages<W>,
     ) -> Self {
         StdFolder {
             rt,
             folder,
             wanted,
-            tries_files,
-            messages: Messages::new(sink),
+            own,
+            messages,
             left_out: 0,
+            own_left_out: 0,
+            links_left_out: 0,
             reading: Reading::new(),
             open: None,
+            faults: 0,
         }
     }
 
-    /// How much was left out so far, a folder as one.
+    /// How much was left out so far, a folder as one, but for the program's own files and for links that nobody wants.
     pub fn left_out(&self) -> u64 {
         self.left_out
+    }
+
+    /// How many of the program's own files were left out so far, one that has two names in the folder as two.
+    pub fn own_left_out(&self) -> u64 {
+        self.own_left_out
+    }
+
+    /// How many links were left out so far because they are wanted to be.
+    pub fn links_left_out(&self) -> u64 {
+        self.links_left_out
     }
 
     /// Gives the sink of the messages back.
@@ -71,11 +94,14 @@ impl<W: Sink + Drop> StdFolder<W> {
             rt: _,
             folder: _,
             wanted: _,
-            tries_files: _,
+            own: _,
             messages,
             left_out: _,
+            own_left_out: _,
+            links_left_out: _,
             reading: _,
             open: _,
+            faults: _,
         } = self;
         messages.into_sink()
     }
@@ -83,6 +109,18 @@ impl<W: Sink + Drop> StdFolder<W> {
     /// Counts what is left out.
     fn count(&mut self) {
         self.left_out = self.left_out.saturating_add(1);
+    }
+
+    /// Says that what stands at a path is left out, and counts it.
+    fn leave_out(&mut self, path: &Path, why: LeftOut) {
+        self.messages.say(path, why.words());
+        match why {
+            LeftOut::Own => self.own_left_out = self.own_left_out.saturating_add(1),
+            LeftOut::Link if self.wanted.links == Links::LeftOut => {
+                self.links_left_out = self.links_left_out.saturating_add(1);
+            }
+            _ => self.count(),
+        }
     }
 
     /// The path on the host of a path in the folder.
@@ -155,31 +193,70 @@ impl<W: Sink + Drop> StdFolder<W> {
             self.count();
             return Ok(());
         };
-        match self.found_at(path, entry) {
+        let Ok(metadata) = entry.metadata() else {
+            self.leave_out(&path, LeftOut::Unreadable);
+            return Ok(());
+        };
+        if self.wanted.links == Links::Made && metadata.is_symlink() {
+            return self.add_link(path, entry, found);
+        }
+        match self.found_at(path, entry, &metadata) {
             Ok(one) => found.push(one).map_err(|_| FolderFault::NoMemory),
             Err(why) => {
-                self.messages.say(&path, why.words());
-                self.count();
+                self.leave_out(&path, why);
                 Ok(())
             }
         }
     }
 
-    /// What stands at a path, as it is packed.
-    fn found_at(&self, path: Path, entry: &DirEntry) -> Result<Found, LeftOut> {
-        let Ok(metadata) = entry.metadata() else {
-            return Err(LeftOut::Unreadable);
+    /// Adds a link, or leaves it out. Where it leads is asked again later, and not kept.
+    fn add_link(
+        &mut self,
+        path: Path,
+        entry: &DirEntry,
+        found: &mut Vec<Found>,
+    ) -> Result<(), FolderFault> {
+        match read_target(&self.rt, entry.path().as_str()) {
+            Ok(Ok(_)) => {}
+            Ok(Err(why)) => {
+                self.leave_out(&path, LeftOut::Target(why));
+                return Ok(());
+            }
+            Err(error) => return self.unlisted(&path, &error),
+        }
+        let one = Found {
+            path,
+            kind: FoundKind::Link,
+            seconds: None,
+            is_executable: false,
         };
+        if !has_room(&one) {
+            self.leave_out(&path, LeftOut::NoRoom);
+            return Ok(());
+        }
+        found.push(one).map_err(|_| FolderFault::NoMemory)
+    }
+
+    /// What stands at a path, as it is packed: a folder or a file.
+    fn found_at(
+        &self,
+        path: Path,
+        entry: &DirEntry,
+        metadata: &Metadata,
+    ) -> Result<Found, LeftOut> {
+        if self.own.contains(&FileId::of(metadata)) {
+            return Err(LeftOut::Own);
+        }
         let found = Found {
             path,
-            kind: kind_of(&metadata)?,
-            seconds: self.seconds_of(&metadata)?,
-            is_executable: self.wanted.mode && can_be_executed(&metadata),
+            kind: kind_of(metadata)?,
+            seconds: self.seconds_of(metadata)?,
+            is_executable: self.wanted.mode && can_be_executed(metadata),
         };
         if !has_room(&found) {
             return Err(LeftOut::NoRoom);
         }
-        if self.tries_files && !can_be_opened(&self.rt, found.kind, entry) {
+        if self.wanted.skips && !can_be_opened(&self.rt, found.kind, entry) {
             return Err(LeftOut::Unreadable);
         }
         Ok(found)
@@ -209,7 +286,39 @@ impl<W: Sink + Drop> StdFolder<W> {
         }
     }
 
-    /// Says that a file cannot be read.
+    /// Reads the next bytes of the file that is open.
+    fn read_on(&mut self, into: &mut [u8]) -> Result<usize, FolderFault>
+        ensures { IfOk result (λ count. count ≤ length into.new) }
+    {
+        let Some(path) = self.open else {
+            return Err(FolderFault::Unreadable);
+        };
+        match self.reading.read(into) {
+            Ok(count) => Ok(count),
+            Err(error) => Err(self.unread(&path, &error)),
+        }
+    }
+
+    /// Where the link at a path leads.
+    fn ask(&mut self, path: &Path) -> Result<LinkTarget, FolderFault>
+        ensures { IfOk result (λ target. IsTrue (is_target target)) }
+    {
+        let text = self.text(path)?;
+        match read_target(&self.rt, text.as_str()) {
+            Ok(Ok(target)) => Ok(target),
+            Ok(Err(why)) => {
+                self.messages.say(path, LeftOut::Target(why).words());
+                Err(FolderFault::Unreadable)
+            }
+            Err(error) if error.kind() == ErrorKind::InvalidInput => {
+                self.messages.say(path, "it is no longer a link");
+                Err(FolderFault::Unreadable)
+            }
+            Err(error) => Err(self.unread(path, &error)),
+        }
+    }
+
+    /// Says that a file or a link cannot be read.
     fn unread(&mut self, path: &Path, error: &Error) -> FolderFault {
         if error.kind() == ErrorKind::OutOfMemory {
             return FolderFault::NoMemory;
@@ -221,15 +330,15 @@ impl<W: Sink + Drop> StdFolder<W> {
 }
 
 /// What stands there, if it can be packed.
-fn kind_of(metadata: &Metadata) -> Result<Kind, LeftOut> {
+fn kind_of(metadata: &Metadata) -> Result<FoundKind, LeftOut> {
     if metadata.is_dir() {
-        return Ok(Kind::Directory);
+        return Ok(FoundKind::Folder);
     }
     if !metadata.is_file() {
         return Err(LeftOut::of_kind(metadata.file_type()));
     }
     match u32::try_from(metadata.len()) {
-        Ok(len) if len <= FILE_LIMIT => Ok(Kind::File(len)),
+        Ok(len) if len <= FILE_LIMIT => Ok(FoundKind::File(len)),
         _ => Err(LeftOut::TooLarge),
     }
 }
@@ -241,6 +350,12 @@ fn can_be_executed(metadata: &Metadata) -> bool {
 
 /// Whether each attribute of what was found has room in an image.
 fn has_room(found: &Found) -> bool {
+    if found.kind == FoundKind::Link {
+        let Some(name) = AttrName::parse(b"link") else {
+            return false;
+        };
+        return attr_key(&found.path, &name).is_some();
+    }
     for at in 0..usize::MAX {
         let Some(attribute) = found.attribute(at) else {
             return true;
@@ -253,32 +368,59 @@ fn has_room(found: &Found) -> bool {
 }
 
 /// Whether a file or a folder can be opened.
-fn can_be_opened(rt: &HostRuntime, kind: Kind, entry: &DirEntry) -> bool {
+fn can_be_opened(rt: &HostRuntime, kind: FoundKind, entry: &DirEntry) -> bool {
     let text = entry.path().as_str();
     match kind {
-        Kind::Directory => fs::read_dir(rt, text).is_ok(),
-        Kind::File(_) => open_plain(rt, text).is_ok(),
+        FoundKind::Folder => fs::read_dir(rt, text).is_ok(),
+        FoundKind::File(_) => open_plain(rt, text).is_ok(),
+        FoundKind::Link => true,
+    }
+}
+
+/// The count of failed calls after a call that gave this answer: want of memory is no failure.
+fn counted<T>(faults: u64, answer: &Result<T, FolderFault>) -> u64
+    ensures { result ≡ faults_after faults answer.now }
+{
+    match answer {
+        Err(FolderFault::Unreadable) => faults.saturating_add(1),
+        Ok(_) | Err(FolderFault::NoMemory) => faults,
     }
 }
 
 impl<W: Sink + Drop> Folder for StdFolder<W> {
-    ghost state = { λ _. record { is_observable = false; listed = []; read = [] } };
+    ghost state = { λ folder. record {
+      is_observable = false;
+      listed = [];
+      read = [];
+      targets = [];
+      faults = folder.faults;
+    } };
 
     fn list(&mut self, path: &Path, found: &mut Vec<Found>) -> Result<(), FolderFault> {
-        self.list_folder(path, found)
+        let faults = self.faults;
+        let answer = self.list_folder(path, found);
+        self.faults = counted(faults, &answer);
+        answer
     }
 
     fn open(&mut self, path: &Path) -> Result<(), FolderFault> {
-        self.open_file(path)
+        let faults = self.faults;
+        let answer = self.open_file(path);
+        self.faults = counted(faults, &answer);
+        answer
     }
 
     fn read(&mut self, into: &mut [u8]) -> Result<usize, FolderFault> {
-        let Some(path) = self.open else {
-            return Err(FolderFault::Unreadable);
-        };
-        match self.reading.read(into) {
-            Ok(count) => Ok(count),
-            Err(error) => Err(self.unread(&path, &error)),
-        }
+        let faults = self.faults;
+        let answer = self.read_on(into);
+        self.faults = counted(faults, &answer);
+        answer
+    }
+
+    fn target(&mut self, path: &Path) -> Result<LinkTarget, FolderFault> {
+        let faults = self.faults;
+        let answer = self.ask(path);
+        self.faults = counted(faults, &answer);
+        answer
     }
 }

@@ -1,13 +1,16 @@
 //! Why something of a folder is not packed.
 
+use host_folders::NoTarget;
 use std::fs::FileType;
 use std::os::unix::fs::FileTypeExt;
 
 /// Why something of a folder is not packed.
 #[derive(Clone, Copy, Debug, PartialEq, Eq)]
 pub enum LeftOut {
-    /// It is a symbolic link.
+    /// It is a symbolic link, and links are not packed.
     Link,
+    /// It is a symbolic link, and no image can hold where it leads.
+    Target(NoTarget),
     /// It is a pipe with a name.
     Pipe,
     /// It is a socket.
@@ -26,6 +29,8 @@ pub enum LeftOut {
     NoRoom,
     /// It cannot be read.
     Unreadable,
+    /// The program itself works on it.
+    Own,
 }
 
 impl LeftOut {
@@ -33,6 +38,14 @@ impl LeftOut {
     pub fn words(self) -> &'static str {
         match self {
             LeftOut::Link => "a link is not packed",
+            LeftOut::Target(NoTarget::Empty) => "a link with an empty target is not packed",
+            LeftOut::Target(NoTarget::TooLong) => {
+                "a link with a target of more than 255 bytes is not packed"
+            }
+            LeftOut::Target(NoTarget::ZeroByte) =>
+                "a link with a zero byte in its target is not packed",
+            LeftOut::Target(NoTarget::NotUtf8) =>
+                "a link with a target that is not UTF-8 is not packed",
             LeftOut::Pipe => "a pipe is not packed",
             LeftOut::Socket => "a socket is not packed",
             LeftOut::Device => "a device is not packed",
@@ -44,6 +57,7 @@ impl LeftOut {
                 "its attribute has no room: the path and the attribute's name have more than 118 bytes"
             }
             LeftOut::Unreadable => "it cannot be read",
+            LeftOut::Own => "a file that the program itself works on is not packed",
         }
     }
 

@@ -1,5 +1,5 @@
 //! The thin edge to the files of the host: a folder that is packed, a folder that is made of a dump, and what
-//! standard input is. Start at `StdFolder` and `StdBuilder`.
+//! standard input is. Start at `StdFolder` and `HostBuilder`.
 //!
 //! This crate assumes that the system's calls do what is asked of them, so nothing here tells what it holds. It is
 //! proved that each call is safe and ends, and, by `host_names`, that each path that is made lies in the folder. The
@@ -14,16 +14,20 @@ mod messages;
 mod names;
 mod omitted;
 mod opened;
+mod own;
 mod places;
 mod reading;
+mod site;
 mod spelled;
-mod wanted;
+mod target;
 mod writing;
 
-pub use builder::{NoFolder, StdBuilder};
+pub use builder::HostBuilder;
 pub use folder::StdFolder;
+pub use host_builder::{Links, Wanted};
 pub use input::{place_in, second_look};
 pub use messages::Messages;
 pub use names::NameTaker;
+pub use own::FileId;
+pub use site::NoFolder;
 pub use spelled::Spelled;
-pub use wanted::Wanted;

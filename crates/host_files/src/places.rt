@@ -79,11 +79,6 @@ impl<W: Sink + Drop> Places<W> {
         self.left_out
     }
 
-    /// Whether this is the entry that was left out last.
-    pub fn is_out(&self, path: &Path) -> bool {
-        self.last_out == Some(*path)
-    }
-
     /// The path on the host of an entry, below the folder; nothing where it is left out.
     pub fn place(&mut self, path: &Path) -> Result<Option<String>, TakerFault>
         ensures below { IfOk result
@@ -91,23 +86,36 @@ impl<W: Sink + Drop> Places<W> {
             (λ text. IsHostPath (string_bytes self.old.folder) path.now (string_bytes text))) }
         ensures same { self.new.folder ≡ self.old.folder }
     {
-        if self.is_out(path) {
+        if self.last_out == Some(*path) {
             return Ok(None);
         }
-        let words = match host_text(self.alloc, self.folder.as_str(), path) {
-            Ok(text) => return Ok(Some(text)),
-            Err(HostPathFault::NoMemory) => return Err(TakerFault::NoMemory),
-            Err(HostPathFault::NoSpelling) => "it spells no name of the host",
-            Err(HostPathFault::NotUtf8) => "its name is not UTF-8",
-        };
-        self.leave_out(path, words);
-        Ok(None)
+        match self.text(path) {
+            Ok(text) => Ok(Some(text)),
+            Err(HostPathFault::NoMemory) => Err(TakerFault::NoMemory),
+            Err(fault) => {
+                self.leave_out(path, fault);
+                Ok(None)
+            }
+        }
     }
 
-    /// Counts an entry that is left out, and names it where none above it was.
-    fn leave_out(&mut self, path: &Path, words: &str)
+    /// The path on the host of an entry, below the folder, if it has one.
+    pub fn text(&self, path: &Path) -> Result<String, HostPathFault>
+        ensures { IfOk result
+            (λ text. IsHostPath (string_bytes self.now.folder) path.now (string_bytes text)) }
+    {
+        host_text(self.alloc, self.folder.as_str(), path)
+    }
+
+    /// Counts an entry that is left out for this reason, and names it where none above it was.
+    pub fn leave_out(&mut self, path: &Path, why: HostPathFault)
         ensures { self.new.folder ≡ self.old.folder }
     {
+        let words = match why {
+            HostPathFault::NoSpelling => "it spells no name of the host",
+            HostPathFault::NotUtf8 => "its name is not UTF-8",
+            HostPathFault::NoMemory => "memory ran out",
+        };
         self.left_out = self.left_out.saturating_add(1);
         self.last_out = Some(*path);
         if let Some(named) = &self.last_named

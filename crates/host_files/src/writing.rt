@@ -62,9 +62,9 @@ impl Writing {
         file.set_permissions(Permissions::from_mode(mode & PERMISSIONS | executes))
     }
 
-    /// Sets the seconds since 1970 that it gets, if it gets some.
-    pub fn set_seconds(&mut self, seconds: Option<u64>) {
-        self.seconds = seconds;
+    /// Sets the seconds since 1970 that it gets once all is written.
+    pub fn set_seconds(&mut self, seconds: u64) {
+        self.seconds = Some(seconds);
     }
 
     /// Writes out what is still to be written, and sets the time.

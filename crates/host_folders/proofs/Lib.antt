@@ -5,3 +5,4 @@ mod FaultLemmas
 pub mod MemoryLemmas
 pub mod WalkLemmas
 mod PackLemmas
+mod TargetLemmas

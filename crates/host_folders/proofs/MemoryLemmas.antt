@@ -10,7 +10,7 @@ use Rattle.std.proofs.Math.Seq.{take-add}
 use Rattle.store_model.specs.Paths.{Path, is_root, parent, same_path}
 use Rattle.path_keys.specs.PathOrder.{paths_ties}
 use Rattle.host_folders.specs.FolderState.{ReadsFile}
-use Rattle.host_folders.specs.Memory.{is_child, bytes_at, came_of, folder_state, file_bytes, is_file_at, left_of}
+use Rattle.host_folders.specs.Memory.{is_child, bytes_at, came_of, folder_state, bytes_of, left_of}
 use Rattle.host_folders.specs.Memory.{ReadsLeft}
 use Rattle.host_folders.specs.declared.memory.MemEntry.{MemEntry}
 use Rattle.host_folders.specs.declared.memory.MemFolder.{MemFolder}
@@ -81,6 +81,7 @@ reads_file old counted calls file left piece rest count is_ended same file_is le
     (take count (piece ++ rest)) is_ended in
     subst P (sym same) (λ is_open here. record {
       listed = refl;
+      targets = refl;
       read = λ before path bytes was_ended h. read_on old.entries.items old.closed.items file left piece rest count
           is_ended here piece_is fits before path bytes was_ended
           (sym (ap (λ (o : Option Reading). map (came_of old.entries.items) (old.closed.items ++ option_to_list o))
@@ -99,26 +100,25 @@ pub file_is_not_at : (p q : Path) (test is_file : Bool) → test ≡ pointwise (
     → test ≡ (same_path p q && is_file)
 file_is_not_at p q test is_file test_is is = is ∙ ap (λ (b : Bool). b && is_file) (sym is ∙ test_is ∙ paths_ties p q)
 
--- an entry that is no file at the path is passed over
-pub passed_over : (path : Path) (entries : List MemEntry) (place : ℕ) (x : MemEntry) → place < length entries
-    → x ≡ get_or entries place x → is_file_at path x ≡ false
-    → find (is_file_at path) (drop place entries) ≡ find (is_file_at path) (drop (place + 1) entries)
-passed_over path entries place x in_range x_is other =
-    ap (find (is_file_at path)) (drop_more entries place x in_range
+-- an entry that is not sought is passed over
+pub passed_over : (is : MemEntry → Bool) (entries : List MemEntry) (place : ℕ) (x : MemEntry)
+    → place < length entries → x ≡ get_or entries place x → is x ≡ false
+    → find is (drop place entries) ≡ find is (drop (place + 1) entries)
+passed_over is entries place x in_range x_is other =
+    ap (find is) (drop_more entries place x in_range
     ∙ ap (λ (e : MemEntry). e ∷ drop (place + 1) entries) (sym x_is))
-    ∙ ap (λ (b : Bool). cond b (Some x) (find (is_file_at path) (drop (place + 1) entries))) other
+    ∙ ap (λ (b : Bool). cond b (Some x) (find is (drop (place + 1) entries))) other
 
--- and one that is a file there is found
-pub found_here : (path : Path) (entries : List MemEntry) (place : ℕ) (x : MemEntry) → place < length entries
-    → x ≡ get_or entries place x → is_file_at path x ≡ true
-    → find (is_file_at path) (drop place entries) ≡ find (is_file_at path) entries
-    → Some (bytes_at entries place) ≡ file_bytes entries path
-found_here path entries place x in_range x_is here before =
+-- and one that is sought is found
+pub found_here : (is : MemEntry → Bool) (entries : List MemEntry) (place : ℕ) (x : MemEntry)
+    → place < length entries → x ≡ get_or entries place x → is x ≡ true
+    → find is (drop place entries) ≡ find is entries → Some (bytes_at entries place) ≡ bytes_of is entries
+found_here is entries place x in_range x_is here before =
     let bytes = λ (e : MemEntry). e.bytes.items in
     ap Some (get_or-map bytes entries place x [] in_range ∙ ap bytes (sym x_is))
-    ∙ ap (λ (b : Bool). option_map bytes (cond b (Some x) (find (is_file_at path) (drop (place + 1) entries))))
+    ∙ ap (λ (b : Bool). option_map bytes (cond b (Some x) (find is (drop (place + 1) entries))))
     (sym here)
-    ∙ ap (λ (es : List MemEntry). option_map bytes (find (is_file_at path) es))
+    ∙ ap (λ (es : List MemEntry). option_map bytes (find is es))
     (sym (drop_more entries place x in_range ∙ ap (λ (e : MemEntry). e ∷ drop (place + 1) entries) (sym x_is)))
     ∙ ap (option_map bytes) before
 

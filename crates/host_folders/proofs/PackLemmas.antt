@@ -1,5 +1,5 @@
 -- What is written of a folder where its stream is whole.
-use Rattle.std.proofs.Common.{◌≡◌, List, Result, Ok, Err, subst}
+use Rattle.std.proofs.Common.{◌≡◌, List, Result, Ok, Err, ap, subst, ◌∙◌}
 use Rattle.std.specs.Prelude.{OnOk, IfErr}
 use Rattle.script_lines.specs.SinkState.{SinkState}
 use Rattle.dump_streams.specs.Draining.{WritesDump, WritesUntil}
@@ -14,7 +14,7 @@ module _ {F W : Type 0} (state_of : F → FolderState) (sink_of : W → SinkStat
   pub packs : (start stream : FolderStream F) (folder : F) (found : List Found) (old new : W)
       (result : Result (Unit {0}) DrainFault) → start.first.value ≡ folder → start.found.items ≡ found
       → IsOfSame start stream
-      → WritesDump (CameOf state_of) (IsPacked state_of) EndsBy sink_of stream old new result
+      → WritesDump (CameOf state_of) (IsPacked state_of) (EndsBy state_of) sink_of stream old new result
       → OnOk result (PacksFolder state_of sink_of folder stream.folder found old new)
   packs start stream folder found old new (Err fault) first items same written = tt
   packs start stream folder found old new (Ok done) first items same written =
@@ -25,14 +25,16 @@ module _ {F W : Type 0} (state_of : F → FolderState) (sink_of : W → SinkStat
         tree = written.tree;
         is_tree = whole.is_tree;
         files = whole.files;
-        entries = subst (λ (fs : List Found). HasFiles fs whole.files written.tree) all whole.entries;
+        links = whole.links;
+        entries = subst (λ (fs : List Found). HasFiles fs whole.files whole.links written.tree) all whole.entries;
+        faults = whole.faults ∙ ap (λ (f : F). (state_of f).faults) before;
         told = subst (λ (f : F). IsObservable (state_of f)
-            → ReadsFiles (state_of f) (state_of stream.folder) (whole_files whole.files)) before whole.told;
+            → ReadsFiles (state_of f) (state_of stream.folder) (whole_files whole.files) whole.links) before whole.told;
         written = written.written;
       }
 
   pub stops : (stream : FolderStream F) (old new : W) (result : Result (Unit {0}) DrainFault)
-      → WritesDump (CameOf state_of) (IsPacked state_of) EndsBy sink_of stream old new result
-      → IfErr result (WritesUntil (CameOf state_of) (IsPacked state_of) EndsBy sink_of stream old new)
+      → WritesDump (CameOf state_of) (IsPacked state_of) (EndsBy state_of) sink_of stream old new result
+      → IfErr result (WritesUntil (CameOf state_of) (IsPacked state_of) (EndsBy state_of) sink_of stream old new)
   stops stream old new (Ok done) written = tt
   stops stream old new (Err fault) written = written

@@ -1,4 +1,5 @@
 pub mod Facts
+pub mod Targets
 pub mod FoundEntries
 pub mod FolderState
 pub mod Walks

@@ -1,20 +1,18 @@
 -- A folder in memory, as its clauses see it.
-use Rattle.std.specs.Prelude.{◌≡◌, ◌⊎◌, ℕ, Bool, true, false, not, ◌&&◌, List, [], ◌++◌, length, map, take, drop}
-use Rattle.std.specs.Prelude.{filter, min, max, Contains, Option, Some, option_map, option_to_list, slice_index_or}
+use Rattle.std.specs.Prelude.{◌≡◌, ◌⊎◌, ℕ, Bool, true, not, IsTrue, ◌&&◌, List, [], ◌++◌, length, map, take, drop}
+use Rattle.std.specs.Prelude.{filter, min, max, Contains, Option, Some, None, is_some, option_map, option_to_list}
+use Rattle.std.specs.Prelude.{slice_index_or}
 use Rattle.std.specs.List.{find}
 use Rattle.store_model.specs.Paths.{Path, is_root, parent, same_path}
-use Rattle.tree_pairs.specs.declared.kind.Kind.{Kind}
-use Rattle.tree_pairs.specs.declared.kind.Kind.TheVariants.{Directory, File}
+use Rattle.host_builder.specs.HostAttributes.{is_target}
 use Rattle.host_folders.specs.FolderState.{FolderState}
+use Rattle.host_folders.specs.FoundEntries.{is_file, is_link}
 use Rattle.host_folders.specs.declared.found.Found.{Found}
+use Rattle.host_folders.specs.Targets.{target_fault}
+use Rattle.host_folders.specs.declared.memory.Asked.{Asked}
 use Rattle.host_folders.specs.declared.memory.MemEntry.{MemEntry}
 use Rattle.host_folders.specs.declared.memory.MemFolder.{MemFolder}
 use Rattle.host_folders.specs.declared.memory.Reading.{Reading}
-
--- whether it is a file
-abbrev pub is_file : Kind → Bool
-is_file Directory = false
-is_file (File len) = true
 
 -- whether a path lies right below the other
 abbrev pub is_child : Path → Path → Bool
@@ -32,12 +30,18 @@ bytes_at entries place = slice_index_or (map (λ e. e.bytes.items) entries) plac
 abbrev pub came_of : List MemEntry → Reading → Path × List ℕ × Bool
 came_of entries reading = (reading.path, take reading.at (bytes_at entries reading.entry), reading.is_ended)
 
+-- a link that was asked, with its target
+abbrev pub target_of : List MemEntry → Asked → Path × List ℕ
+target_of entries asked = (asked.path, bytes_at entries asked.entry)
+
 -- what the folder told
 abbrev pub folder_state : MemFolder → FolderState
 folder_state folder = record {
   is_observable = true;
   listed = map (λ l. (l.path, l.found.items)) folder.listed.items;
   read = map (came_of folder.entries.items) (folder.closed.items ++ option_to_list folder.file);
+  targets = map (target_of folder.entries.items) folder.asked.items;
+  faults = folder.faults;
 }
 
 -- what the folder tells of the folder at a path
@@ -48,13 +52,37 @@ children_of folder path = told_of folder.entries.items path
 abbrev pub is_file_at : Path → MemEntry → Bool
 is_file_at path entry = same_path entry.found.path path && is_file entry.found.kind
 
--- the bytes of the first file at a path, if there is one
+-- whether an entry is a link at the path
+abbrev pub is_link_at : Path → MemEntry → Bool
+is_link_at path entry = same_path entry.found.path path && is_link entry.found.kind
+
+-- the bytes of the first entry of some, if there is one
+abbrev pub bytes_of : (MemEntry → Bool) → List MemEntry → Option (List ℕ)
+bytes_of is entries = option_map (λ e. e.bytes.items) (find is entries)
+
+-- the bytes of the first file at a path
 abbrev pub file_bytes : List MemEntry → Path → Option (List ℕ)
-file_bytes entries path = option_map (λ e. e.bytes.items) (find (is_file_at path) entries)
+file_bytes entries path = bytes_of (is_file_at path) entries
+
+-- and those of the first link
+abbrev pub link_bytes : List MemEntry → Path → Option (List ℕ)
+link_bytes entries path = bytes_of (is_link_at path) entries
+
+-- whether they are no target
+abbrev pub lacks_target : Option (List ℕ) → Bool
+lacks_target None = true
+lacks_target (Some bytes) = is_some (target_fault bytes)
 
 -- of the file that is open, its path and its bytes that did not come yet
 abbrev pub left_of : MemFolder → Option (Path × List ℕ)
 left_of folder = option_map (λ r. (r.path, drop r.at (bytes_at folder.entries.items r.entry))) folder.file
+
+-- the entry at this place is the first link at the path, and leads there
+pub record IsLinkAt (entries : List MemEntry) (path : Path) (place : ℕ) (target : List ℕ) : Type 0 where
+  pub is_first : link_bytes entries path ≡ Some target
+  pub here : bytes_at entries place ≡ target
+  pub valid : IsTrue (is_target target)
+  pub whole : target_fault target ≡ None
 
 -- the first file at the path is open, and none of its bytes came yet
 pub record IsOpenAt (folder : MemFolder) (path : Path) : Type 0 where

@@ -9,7 +9,9 @@ use Rattle.dump_streams.specs.Dumps.{after_step}
 use Rattle.dump_streams.specs.Dumps.{dump_piece}
 use Rattle.dump_streams.specs.Streams.{Extends}
 use Rattle.host_folders.specs.FolderState.{FolderState, IsObservable, ReadsFile}
+use Rattle.host_folders.specs.Faults.{faults_after}
 use Rattle.host_folders.specs.Packed.{found_at}
+use Rattle.host_folders.specs.declared.fault.FolderFault.{FolderFault}
 use Rattle.host_folders.specs.declared.found.Found.{Found}
 use Rattle.host_folders.specs.declared.stream.Place.{Place}
 use Rattle.host_folders.specs.declared.stream.Place.TheVariants as places
@@ -27,9 +29,10 @@ pub record IsPiece (old new : FolderState) (path : Path) (at : ℕ) (c : DumpSte
   pub count_is : count ≡ length bytes
   pub told : IsObservable old → ReadsFile old new bytes (nat_lt count dump_piece)
 
-pub record ReadsPiece {E : Type 0} (old new : FolderState) (path : Path) (at : ℕ) (c : DumpStep)
-    (result : Result ℕ E) : Type 0 where
+pub record ReadsPiece (old new : FolderState) (path : Path) (at : ℕ) (c : DumpStep)
+    (result : Result ℕ FolderFault) : Type 0 where
   pub observable : new.is_observable ≡ old.is_observable
+  pub faults : new.faults ≡ faults_after old.faults result
   pub piece : IfOk result (IsPiece old new path at c)
 
 -- what comes behind the piece of a file that begins at an offset: a full one leaves it open whether there is another

@@ -89,7 +89,7 @@ pub(crate) fn present_at(all: &[Option<Attribute>], at: usize) -> Option<Attribu
 }
 
 /// A name of an attribute.
-fn attribute_name(text: &[u8]) -> AttrName
+pub(crate) fn attribute_name(text: &[u8]) -> AttrName
     requires { IsTrue (is_attribute_name text.now) }
     ensures value { result ≡ text.now }
 {

@@ -1,7 +1,7 @@
 //! What can go wrong with a folder.
 
 ghost use Rattle.std.specs.Prelude.{◌≡◌};
-ghost use Rattle.host_folders.specs.Faults.{stream_fault};
+ghost use Rattle.host_folders.specs.Faults.{find_fault, stream_fault};
 
 use dump_streams::StreamFault;
 use thiserror::Error;
@@ -12,12 +12,9 @@ pub enum FolderFault {
     /// Memory ran out.
     #[error("memory ran out")]
     NoMemory,
-    /// A folder or a file cannot be read.
+    /// A folder, a file or a link cannot be read.
     #[error("the folder cannot be read")]
     Unreadable,
-    /// More stands in the folder than an image can hold.
-    #[error("the folder has too many entries")]
-    TooMany,
 }
 
 impl From<FolderFault> for StreamFault {
@@ -27,7 +24,32 @@ impl From<FolderFault> for StreamFault {
     fn from(fault: FolderFault) -> Self {
         match fault {
             FolderFault::NoMemory => StreamFault::NoMemory,
-            FolderFault::Unreadable | FolderFault::TooMany => StreamFault::Unreadable,
+            FolderFault::Unreadable => StreamFault::Unreadable,
+        }
+    }
+}
+
+/// Why not all that stands in a folder was found.
+#[derive(Clone, Copy, Debug, PartialEq, Eq, Error)]
+pub enum FindFault {
+    /// Memory ran out.
+    #[error("memory ran out")]
+    NoMemory,
+    /// A folder cannot be read.
+    #[error("the folder cannot be read")]
+    Unreadable,
+    /// The folder told more entries than are looked for.
+    #[error("the folder has too many entries")]
+    TooMany,
+}
+
+impl From<FolderFault> for FindFault {
+    ghost from_gives = { λ cause fault. fault ≡ find_fault cause };
+
+    fn from(fault: FolderFault) -> Self {
+        match fault {
+            FolderFault::NoMemory => FindFault::NoMemory,
+            FolderFault::Unreadable => FindFault::Unreadable,
         }
     }
 }

@@ -1,15 +1,19 @@
 //! The contract of a folder of the host.
 
-ghost use Rattle.host_folders.specs.FolderState.{FolderState, IsListed, IsOpened, IsFileRead};
+ghost use Rattle.host_folders.specs.FolderState.{FolderState, IsListed, IsOpened, IsFileRead, IsAsked};
 
 use crate::fault::FolderFault;
 use crate::found::Found;
+use crate::target::LinkTarget;
 use path_keys::Path;
 
-/// A folder of the host, which tells what stands in it and what its files hold. It may change between two calls: what
-/// counts are its answers.
+/// A folder of the host, which tells what stands in it, what its files hold and where its links lead. It may change
+/// between two calls: what counts are its answers.
+///
+/// Each call answers `Unreadable` only where the folder's count of faults rose by one, up to its last value, and
+/// `NoMemory` where memory ran out.
 pub trait Folder {
-    /// What it has told so far.
+    /// What it has told so far, and how many of its calls failed.
     ghost state: { Self → FolderState };
 
     /// Adds what stands in the folder at a path, in any order, to what was found. What has no place in an image is left
@@ -26,4 +30,8 @@ pub trait Folder {
     /// not empty, no bytes come only at the end of the file.
     fn read(&mut self, into: &mut [u8]) -> Result<usize, FolderFault>
         ensures { IsFileRead (state self.old) (state self.new) into.new result };
+
+    /// Answers where the link at a path leads. It is not followed.
+    fn target(&mut self, path: &Path) -> Result<LinkTarget, FolderFault>
+        ensures { IsAsked (state self.old) (state self.new) path.now result };
 }

@@ -1,26 +1,31 @@
 //! A folder in memory, some of whose calls fail on purpose. It tells its answers.
 
 ghost use Rattle.std.specs.Prelude.{◌≡◌, ◌↔◌, ◌⊎◌, ◌+◌, ◌^◌, ◌<◌, ◌≤◌, ◌++◌, [], None, option_map, Contains, IfOk};
-ghost use Rattle.std.specs.Prelude.{IfErr, IsErr, drop, IsTrue, OnErr, OnOk, length, slice_index_or, min, max, true};
+ghost use Rattle.std.specs.Prelude.{IfErr, IsErr, IfSome, IsNone, Some, drop, IsTrue, OnErr, OnOk, length, min, max};
+ghost use Rattle.std.specs.Prelude.{true};
 ghost use Rattle.store_base.specs.Counts.{raised};
-ghost use Rattle.host_folders.specs.FolderState.{IsListed, IsOpened, IsFileRead};
+ghost use Rattle.host_folders.specs.Faults.{faults_after};
+ghost use Rattle.host_folders.specs.FolderState.{IsListed, IsOpened, IsFileRead, IsAsked};
 ghost use Rattle.host_folders.specs.FolderState as states;
+ghost use Rattle.host_folders.specs.FoundEntries.{is_file, is_link};
 ghost use Rattle.host_folders.specs.declared.fault.FolderFault.TheVariants as faults;
 ghost use Rattle.host_folders.specs.Memory.{HasSameEntries, IsRefused, IsOpenAt, ReadsLeft, bytes_at, children_of};
-ghost use Rattle.host_folders.specs.Memory.{file_bytes, folder_state, is_child, is_file, is_file_at, left_of, told_of};
+ghost use Rattle.host_folders.specs.Memory.{file_bytes, folder_state, is_child, is_file_at, is_link_at, lacks_target};
+ghost use Rattle.host_folders.specs.Memory.{left_of, link_bytes, told_of, IsLinkAt};
 
 use crate::fault::FolderFault;
 use crate::folder::Folder;
-use crate::found::Found;
+use crate::found::{Found, FoundKind};
+use crate::target::LinkTarget;
 use path_keys::Path;
-use tree_pairs::Kind;
 
 /// What stands at a path of a folder in memory.
 #[derive(Drop)]
 pub struct MemEntry {
     /// What the folder tells of it. The parents of its path need not stand there too.
     pub found: Found,
-    /// The bytes that a file gives when it is read, as many as it was found to have or not; none for a folder.
+    /// The bytes that a file gives when it is read, as many as it was found to have or not, and those of the target of
+    /// a link; none for a folder.
     pub bytes: Vec<u8>,
 }
 
@@ -43,6 +48,14 @@ struct Reading {
     is_ended: bool,
 }
 
+/// A link that was asked where it leads.
+#[derive(Clone, Copy)]
+struct Asked {
+    path: Path,
+    /// Which of the entries it is.
+    entry: usize,
+}
+
 /// A folder in memory. It tells its answers.
 #[derive(Drop)]
 pub struct MemFolder {
@@ -55,14 +68,19 @@ pub struct MemFolder {
     closed: Vec<Reading>,
     /// The file that is open.
     file: Option<Reading>,
+    asked: Vec<Asked>,
+    /// How many calls failed.
+    faults: u64,
 }
 
 impl MemFolder {
     /// A folder that has these entries. A read gives at most `piece` bytes, though at least 1 where one is left. Its
     /// calls are numbered from 0, and those fail whose numbers stand in `failing`. Another call fails only where
-    /// memory runs out, where what is opened is no file, or where no file is open.
+    /// memory runs out, where what is opened is no file, where no file is open, or where what is asked is no link with
+    /// a target.
     pub fn new(entries: Vec<MemEntry>, piece: usize, failing: Vec<u64>) -> Self
-        ensures { folder_state result ≡ record { is_observable = true; listed = []; read = [] } }
+        ensures { folder_state result
+            ≡ record { is_observable = true; listed = []; read = []; targets = []; faults = 0 } }
     {
         let alloc = *entries.allocator();
         MemFolder {
@@ -73,19 +91,33 @@ impl MemFolder {
             listed: Vec::new(alloc),
             closed: Vec::new(alloc),
             file: None,
+            asked: Vec::new(alloc),
+            faults: 0,
         }
+    }
+
+    /// Counts a call that fails.
+    fn refuse(&mut self) -> FolderFault
+        ensures fault { result ≡ faults.Unreadable }
+        ensures counted { self.new ≡ record self.old { faults = raised self.old.faults } }
+    {
+        self.faults = self.faults.saturating_add(1);
+        FolderFault::Unreadable
     }
 
     /// Counts a call, and fails where it is to fail.
     fn count_call(&mut self) -> Result<(), FolderFault>
         ensures fails { IsErr result ↔ Contains self.old.failing.items self.old.calls }
         ensures fault { IfErr result (λ fault. fault ≡ faults.Unreadable) }
-        ensures counted { self.new ≡ record self.old { calls = raised self.old.calls } }
+        ensures counted { self.new ≡ record self.old {
+          calls = raised self.old.calls;
+          faults = faults_after self.old.faults result;
+        } }
     {
         let fails = self.failing.contains(&self.calls);
         self.calls = self.calls.saturating_add(1);
         if fails {
-            return Err(FolderFault::Unreadable);
+            return Err(self.refuse());
         }
         Ok(())
     }
@@ -117,7 +149,7 @@ impl MemFolder {
     }
 
     /// Which of the entries is the first file at a path.
-    fn place_of(&self, path: &Path) -> Option<usize>
+    fn place_of_file(&self, path: &Path) -> Option<usize>
         ensures { option_map (bytes_at self.now.entries.items) result
             ≡ file_bytes self.now.entries.items path.now }
     {
@@ -127,6 +159,29 @@ impl MemFolder {
             }
         }
         None
+    }
+
+    /// Which of the entries is the first link at a path.
+    fn place_of_link(&self, path: &Path) -> Option<usize>
+        ensures { option_map (bytes_at self.now.entries.items) result
+            ≡ link_bytes self.now.entries.items path.now }
+    {
+        for (place, entry) in self.entries.iter().enumerate() {
+            if is_link_at(entry, path) {
+                return Some(place);
+            }
+        }
+        None
+    }
+
+    /// The target of the first link at a path, and which of the entries that is.
+    fn link_at(&self, path: &Path) -> Option<(usize, LinkTarget)>
+        ensures some { IfSome result (λ link. IsLinkAt self.now.entries.items path.now link.0 link.1) }
+        ensures none { IsNone result ↔ IsTrue (lacks_target (link_bytes self.now.entries.items path.now)) }
+    {
+        let entry = self.place_of_link(path)?;
+        let target = LinkTarget::parse(self.left(entry, 0)).ok()?;
+        Some((entry, target))
     }
 }
 
@@ -173,8 +228,8 @@ impl Folder for MemFolder {
             ⊎ IsRefused self.old (file_bytes self.old.entries.items path.now ≡ None)) }
     {
         self.count_call()?;
-        let Some(entry) = self.place_of(path) else {
-            return Err(FolderFault::Unreadable);
+        let Some(entry) = self.place_of_file(path) else {
+            return Err(self.refuse());
         };
         if let Some(file) = self.file
             && self.closed.push(file).is_err()
@@ -202,7 +257,7 @@ impl Folder for MemFolder {
     {
         self.count_call()?;
         let Some(file) = self.file else {
-            return Err(FolderFault::Unreadable);
+            return Err(self.refuse());
         };
         let Reading {
             path,
@@ -221,6 +276,29 @@ impl Folder for MemFolder {
         });
         Ok(count)
     }
+
+    /// Answers where the first entry leads that is a link at the path.
+    /// `Unreadable`: the call is to fail, or there is none, or its bytes are no target.
+    fn target(&mut self, path: &Path) -> Result<LinkTarget, FolderFault>
+        ensures contract { IsAsked (folder_state self.old) (folder_state self.new) path.now result }
+        ensures same { HasSameEntries self.old self.new }
+        ensures unchanged { left_of self.new ≡ left_of self.old }
+        ensures told { IfOk result (λ target. link_bytes self.old.entries.items path.now ≡ Some target) }
+        ensures fails { IsRefused self.old (IsTrue (lacks_target (link_bytes self.old.entries.items path.now)))
+            → IsErr result }
+        ensures fault { IfErr result (λ fault. fault ≡ faults.NoMemory
+            ⊎ IsRefused self.old (IsTrue (lacks_target (link_bytes self.old.entries.items path.now)))) }
+    {
+        self.count_call()?;
+        let Some((entry, target)) = self.link_at(path) else {
+            return Err(self.refuse());
+        };
+        let asked = Asked { path: *path, entry };
+        if self.asked.push(asked).is_err() {
+            return Err(FolderFault::NoMemory);
+        }
+        Ok(target)
+    }
 }
 
 /// Whether an entry is a file at a path.
@@ -230,11 +308,25 @@ fn is_file_at(entry: &MemEntry, path: &Path) -> bool
     entry.found.path == *path && is_file(entry.found.kind)
 }
 
+/// Whether an entry is a link at a path.
+fn is_link_at(entry: &MemEntry, path: &Path) -> bool
+    ensures { result ≡ is_link_at path.now entry.now }
+{
+    entry.found.path == *path && is_link(entry.found.kind)
+}
+
 /// Whether it is a file.
-fn is_file(kind: Kind) -> bool
+fn is_file(kind: FoundKind) -> bool
     ensures { result ≡ is_file kind }
 {
-    matches!(kind, Kind::File(_))
+    matches!(kind, FoundKind::File(_))
+}
+
+/// Whether it is a link.
+fn is_link(kind: FoundKind) -> bool
+    ensures { result ≡ is_link kind }
+{
+    matches!(kind, FoundKind::Link)
 }
 
 /// Whether a path lies right below the other.

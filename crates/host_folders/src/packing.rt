@@ -25,7 +25,7 @@ pub fn pack_folder<F: Folder, W: Sink>(
     ensures first { result.0.first.value ≡ folder }
     ensures found { result.0.found ≡ found }
     ensures stops { IfErr result.2 (WritesUntil (CameOf F.state)
-        (IsPacked F.state) EndsBy W.state result.0 sink result.1) }
+        (IsPacked F.state) (EndsBy F.state) W.state result.0 sink result.1) }
 {
     let mut stream = FolderStream::new(folder, found);
     let (sink, written) = write_dump(&mut stream, sink);

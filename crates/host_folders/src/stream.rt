@@ -8,14 +8,15 @@ ghost use Rattle.host_folders.specs.Packed.{CameOf, IsFile, IsPacked, IsOfSame, 
 ghost use Rattle.host_folders.specs.Steps.{path_at, Gives};
 ghost use Rattle.host_folders.specs.Steps as steps;
 
+use crate::attribute::attribute_name;
 use crate::folder::Folder;
-use crate::found::Found;
+use crate::found::{Found, FoundKind};
 use crate::pieces::read_piece;
+use crate::target::LinkTarget;
 use dump_streams::{DUMP_PIECE, DumpStep, DumpStream, ListingReader, StreamFault};
 use path_keys::Path;
 use std::snapshot::Snapshot;
 use store_base::Version;
-use tree_pairs::Kind;
 
 /// What comes next.
 #[derive(Clone, Copy, Debug)]
@@ -24,12 +25,14 @@ enum Place {
     Start,
     /// The piece of this file that begins at this offset.
     Piece(Found, u32),
-    /// The attribute at this index among those of this.
+    /// The attribute at this index among those of this folder or file.
     Attribute(Found, usize),
+    /// The attribute of this link, which leads there.
+    Target(Found, LinkTarget),
 }
 
-/// The steps of the dump of the tree that a folder's answers give: what was found in it, and what its files hold
-/// when they are read.
+/// The steps of the dump of the tree that a folder's answers give: what was found in it, what its files hold when they
+/// are read, and where its links lead when they are asked.
 #[derive(Drop)]
 pub struct FolderStream<F: Folder> {
     folder: F,
@@ -39,7 +42,7 @@ pub struct FolderStream<F: Folder> {
     place: Place,
     /// Which step may be the next.
     reader: ListingReader,
-    /// The folder before the first file was opened.
+    /// The folder before it was asked for the first file or link.
     first: Snapshot<F>,
 }
 
@@ -71,7 +74,9 @@ impl<F: Folder> FolderStream<F> {
                 Some(found) => Some(found.path),
                 None => None,
             },
-            Place::Piece(found, _) | Place::Attribute(found, _) => Some(found.path),
+            Place::Piece(found, _) | Place::Attribute(found, _) | Place::Target(found, _) => {
+                Some(found.path)
+            }
         }
     }
 
@@ -109,7 +114,7 @@ impl<F: Folder> FolderStream<F> {
         requires { self.old.place ≡ Place.Start }
         ensures next { IsNext (CameOf F.state self.old) (CameOf F.state self.new)
             (IsPacked F.state self.new)
-            (EndsBy self.new) into.new result }
+            (EndsBy F.state self.new) into.new result }
         ensures same { IsOfSame self.old self.new }
     {
         if self.at >= self.found.len() {
@@ -117,8 +122,9 @@ impl<F: Folder> FolderStream<F> {
         }
         let found = self.found[self.at];
         match found.kind {
-            Kind::Directory => self.begin_folder(&found, into)?,
-            Kind::File(_) => self.begin_file(&found, into)?,
+            FoundKind::Folder => self.begin_folder(&found, into)?,
+            FoundKind::File(_) => self.begin_file(&found, into)?,
+            FoundKind::Link => self.begin_link(&found, into)?,
         }
         Ok(true)
     }
@@ -126,13 +132,13 @@ impl<F: Folder> FolderStream<F> {
     /// Makes a folder, the next entry.
     fn begin_folder(&mut self, found: &Found, into: &mut DumpStep) -> Result<(), StreamFault>
         requires start { self.old.place ≡ Place.Start }
-        requires kind { found.now.kind ≡ Kind.Directory }
+        requires kind { found.now.kind ≡ FoundKind.Folder }
         requires more { self.old.at < vec_len self.old.found }
         requires here { take (self.old.at + 1) self.old.found.items
             ≡ take self.old.at self.old.found.items ++ found.now ∷ [] }
         ensures gives { Gives (CameOf F.state self.old) (CameOf F.state self.new)
             into.new result }
-        ensures failed { (t : Tree) → CameOf F.state self.old t → IfErr result (EndsBy self.new t) }
+        ensures failed { (t : Tree) → CameOf F.state self.old t → IfErr result (EndsBy F.state self.new t) }
         ensures same { IsOfSame self.old self.new }
     {
         into.make(found.path);
@@ -151,7 +157,7 @@ impl<F: Folder> FolderStream<F> {
             ≡ take self.old.at self.old.found.items ++ found.now ∷ [] }
         ensures gives { Gives (CameOf F.state self.old) (CameOf F.state self.new)
             into.new result }
-        ensures failed { (t : Tree) → CameOf F.state self.old t → IfErr result (EndsBy self.new t) }
+        ensures failed { (t : Tree) → CameOf F.state self.old t → IfErr result (EndsBy F.state self.new t) }
         ensures same { IsOfSame self.old self.new }
     {
         self.folder.open(&found.path)?;
@@ -162,12 +168,51 @@ impl<F: Folder> FolderStream<F> {
         Ok(())
     }
 
+    /// Asks where a link leads, the next entry, and writes the empty file that stands for it.
+    fn begin_link(&mut self, found: &Found, into: &mut DumpStep) -> Result<(), StreamFault>
+        requires start { self.old.place ≡ Place.Start }
+        requires kind { found.now.kind ≡ FoundKind.Link }
+        requires more { self.old.at < vec_len self.old.found }
+        requires here { take (self.old.at + 1) self.old.found.items
+            ≡ take self.old.at self.old.found.items ++ found.now ∷ [] }
+        ensures gives { Gives (CameOf F.state self.old) (CameOf F.state self.new)
+            into.new result }
+        ensures failed { (t : Tree) → CameOf F.state self.old t → IfErr result (EndsBy F.state self.new t) }
+        ensures same { IsOfSame self.old self.new }
+    {
+        let target = self.folder.target(&found.path)?;
+        into.write(found.path, 0, &[]);
+        self.add(into)?;
+        self.at += 1;
+        self.place = Place::Target(*found, target);
+        Ok(())
+    }
+
+    /// Gives a link its attribute, which says where it leads.
+    fn lead(
+        &mut self,
+        found: &Found,
+        target: &LinkTarget,
+        into: &mut DumpStep,
+    ) -> Result<bool, StreamFault>
+        requires { self.old.place ≡ Place.Target found.now target.now }
+        ensures next { IsNext (CameOf F.state self.old) (CameOf F.state self.new)
+            (IsPacked F.state self.new)
+            (EndsBy F.state self.new) into.new result }
+        ensures same { IsOfSame self.old self.new }
+    {
+        into.set(found.path, attribute_name(b"link"), target.as_bytes());
+        self.add(into)?;
+        self.place = Place::Start;
+        Ok(true)
+    }
+
     /// Writes the piece of a file that begins at an offset, if one is there, and else what comes behind the file.
     fn piece(&mut self, found: &Found, at: u32, into: &mut DumpStep) -> Result<bool, StreamFault>
         requires { self.old.place ≡ Place.Piece found.now at }
         ensures next { IsNext (CameOf F.state self.old) (CameOf F.state self.new)
             (IsPacked F.state self.new)
-            (EndsBy self.new) into.new result }
+            (EndsBy F.state self.new) into.new result }
         ensures same { IsOfSame self.old self.new }
     {
         let count = read_piece(&mut self.folder, &found.path, at, into)?;
@@ -190,7 +235,7 @@ impl<F: Folder> FolderStream<F> {
         requires { self.old.place ≡ Place.Attribute found.now index }
         ensures next { IsNext (CameOf F.state self.old) (CameOf F.state self.new)
             (IsPacked F.state self.new)
-            (EndsBy self.new) into.new result }
+            (EndsBy F.state self.new) into.new result }
         ensures same { IsOfSame self.old self.new }
     {
         let Some(attribute) = found.attribute(index) else {
@@ -227,15 +272,25 @@ impl<F: Folder> DumpStream for FolderStream<F> {
 
     ghost keeps = { IsOfSame };
 
-    ghost fails = { EndsBy };
+    ghost fails = { EndsBy F.state };
 
-    /// `NoDump`: no dump goes on with what the entry at `path` asks for. `Unreadable`, `NoMemory`: the folder
-    /// answered so.
+    /// `NoDump`: no dump goes on with what the entry at `path` asks for. `Unreadable`: the folder answered so, and
+    /// counted a fault. `NoMemory`: it answered so.
     fn next(&mut self, into: &mut DumpStep) -> Result<bool, StreamFault> {
-        match self.place {
+        match &self.place {
             Place::Start => self.begin(into),
-            Place::Piece(found, at) => self.piece(&found, at, into),
-            Place::Attribute(found, index) => self.attribute(&found, index, into),
+            Place::Piece(found, at) => {
+                let (found, at) = (*found, *at);
+                self.piece(&found, at, into)
+            }
+            Place::Attribute(found, index) => {
+                let (found, index) = (*found, *index);
+                self.attribute(&found, index, into)
+            }
+            Place::Target(found, target) => {
+                let (found, target) = (*found, *target);
+                self.lead(&found, &target, into)
+            }
         }
     }
 }

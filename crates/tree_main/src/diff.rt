@@ -6,6 +6,7 @@ use crate::trouble::{Trouble, spelled};
 use dump_diff::{
     AdditionTaker, CompareFault, Differences, compare, write_differences, write_removals,
 };
+use dump_streams::StreamFault;
 
 /// Prints how two listings differ, or the script that leads from the tree of the first to that of the second, and
 /// says whether they are equal.
@@ -32,6 +33,7 @@ fn differences(
         Ok(found) => Ok(found),
         Err(CompareFault::First(fault)) => Err(trouble_of(rt, first, one, fault)),
         Err(CompareFault::Second(fault)) => Err(trouble_of(rt, second, other, fault)),
+        Err(CompareFault::TooLong) => Err(trouble_of(rt, first, one, StreamFault::TooLong)),
         Err(CompareFault::NoMemory(_)) => Err(Trouble::NoMemory),
     }
 }

@@ -5,7 +5,7 @@ use crate::trouble::Trouble;
 use crate::words::Taken;
 use dump_streams::StreamFault;
 use host_files::{Messages, StdFolder};
-use host_folders::{FolderFault, FolderStream, Found, find_all};
+use host_folders::{FindFault, FolderStream, Found, find_all};
 use script_lines::StdSink;
 use std::io::Stderr;
 
@@ -28,7 +28,9 @@ pub struct Packed {
 pub fn go_through(rt: HostRuntime, folder: &str, taken: Taken) -> Result<Packed, Trouble> {
     let folder = String::from_str(rt.alloc(), folder)?;
     let sink = StdSink::new(rt.stderr());
-    let mut folder = StdFolder::new(rt, folder, taken.wanted, taken.skips, sink);
+    let own = Vec::new(rt.alloc());
+    let messages = Messages::new(sink);
+    let mut folder = StdFolder::new(rt, folder, taken.wanted, own, messages);
     let found = found_in(rt, &mut folder, taken.skips)?;
     let lacks = folder.left_out() > 0;
     Ok(Packed {
@@ -41,9 +43,9 @@ pub fn go_through(rt: HostRuntime, folder: &str, taken: Taken) -> Result<Packed,
 fn found_in(rt: HostRuntime, folder: &mut Host, skips: bool) -> Result<Vec<Found>, Trouble> {
     let found = match find_all(rt.alloc(), folder) {
         Ok(found) => found,
-        Err(FolderFault::NoMemory) => return Err(Trouble::NoMemory),
-        Err(FolderFault::Unreadable) => return Err(Trouble::Said),
-        Err(FolderFault::TooMany) => return Err(Trouble::TooMany),
+        Err(FindFault::NoMemory) => return Err(Trouble::NoMemory),
+        Err(FindFault::Unreadable) => return Err(Trouble::Said),
+        Err(FindFault::TooMany) => return Err(Trouble::TooMany),
     };
     let left_out = folder.left_out();
     if left_out > 0 && !skips {

@@ -5,12 +5,9 @@ use crate::progress::Watched;
 use crate::trouble::Trouble;
 use crate::words::Taken;
 use dump_streams::{DrainFault, NoTaker, Taker, TakerFault, drain};
-use host_files::{NameTaker, StdBuilder};
+use host_builder::{BuildFault, Built, Links, Wanted, build};
+use host_files::{HostBuilder, Messages, NameTaker};
 use script_lines::StdSink;
-use std::io::Stderr;
-
-/// What makes the folder.
-type Builder = StdBuilder<StdSink<Stderr>>;
 
 /// Makes a folder of the listing on standard input, and says whether all of it was made. Where standard input is a
 /// file, the listing is looked through before.
@@ -19,10 +16,16 @@ pub fn unpack(rt: HostRuntime, folder: &str, taken: Taken) -> Result<bool, Troub
         look_through(rt, listing, folder, taken.skips)?;
     }
     let name = String::from_str(rt.alloc(), folder)?;
-    let sink = StdSink::new(rt.stderr());
-    match StdBuilder::new(rt, name, taken.wanted, taken.skips, sink) {
-        Ok(mut builder) => make_all(rt, &mut builder),
-        Err(_) => Err(Trouble::Said),
+    make_all(rt, of_input(rt)?, name, wanted_of(taken))
+}
+
+/// What the folder is to have. Links are not made.
+fn wanted_of(taken: Taken) -> Wanted {
+    Wanted {
+        mode: taken.wanted.mode,
+        mtime: taken.wanted.mtime,
+        links: Links::Data,
+        skips: taken.skips,
     }
 }
 
@@ -46,20 +49,33 @@ fn look_through(
     }
 }
 
-/// Makes what the listing on standard input says, or takes away what was made of it.
-fn make_all(rt: HostRuntime, builder: &mut Builder) -> Result<bool, Trouble> {
-    if let Err(trouble) = make_and_finish(rt, builder) {
-        builder.take_away();
-        return Err(trouble);
+/// Makes a folder of what a listing says, and says whether that was all. After a fault all that was made is taken away.
+fn make_all(
+    rt: HostRuntime,
+    listing: Listing,
+    folder: String,
+    wanted: Wanted,
+) -> Result<bool, Trouble> {
+    let messages = Messages::new(StdSink::new(rt.stderr()));
+    let Ok(maker) = HostBuilder::new(rt, folder, messages) else {
+        return Err(Trouble::Said);
+    };
+    let mut listing = Watched::new(rt, listing);
+    let Built {
+        builder: mut maker,
+        stays: _,
+        done,
+    } = build(rt.alloc(), &mut listing, maker, wanted);
+    listing.finish();
+    match done {
+        Ok(()) => {
+            maker.say_attributes();
+            Ok(maker.left_out() == 0)
+        }
+        Err(BuildFault::Builder(fault)) => Err(of_taker(fault)),
+        Err(BuildFault::NoName(_)) => Err(Trouble::Said),
+        Err(BuildFault::Stream(fault)) => Err(trouble_of(rt, INPUT, &listing.stream, fault)),
     }
-    builder.say_attributes();
-    Ok(builder.left_out() == 0)
-}
-
-/// Makes what the listing on standard input says.
-fn make_and_finish(rt: HostRuntime, builder: &mut Builder) -> Result<(), Trouble> {
-    lead(rt, of_input(rt)?, builder)?;
-    builder.finish().map_err(of_taker)
 }
 
 /// Leads a listing into a taker, which says itself what it cannot do.

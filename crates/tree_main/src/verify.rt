@@ -7,6 +7,7 @@ use crate::trouble::Trouble;
 use crate::words::Taken;
 use crate::{folder, listing};
 use dump_diff::{CompareFault, Differences, compare};
+use dump_streams::StreamFault;
 
 /// Prints how a folder differs from the listing on standard input, and says whether they are equal.
 pub fn verify(rt: HostRuntime, folder: &str, taken: Taken) -> Result<bool, Trouble> {
@@ -31,6 +32,9 @@ fn differences(rt: HostRuntime, dump: &mut FolderDump) -> Result<Differences, Tr
         Ok(found) => Ok(found),
         Err(CompareFault::First(fault)) => Err(listing::trouble_of(rt, INPUT, &listing, fault)),
         Err(CompareFault::Second(fault)) => Err(folder::trouble_of(rt, dump, fault)),
+        Err(CompareFault::TooLong) => {
+            Err(listing::trouble_of(rt, INPUT, &listing, StreamFault::TooLong))
+        }
         Err(CompareFault::NoMemory(_)) => Err(Trouble::NoMemory),
     }
 }

@@ -3,7 +3,7 @@
 use clap::builder::ValueParser;
 use clap::{Arg, ArgAction, ArgMatches, Command, Error};
 use hex::FromHex;
-use host_files::Wanted;
+use host_files::{Links, Wanted};
 use script_lines::parse_number;
 use std::alloc::{AllocError, Global};
 use store_base::{MAX_HEIGHT, Params};
@@ -182,6 +182,8 @@ fn taken_of(given: &ArgMatches<'_>) -> Taken {
         wanted: Wanted {
             mode: given.get_flag("mode"),
             mtime: given.get_flag("mtime"),
+            links: Links::Data,
+            skips: given.get_flag("skip"),
         },
     }
 }

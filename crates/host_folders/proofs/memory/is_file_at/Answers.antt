@@ -1,5 +1,5 @@
 use Rattle.std.proofs.Common.{rules, ◌≡◌, true, false}
-use Rattle.host_folders.specs.Memory.{is_file}
+use Rattle.host_folders.specs.FoundEntries.{is_file}
 use Rattle.host_folders.proofs.MemoryLemmas.{file_is_at, file_is_not_at}
 use Rattle.host_folders.proofs.memory.is_file_at.Goals as goal
 

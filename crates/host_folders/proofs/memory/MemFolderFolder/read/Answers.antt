@@ -1,8 +1,9 @@
-use Rattle.std.proofs.Common.{rules, ◌+◌, ◌++◌, Bool, take, drop, refl, subst, arith, Some}
+use Rattle.std.proofs.Common.{rules, ◌+◌, ◌++◌, Bool, take, drop, refl, ap, subst, arith, Some}
 use Rattle.std.proofs.lemmas.List.{length-append, length-drop}
 use Rattle.store_base.specs.Counts.{raised}
 use Rattle.host_folders.specs.FolderState.{ReadsFile}
 use Rattle.host_folders.specs.Memory.{folder_state}
+use Rattle.host_folders.specs.declared.memory.MemFolder.{MemFolder}
 use Rattle.host_folders.specs.declared.memory.Reading.{Reading}
 use Rattle.host_folders.proofs.MemoryLemmas.{reads_file, reads_left}
 use Rattle.host_folders.proofs.memory.MemFolderFolder.read.Goals as goal
@@ -21,13 +22,14 @@ returns-clause-contract c =
     } in
     record {
       observable = refl;
+      faults = ap (λ (folder : MemFolder). folder.faults) c.in_ok-count_call.ensures.counted;
       within = omega (arith, length-append piece (drop count into), c.copy_from_slice.ensures.len);
       read = λ _. subst (λ (is_ended : Bool). ReadsFile (folder_state c.args.self.now)
           (folder_state (record c.count_call.new.self { file = Some read }))
           (take count (piece ++ drop count into)) is_ended) c.tells_end.ensures
           (reads_file c.args.self.now c.count_call.new.self (raised c.args.self.now.calls) file
           c.left-left.result.now piece (drop count into) count
-          c.tells_end.result c.count_call.ensures.counted c.in-Some.is c.left-left.ensures.value (search rules)
+          c.tells_end.result c.in_ok-count_call.ensures.counted c.in-Some.is c.left-left.ensures.value (search rules)
           (omega arith));
     }
 
@@ -39,7 +41,7 @@ returns-clause-left c =
     let file = c.in-Some.file in
     reads_left c.args.self.now c.count_call.new.self (raised c.args.self.now.calls) file c.left-left.result.now piece
     (drop count into) count c.tells_end.result
-    c.count_call.ensures.counted c.in-Some.is c.left-left.ensures.value (search rules) (omega arith)
+    c.in_ok-count_call.ensures.counted c.in-Some.is c.left-left.ensures.value (search rules) (omega arith)
     (omega (
       arith,
       length-append piece (drop count into),

@@ -1,11 +1,10 @@
-use Rattle.std.proofs.Common.{refl, ap, ◌∙◌, ◌+◌, Ok, sym, subst}
-use Rattle.dump_streams.specs.Dumps.{DumpStep}
-use Rattle.host_folders.specs.Packed.{CameOf, EndsBy, AsksFor, found_at}
+use Rattle.std.proofs.Common.{ap, ◌∙◌, ◌+◌, Ok, sym, subst}
+use Rattle.host_folders.specs.Packed.{CameOf, EndsBy, attributes_there, found_at}
 use Rattle.host_folders.specs.Steps.{Gives}
 use Rattle.host_folders.specs.declared.stream.FolderStream.{FolderStream}
 use Rattle.host_folders.specs.declared.stream.Place.{Place}
 use Rattle.host_folders.proofs.StepLemmas.{gives_file}
-use Rattle.host_folders.proofs.FaultLemmas.{err_of, begun_here, ends_so}
+use Rattle.host_folders.proofs.FaultLemmas.{err_of, begun_here, asks_piece, calm_behind, ends_so}
 use Rattle.host_folders.proofs.stream.FolderStream.begin_file.Goals as goal
 
 pub returns-clause-gives : goal.returns-clause-gives
@@ -33,7 +32,8 @@ returns-clause-gives g c =
       here = c.requires.here;
     })
     c.requires.kind.1 c.in_ok-open.ensures
-    c.read_piece.ensures.observable c.in_ok-count.ensures.piece c.in_ok-add.ensures.added))
+    c.read_piece.ensures.observable c.in_ok-count.ensures.faults c.in_ok-count.ensures.piece
+    c.in_ok-add.ensures.added))
 
 pub returns-in_err-add-clause-failed : goal.returns-in_err-add-clause-failed
 returns-in_err-add-clause-failed g c t was =
@@ -47,10 +47,13 @@ returns-in_err-add-clause-failed g c t was =
       more = c.requires.more;
       here = c.requires.here;
     }) in
-    let asks : AsksFor found step =
-    subst (λ (d : DumpStep). AsksFor found d) (sym c.in_ok-count.ensures.piece.step_is) (refl, c.requires.kind) in
-    err_of c.from_residual-in_err-add.result c.in_err-add.field-0.0 (EndsBy c.add.new.self t)
+    let asks = asks_piece found (attributes_there c.add.new.self.place) step 0 c.in_ok-count.ensures.piece.bytes
+    c.in_ok-count.ensures.piece.step_is c.requires.kind in
+    let mid = record old { folder = c.read_piece.new.folder } in
+    let calm = calm_behind state mid c.add.new.self c.add.new.self.reader c.add.ensures.same
+    (c.in_ok-count.ensures.faults ∙ c.in_ok-open.ensures.faults ∙ was.faults) in
+    err_of c.from_residual-in_err-add.result c.in_err-add.field-0.0 (EndsBy state c.add.new.self t)
     c.from_residual-in_err-add.ensures.1
     (ends_so state old c.add.new.self t found step
     c.add.new.self.reader c.in_err-add.field-0.0 c.in_err-add.ensures.fault was
-    c.in_err-add.ensures.refused here asks)
+    c.in_err-add.ensures.refused here asks calm)

@@ -1,12 +1,12 @@
 use Rattle.std.proofs.Common.{refl, true, ap, ◌∙◌, ◌+◌, Ok, sym, subst}
 use Rattle.dump_streams.specs.Dumps.{DumpStep}
 use Rattle.dump_streams.specs.Reading.{AddsStep}
-use Rattle.host_folders.specs.Packed.{CameOf, EndsBy, AsksFor, found_at}
+use Rattle.host_folders.specs.Packed.{CameOf, EndsBy, AsksFor, attributes_there, found_at}
 use Rattle.host_folders.specs.Steps.{Gives}
 use Rattle.host_folders.specs.declared.stream.FolderStream.{FolderStream}
 use Rattle.host_folders.specs.declared.stream.Place.TheVariants as places
 use Rattle.host_folders.proofs.StepLemmas.{gives_folder}
-use Rattle.host_folders.proofs.FaultLemmas.{err_of, begun_here, ends_so}
+use Rattle.host_folders.proofs.FaultLemmas.{err_of, begun_here, calm_behind, ends_so}
 use Rattle.host_folders.proofs.stream.FolderStream.begin_folder.Goals as goal
 
 pub returns-clause-gives : goal.returns-clause-gives
@@ -41,7 +41,9 @@ returns-in_err-add-clause-failed g c t was =
       more = c.requires.more;
       here = c.requires.here;
     }) in
-    err_of c.from_residual.result c.in_err-add.field-0.0 (EndsBy c.add.new.self t) c.from_residual.ensures.1
+    err_of c.from_residual.result c.in_err-add.field-0.0 (EndsBy state c.add.new.self t) c.from_residual.ensures.1
     (ends_so state old c.add.new.self t found c.make.new.self
     c.add.new.self.reader c.in_err-add.field-0.0 c.in_err-add.ensures.fault was c.in_err-add.ensures.refused here
-    (subst (λ (step : DumpStep). AsksFor found step) (sym c.make.ensures) (refl, c.requires.kind)))
+    (subst (λ (step : DumpStep). AsksFor found (attributes_there c.add.new.self.place) step) (sym c.make.ensures)
+    (refl, c.requires.kind))
+    (calm_behind state old c.add.new.self c.add.new.self.reader c.add.ensures.same was.faults))

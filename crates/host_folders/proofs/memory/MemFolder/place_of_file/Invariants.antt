@@ -1,7 +1,7 @@
 use Rattle.std.proofs.Common.{◌≡◌, drop}
 use Rattle.std.specs.List.{find}
 use Rattle.host_folders.specs.Memory.{is_file_at}
-use Rattle.host_folders.proofs.memory.MemFolder.place_of.Given as goal
+use Rattle.host_folders.proofs.memory.MemFolder.place_of_file.Given as goal
 
 -- none of the first entries is the file
 abbrev pub invariant-loop-place : goal.invariant-loop-place

@@ -1,0 +1,8 @@
+use Rattle.std.proofs.Common.{◌≡◌, drop}
+use Rattle.std.specs.List.{find}
+use Rattle.host_folders.specs.Memory.{is_link_at}
+use Rattle.host_folders.proofs.memory.MemFolder.place_of_link.Given as goal
+
+-- none of the first entries is the link
+abbrev pub invariant-loop-place : goal.invariant-loop-place
+invariant-loop-place l = find (is_link_at l.path) (drop l.place l.entry-items) ≡ find (is_link_at l.path) l.entry-items
