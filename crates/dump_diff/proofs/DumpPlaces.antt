@@ -1,10 +1,8 @@
 -- The steps of a dump rise by place, and those on a path are those of its entry.
 use Rattle.std.proofs.Common.{◌≡◌, ℕ, ◌*◌, ◌<◌, ◌≤◌, List, [], ◌∷◌, ◌++◌, map, length, Bool, true, false, not, cond}
 use Rattle.std.proofs.Common.{◌⊎◌, inl, inr, IsTrue, Option, Some, None, refl, sym, ap, ap₂, subst, ◌∙◌, arith}
-use Rattle.std.proofs.Common.{Ordering, Less, Equal, Greater, nat_cmp}
+use Rattle.std.proofs.Common.{Less, Equal, nat_cmp}
 use Rattle.std.specs.Ordering.{ordering_then, eq_by_cmp, is_eq}
-use Rattle.std.specs.Cmp.{tied_itself}
-use Rattle.std.specs.Cmp.Lexicographic.{slice_cmp}
 use Rattle.std.specs.FinMap.{find, is_sorted}
 use Rattle.std.specs.List.{filter, enumerate_from, AllByRecursion, Contains}
 use Rattle.std.specs.List.Sorted.{IsStrictlySortedBy}
@@ -18,7 +16,7 @@ use Rattle.dump_streams.specs.Dumps.{DumpStep, step_path}
 use Rattle.dump_streams.specs.Dumps.DumpStep.{Make, Write, Set}
 use Rattle.store_model.specs.Trees.{Tree, Node, Entry, Attributes, AreAttributes, IsEntry, IsTree, is_directory_node}
 use Rattle.store_model.specs.Trees.Node.{Directory, File}
-use Rattle.store_model.proofs.ListsLemmas.{all_none, all_weaker, all_append, all_back, all_map, all_flat_map, IsBelow}
+use Rattle.store_model.proofs.ListsLemmas.{all_none, all_weaker, all_append, all_back, all_map, IsBelow}
 use Rattle.store_model.proofs.ListsLemmas.{rising_one, rising_append, rising_map, rising_flat_map}
 use Rattle.store_model.proofs.ListsLemmas.{rising_from_is_sorted, rising_head, rising_tail, numbers_rise}
 use Rattle.store_model.proofs.ListsLemmas.{less_from_nat_cmp, nat_cmp-lt, length-runs}

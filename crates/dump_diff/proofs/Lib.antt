@@ -11,3 +11,4 @@ pub mod TakenAdditions
 pub mod Written
 pub mod EqualTrees
 pub mod SideSteps
+mod Causing

@@ -1,22 +1,19 @@
 -- What the steps on a path show, while they come.
-use Rattle.std.proofs.Common.{◌≡◌, ℕ, List, [], ◌∷◌, ◌++◌, Bool, true, false, not, cond, Some, ◌⊎◌, inl, inr, refl, sym}
-use Rattle.std.proofs.Common.{ap, ap₂, subst, ◌∙◌, Less, Equal}
-use Rattle.std.specs.Cmp.{alike_right}
+use Rattle.std.proofs.Common.{◌≡◌, List, [], ◌∷◌, ◌++◌, Bool, true, false, not, cond, Some, ◌⊎◌, inl, inr, refl, sym}
+use Rattle.std.proofs.Common.{ap, subst, ◌∙◌, Less, Equal}
 use Rattle.std.specs.List.{AllByRecursion, Contains}
 use Rattle.std.proofs.lemmas.Bool.{false≢true}
 use Rattle.std.proofs.lemmas.List.{append-nil}
 use Rattle.std.proofs.lemmas.List.Elements.{All-contains, All-from_recursion, Contains-append_left, Contains-push}
 use Rattle.std.proofs.lemmas.List.Elements.{Contains-push_cases, filter-append}
-use Rattle.store_model.specs.Paths.{Path}
 use Rattle.dump_streams.specs.Dumps.{DumpStep, step_path}
 use Rattle.dump_streams.specs.Dumps.DumpStep.{Make, Write, Set}
-use Rattle.store_model.proofs.ListsLemmas.{all_weaker}
 use Rattle.dump_diff.specs.declared.difference.Mark.{Mark}
 use Rattle.dump_diff.specs.declared.difference.Mark.TheVariants.{Removed, Added, Kind, Bytes, Attributes}
 use Rattle.dump_diff.specs.Places.{place_cmp, is_first, makes, writes, sets}
 use Rattle.dump_diff.specs.Shown.{begins, node_part, HasAlone, AreApart, ShowKinds, ShowBytes, ShowAttributes}
 use Rattle.dump_diff.specs.Shown.{ShowsMark, AreBefore, change_of, change_of_two}
-use Rattle.dump_diff.proofs.PlaceOrder.{place_total, never_below_itself, none_before_first, set_after, set_tied}
+use Rattle.dump_diff.proofs.PlaceOrder.{never_below_itself, none_before_first, set_after, set_tied}
 use Rattle.dump_diff.proofs.PlaceOrder.{tied_paths}
 use Rattle.dump_diff.proofs.DumpPlaces.{begins_more}
 

@@ -27,7 +27,7 @@ use Rattle.dump_diff.specs.declared.difference.Side.{Side}
 use Rattle.dump_diff.specs.Ahead.{IsAhead, IsAfter, HasMerged, IsMerged, IsBetween, AreFound}
 use Rattle.dump_diff.specs.Differences.{marks_of, AreBoth, AreOfOtherKinds, HaveOtherBytes, HaveOtherAttributes, Tells}
 use Rattle.dump_diff.specs.Places.{place_cmp, writes, sets}
-use Rattle.dump_diff.specs.Shown.{AreShown, AreBefore, AreUpTo, IsBehind, Notes, AreApart, begins, ShowKinds, ShowBytes}
+use Rattle.dump_diff.specs.Shown.{AreShown, AreBefore, AreUpTo, Notes, AreApart, begins, ShowKinds, ShowBytes}
 use Rattle.dump_diff.specs.Shown.{ShowAttributes, Shows, own, places_of}
 use Rattle.dump_diff.specs.Scripts.{AttributePlace, attribute_cmp, sides_of}
 use Rattle.dump_diff.specs.Sides.{FitsMark, SidesShown, NotesAttribute, IsJudged, set_in}

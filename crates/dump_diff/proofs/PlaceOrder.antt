@@ -1,5 +1,5 @@
 -- The order of the places of steps.
-use Rattle.std.proofs.Common.{◌≡◌, ℕ, suc, zero, List, [], ◌∷◌, Bool, true, false, refl, sym, ap, ap₂, ◌∙◌, arith}
+use Rattle.std.proofs.Common.{◌≡◌, ℕ, suc, zero, [], ◌∷◌, true, false, refl, sym, ap, ◌∙◌, arith}
 use Rattle.std.proofs.Common.{Ordering, Less, Equal, Greater, nat_cmp}
 use borrow.Author.Tests.{eqb-true}
 use Rattle.std.specs.Ordering.{ordering_then, is_le}

@@ -1,10 +1,10 @@
 -- The attributes that differ, while steps come.
-use Rattle.std.proofs.Common.{◌≡◌, ℕ, List, [], ◌∷◌, ◌++◌, Bool, true, false, cond, Option, Some, None, ◌⊎◌, inl, inr}
+use Rattle.std.proofs.Common.{◌≡◌, ℕ, List, [], ◌∷◌, ◌++◌, Bool, true, false, cond, Option, Some, None}
 use Rattle.std.proofs.Common.{refl, sym, ap, ap₂, subst, ◌∙◌, Ordering, Less, Equal, Greater}
 use Rattle.std.specs.Ordering.{eq_by_cmp, is_eq, ordering_then, ordering_reverse}
 use Rattle.std.specs.Cmp.{IsTotalOrder, tied_itself}
 use Rattle.std.specs.Option.{IsSome, IsNone}
-use Rattle.std.specs.FinMap.{find, slice_cmp-IsAntisymmetric, nat_cmp-IsAntisymmetric}
+use Rattle.std.specs.FinMap.{find}
 use Rattle.std.specs.List.{flat_map}
 use Rattle.std.proofs.lemmas.Bool.{false≢true}
 use Rattle.std.proofs.lemmas.Option.{same_Some}
@@ -23,7 +23,7 @@ use Rattle.dump_diff.specs.declared.difference.Side.{Side}
 use Rattle.dump_diff.specs.declared.difference.Side.TheVariants.{First, Second, Both}
 use Rattle.dump_diff.specs.declared.difference.AttributeDifference.{AttributeDifference}
 use Rattle.dump_diff.specs.Scripts.{AttributePlace, attribute_cmp, sides_of}
-use Rattle.dump_diff.specs.Places.{part, place_cmp, sets}
+use Rattle.dump_diff.specs.Places.{place_cmp}
 use Rattle.dump_diff.specs.Shown.{own, places_of, Shows, AreShown, AreBefore}
 use Rattle.dump_diff.specs.Sides.{TellsSide, FitsMark, SidesShown, attributes_in, set_in, with_attribute, with_noted}
 use Rattle.dump_diff.proofs.PlaceOrder.{tied_paths, tied_parts, set_tied}

@@ -1,5 +1,5 @@
 -- Streams whose next step is at hand.
-use Rattle.std.specs.Prelude.{◌≡◌, true, false, List, Option, Some, None}
+use Rattle.std.specs.Prelude.{◌≡◌, ℕ, ◌+◌, ◌≤◌, true, false, List, length, Option, Some, None}
 use Rattle.std.specs.declared.cmp.Ordering.TheVariants.{Less, Equal}
 use Rattle.store_model.specs.Trees.{Tree, IsTree}
 use Rattle.dump_streams.specs.Dumps.{DumpStep}
@@ -53,11 +53,12 @@ pub record IsBetween (came whole came' whole' : Tree → Type 0) (merge : Merge)
   pub second : IsAhead came' whole' merge.second u
   pub merged : IsMerged merge t u
 
--- some trees have dumps that came of the two streams before the steps at hand
-pub record IsBetweenSome (came whole came' whole' : Tree → Type 0) (merge : Merge) : Type 0 where
+-- some trees have dumps that came of the two streams before the steps at hand: so many steps at least
+pub record IsBetweenSome (came whole came' whole' : Tree → Type 0) (merge : Merge) (count : ℕ) : Type 0 where
   pub one : Tree
   pub other : Tree
   pub between : IsBetween came whole came' whole' merge one other
+  pub many : count ≤ length (dump one) + length (dump other)
 
 -- what two whole dumps differ in
 pub record AreFound (whole whole' : Tree → Type 0) (found : Differences) : Type 0 where

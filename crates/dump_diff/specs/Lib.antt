@@ -3,4 +3,5 @@ pub mod Places
 pub mod Shown
 pub mod Sides
 pub mod Ahead
+pub mod Causes
 pub mod Scripts

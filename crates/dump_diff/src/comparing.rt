@@ -1,6 +1,6 @@
 //! Compares two streams.
 
-ghost use Rattle.std.specs.Prelude.{◌≡◌, OnOk, IfOk, true};
+ghost use Rattle.std.specs.Prelude.{◌≡◌, ℕ, ◌+◌, OnOk, IfOk, IfErr, true};
 ghost use Rattle.std.specs.Bool.{OnTrue, OnFalse};
 ghost use Rattle.std.specs.declared.cmp.Ordering.TheVariants.{Less, Equal};
 ghost use Rattle.store_model.specs.Trees.{Tree, empty_tree};
@@ -9,13 +9,14 @@ ghost use Rattle.dump_diff.specs.Differences.{marks_of};
 ghost use Rattle.dump_diff.specs.Places.{place_cmp};
 ghost use Rattle.dump_diff.specs.Sides.{Judges};
 ghost use Rattle.dump_diff.specs.Ahead.{IsAhead, IsMerged, IsBetweenSome, AreFound, IsSideOf};
+ghost use Rattle.dump_diff.specs.Causes.{NoneFails, FirstFails, SecondFails, OneFails, IsCause};
 
 use crate::difference::Side;
 use crate::differences::Differences;
 use crate::fault::CompareFault;
 use crate::heads::Head;
 use crate::order::{order, same};
-use dump_streams::{DumpStream, StreamFault};
+use dump_streams::DumpStream;
 use std::alloc::Global;
 use std::cmp::Ordering;
 
@@ -63,6 +64,8 @@ impl Merge {
             → IsAhead (A.came first.old) (A.whole first.old) self.old.first t
             → IsMerged self.old t u
             → OnOk result (IsMerged self.new (after_step t self.old.first.step) u) }
+        ensures failed { (t : Tree) → IsAhead (A.came first.old) (A.whole first.old) self.old.first t
+            → IfErr result (FirstFails (A.fails first.new)) }
         ensures keeps { (start : A) → A.keeps start first.old → A.keeps start first.new }
     {
         self.found
@@ -86,6 +89,9 @@ impl Merge {
             → IsAhead (B.came second.old) (B.whole second.old) self.old.second u
             → IsMerged self.old t u
             → OnOk result (IsMerged self.new t (after_step u self.old.second.step)) }
+        ensures failed { (u : Tree)
+            → IsAhead (B.came second.old) (B.whole second.old) self.old.second u
+            → IfErr result (SecondFails (B.fails second.new)) }
         ensures keeps { (start : B) → B.keeps start second.old → B.keeps start second.new }
     {
         self.found
@@ -99,6 +105,7 @@ impl Merge {
         ensures second { self.new.second ≡ self.old.second }
         ensures judged { Judges self.old.first.step
             self.old.second.step self.old.found self.new.found result }
+        ensures fault { IfErr result NoneFails }
     {
         if same(&self.first.step, &self.second.step) {
             return Ok(());
@@ -118,10 +125,15 @@ impl Merge {
         requires second_there { self.old.second.is_there ≡ true }
         requires tied { place_cmp self.old.first.step
             self.old.second.step ≡ Equal }
-        ensures between { IsBetweenSome (A.came first.old) (A.whole first.old) (B.came second.old)
-            (B.whole second.old) self.old
+        ensures between { (count : ℕ)
+            → IsBetweenSome (A.came first.old) (A.whole first.old) (B.came second.old)
+            (B.whole second.old) self.old count
             → OnOk result (IsBetweenSome (A.came first.new) (A.whole first.new) (B.came second.new)
-            (B.whole second.new) self.new) }
+            (B.whole second.new) self.new (count + 1)) }
+        ensures failed { (count : ℕ)
+            → IsBetweenSome (A.came first.old) (A.whole first.old) (B.came second.old)
+            (B.whole second.old) self.old count
+            → IfErr result (OneFails (A.fails first.new) (B.fails second.new)) }
         ensures keeps_first { (start : A) → A.keeps start first.old → A.keeps start first.new }
         ensures keeps_second { (start : B) → B.keeps start second.old → B.keeps start second.new }
     {
@@ -136,14 +148,20 @@ impl Merge {
         first: &mut A,
         second: &mut B,
     ) -> Result<bool, CompareFault>
-        ensures more { IsBetweenSome (A.came first.old) (A.whole first.old) (B.came second.old)
-            (B.whole second.old) self.old
+        ensures more { (count : ℕ)
+            → IsBetweenSome (A.came first.old) (A.whole first.old) (B.came second.old)
+            (B.whole second.old) self.old count
             → IfOk result
             (λ more. OnTrue more
             (IsBetweenSome (A.came first.new) (A.whole first.new) (B.came second.new)
-            (B.whole second.new) self.new)) }
-        ensures whole { IsBetweenSome (A.came first.old) (A.whole first.old) (B.came second.old)
-            (B.whole second.old) self.old
+            (B.whole second.new) self.new (count + 1))) }
+        ensures failed { (count : ℕ)
+            → IsBetweenSome (A.came first.old) (A.whole first.old) (B.came second.old)
+            (B.whole second.old) self.old count
+            → IfErr result (OneFails (A.fails first.new) (B.fails second.new)) }
+        ensures whole { (count : ℕ)
+            → IsBetweenSome (A.came first.old) (A.whole first.old) (B.came second.old)
+            (B.whole second.old) self.old count
             → IfOk result (λ more. OnFalse more
             (AreFound (A.whole first.new) (B.whole second.new) self.new.found)) }
         ensures keeps_first { (start : A) → A.keeps start first.old → A.keeps start first.new }
@@ -161,7 +179,8 @@ impl Merge {
 
 /// Finds the differences between the trees of two dumps. Nothing came yet of either stream.
 ///
-/// `First`, `Second`: that stream ended before its dump did. `NoMemory`: there was none for the differences.
+/// `First`, `Second`: that stream ended before its dump did, by this fault. `TooLong`: more steps came than are
+/// compared. `NoMemory`: there was none for the differences.
 pub fn compare<A: DumpStream, B: DumpStream>(
     alloc: Global,
     first: &mut A,
@@ -169,6 +188,9 @@ pub fn compare<A: DumpStream, B: DumpStream>(
 ) -> Result<Differences, CompareFault>
     ensures found { A.came first.old empty_tree → B.came second.old empty_tree
         → IfOk result (AreFound (A.whole first.new) (B.whole second.new)) }
+    ensures failed { A.came first.old empty_tree → B.came second.old empty_tree
+        → IfErr result (IsCause (A.came first.new) (A.whole first.new) (A.fails first.new)
+        (B.came second.new) (B.whole second.new) (B.fails second.new)) }
     ensures keeps_first { (start : A) → A.keeps start first.old → A.keeps start first.new }
     ensures keeps_second { (start : B) → B.keeps start second.old → B.keeps start second.new }
 {
@@ -184,5 +206,5 @@ pub fn compare<A: DumpStream, B: DumpStream>(
             return Ok(merge.found);
         }
     }
-    Err(CompareFault::First(StreamFault::TooLong))
+    Err(CompareFault::TooLong)
 }

@@ -1,6 +1,6 @@
 //! Streams whose next step is at hand.
 
-ghost use Rattle.std.specs.Prelude.{OnOk};
+ghost use Rattle.std.specs.Prelude.{OnOk, IfErr};
 ghost use Rattle.store_model.specs.Trees.{Tree, IsTree};
 ghost use Rattle.dump_diff.specs.Ahead.{IsAhead};
 
@@ -24,10 +24,11 @@ impl Head {
         }
     }
 
-    /// Takes the next step of the stream.
+    /// Takes the next step of the stream. The faults are the stream's.
     pub fn fetch<S: DumpStream>(&mut self, stream: &mut S) -> Result<(), StreamFault>
         ensures ahead { (t : Tree) → IsTree t → S.came stream.old t
             → OnOk result (IsAhead (S.came stream.new) (S.whole stream.new) self.new t) }
+        ensures failed { (t : Tree) → S.came stream.old t → IfErr result (S.fails stream.new t) }
         ensures keeps { (start : S) → S.keeps start stream.old → S.keeps start stream.new }
     {
         self.is_there = stream.next(&mut self.step)?;

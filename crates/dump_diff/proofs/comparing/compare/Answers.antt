@@ -1,6 +1,9 @@
+use Rattle.std.proofs.Common.{arith}
 use Rattle.std.proofs.lemmas.Result.{IfOk-at_ok}
 use Rattle.store_model.specs.Trees.{empty_tree}
 use Rattle.store_model.proofs.TreesLemmasFits.{IsTree-empty}
+use Rattle.dump_diff.specs.Causes.{IsCause}
+use Rattle.dump_diff.proofs.Causing.{cause_of, err_so, too_long}
 use Rattle.dump_diff.proofs.Merging.{on_ok_like, nothing_merged}
 use Rattle.dump_diff.proofs.comparing.compare.Goals as goal
 
@@ -26,5 +29,23 @@ loop-init g c = (
           })
               c.new-3.ensures.marks c.new-3.ensures.attributes;
         };
+        many = omega arith;
       },
 )
+
+pub returns-in_err-step-clause-failed : goal.returns-in_err-step-clause-failed
+returns-in_err-step-clause-failed g c came came' =
+    let first = c.step.new.first in
+    let second = c.step.new.second in
+    err_so c.from_residual-in_err-step.result c.in_err-step.field-0.0
+    (IsCause (g.A.DumpStream.came first) (g.A.DumpStream.whole first) (g.A.DumpStream.fails first)
+    (g.B.DumpStream.came second) (g.B.DumpStream.whole second) (g.B.DumpStream.fails second))
+    c.from_residual-in_err-step.ensures.1
+    (cause_of (g.A.DumpStream.came first) (g.A.DumpStream.whole first) (g.B.DumpStream.came second)
+    (g.B.DumpStream.whole second) (g.A.DumpStream.fails first) (g.B.DumpStream.fails second)
+    c.in_err-step.field-0.0 (c.in_err-step.ensures.failed c.loop.counter (c.loop.invariant.2 came came')))
+
+pub returns-clause-failed : goal.returns-clause-failed
+returns-clause-failed g c came came' =
+    too_long c.loop.merge c.loop.counter (c.loop.invariant.2 came came')
+    (let test = c.loop-test.false in omega (arith, test))

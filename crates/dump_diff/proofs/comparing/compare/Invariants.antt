@@ -9,4 +9,4 @@ invariant-loop g l =
     × ((start : g.row.B.Denot) → g.B.DumpStream.keeps start l.fn.second → g.B.DumpStream.keeps start l.second)
     × (g.A.DumpStream.came l.fn.first empty_tree → g.B.DumpStream.came l.fn.second empty_tree
     → IsBetweenSome (g.A.DumpStream.came l.first) (g.A.DumpStream.whole l.first) (g.B.DumpStream.came l.second)
-    (g.B.DumpStream.whole l.second) l.merge)
+    (g.B.DumpStream.whole l.second) l.merge l.counter)

@@ -1,10 +1,13 @@
+use Rattle.std.proofs.Common.{arith}
 use Rattle.std.proofs.lemmas.Result.{IfOk-at_ok, on_ok_weaker}
 use Rattle.dump_streams.specs.Dumps.{after_step}
+use Rattle.dump_diff.specs.Causes.{OneFails}
+use Rattle.dump_diff.proofs.Causing.{one_more, blamed, err_so}
 use Rattle.dump_diff.proofs.Merging.{on_ok_like, both_taken}
 use Rattle.dump_diff.proofs.comparing.Merge.take_both.Goals as goal
 
 pub returns-clause-between : goal.returns-clause-between
-returns-clause-between g c some =
+returns-clause-between g c count some =
     let one = c.args.self.now.first.step in
     let other = c.args.self.now.second.step in
     let between = some.between in
@@ -22,5 +25,16 @@ returns-clause-between g c some =
       other = after_step some.other other;
       between = both_taken c.args.self.now c.fetch.new.self c.fetch-2.new.self c.judge.new.self.found some.one
           some.other between judged c.requires.first_there c.requires.second_there c.requires.tied later later';
+      many =
+          let more = one_more some.one one (at.extends).dump_is in
+          let more' = one_more some.other other (at'.extends).dump_is in
+          omega (arith, some.many, more, more');
     })
     (c.fetch-2.ensures.ahead (after_step some.other other) (at'.extends).is_tree at'.came_now))
+
+pub returns-in_err-judge-clause-failed : goal.returns-in_err-judge-clause-failed
+returns-in_err-judge-clause-failed g c count some =
+    err_so c.from_residual.result c.in_err-judge.field-0.0
+    (OneFails (g.A.DumpStream.fails c.args.first.now) (g.B.DumpStream.fails c.args.second.now))
+    c.from_residual.ensures.1 (blamed (λ t cause no. absurd no) (λ t cause no. absurd no) c.in_err-judge.field-0.0
+    c.in_err-judge.ensures.fault)
