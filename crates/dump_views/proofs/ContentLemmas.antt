@@ -1,6 +1,7 @@
 -- What a dump says of one path.
 use Rattle.std.proofs.Common.{◌≡◌, ℕ, ◌+◌, ◌*◌, List, [], ◌∷◌, ◌++◌, map, fold, Bool, true, false, cond, IsTrue, Option}
-use Rattle.std.proofs.Common.{Some, None, Result, Ok, Err, OnOk, refl, subst, sym, ◌∙◌, ap, arith, Less, append_assoc}
+use Rattle.std.proofs.Common.{Some, None, Result, Ok, Err, OnOk, IfErr, refl, subst, sym, ◌∙◌, ap, arith, Less}
+use Rattle.std.proofs.Common.{append_assoc}
 use Rattle.std.specs.List.{flat_map, enumerate_from, AllByRecursion}
 use Rattle.std.specs.List.Sorted.{IsStrictlySortedBy}
 use Rattle.std.specs.FinMap.{find}
@@ -24,7 +25,9 @@ use Rattle.dump_views.specs.declared.content.Standing.TheVariants as standings
 use Rattle.script_lines.specs.SinkState.{SinkState}
 use Rattle.dump_views.specs.declared.content.ContentTaker.{ContentTaker}
 use Rattle.dump_views.specs.Contents.{bytes_at, written_at, standing_by, standing_after, standing_of, TakesOne}
-use Rattle.dump_views.specs.Contents.{TookContents}
+use Rattle.dump_views.specs.Contents.{TookContents, BreaksOne}
+use Rattle.dump_streams.specs.declared.taker.TakerFault.{TakerFault}
+use Rattle.dump_streams.specs.declared.taker.TakerFault.TheVariants as faults
 
 -- ---- the bytes that are written
 
@@ -231,3 +234,10 @@ module _ {W : Type 0} (sink_of : W → SinkState) where
   took_one {E = E} first old new steps c (Ok value) took one =
       took_more {E = E} first old new steps c value took one
   took_one first old new steps c (Err fault) took one = tt
+
+  -- a step that was not taken
+  pub broke_one : (old new : ContentTaker W) (c : DumpStep) (result : Result (Unit {0}) TakerFault)
+      → TakesOne sink_of old new c result → IfErr result (λ fault. fault ≡ faults.Failed)
+      → IfErr result (BreaksOne sink_of old new c)
+  broke_one old new c (Ok value) one is = tt
+  broke_one old new c (Err fault) one is = record { fault_is = is; taken = one }

@@ -19,7 +19,7 @@ use Rattle.store_model.proofs.ListsLemmas.{rising_from_is_sorted, all_weaker, le
 use Rattle.store_model.proofs.PathsLemmasPlaces.{name_cmp_total, same_name_from_tie}
 use Rattle.store_model.proofs.TreesLemmasFewer.{find_below_all}
 use Rattle.store_model.proofs.TreesLemmasPaths.{tie_from_test, same_path-itself, same_path-from_equal}
-use Rattle.dump_streams.specs.Dumps.{dump, dump_piece, file_steps, node_steps, attribute_steps, entry_steps}
+use Rattle.dump_streams.specs.Dumps.{DumpStep, dump, dump_piece, file_steps, node_steps, attribute_steps, entry_steps}
 use Rattle.tree_pairs.specs.Kinds.{kind_of}
 use Rattle.script_lines.specs.Parsing.{long_of}
 use Rattle.tree_pairs.specs.declared.kind.Kind.TheVariants as kinds
@@ -33,19 +33,6 @@ use Rattle.dump_views.specs.Entries.{with_length, is_x, seconds_of, listed_entry
 end_of : ℕ → ℕ → List (List ℕ) → ℕ
 end_of n len [] = len
 end_of n len (r ∷ rs) = end_of (n + 1) (dump_piece * n + length r) rs
-
-keep_pieces : (kept : Kept) (p : Path) (n len : ℕ) (rs : List (List ℕ))
-    → fold keep (begun kept (bare_entry p (kinds.File len)))
-    (map (λ piece. Write p (dump_piece * piece.0) piece.1) (enumerate_from n rs))
-    ≡ begun kept (bare_entry p (kinds.File (end_of n len rs)))
-unfolding end_of
-keep_pieces kept p n len [] = refl
-keep_pieces kept p n len (r ∷ rs) =
-    ap (λ (b : Bool). fold keep
-    (cond b (changed (begun kept (bare_entry p (kinds.File len))) (with_length (dump_piece * n + length r)))
-    (begun (begun kept (bare_entry p (kinds.File len))) (bare_entry p (kinds.File (dump_piece * n + length r)))))
-    (map (λ piece. Write p (dump_piece * piece.0) piece.1) (enumerate_from (n + 1) rs))) (same_path-itself p)
-    ∙ keep_pieces kept p (n + 1) (dump_piece * n + length r) rs
 
 ends_at : (xs : List ℕ) (first count len : ℕ)
     → end_of first len (map (run_at dump_piece xs) (numbers_from first (suc count)))
@@ -73,29 +60,52 @@ end_of_runs xs len some =
     length-take dump_piece (drop (dump_piece * (0 + k)) xs) in
     omega (arith, length-drop (dump_piece * (0 + k)) xs))
 
--- ---- an entry of a tree
+-- What is kept behind the steps that write a file, where each step leaves what is kept of a file that ends with it.
+module _ {K : Type 0} (step : K → DumpStep → K) (p : Path) (of : ℕ → K)
+    (more : (len at : ℕ) (bytes : List ℕ) → step (of len) (Write p at bytes) ≡ of (at + length bytes)) where
+  fold_pieces : (n len : ℕ) (rs : List (List ℕ)) → fold step (of len)
+      (map (λ piece. Write p (dump_piece * piece.0) piece.1) (enumerate_from n rs)) ≡ of (end_of n len rs)
+  unfolding end_of
+  fold_pieces n len [] = refl
+  fold_pieces n len (r ∷ rs) =
+      ap (λ (k : K). fold step k (map (λ piece. Write p (dump_piece * piece.0) piece.1) (enumerate_from (n + 1) rs)))
+      (more len (dump_piece * n) r)
+      ∙ fold_pieces (n + 1) (dump_piece * n + length r) rs
 
-keep_first : (kept : Kept) (p : Path) (rs : List (List ℕ)) → is_last kept.last p ≡ false → 1 ≤ length rs
-    → fold keep kept (map (λ piece. Write p (dump_piece * piece.0) piece.1) (enumerate_from 0 rs))
-    ≡ begun kept (bare_entry p (kinds.File (end_of 0 0 rs)))
-unfolding end_of
-keep_first kept p [] other some = absurd (omega arith)
-keep_first kept p (r ∷ rs) other some =
-    ap (λ (t : Bool). fold keep (cond t (changed kept (with_length (dump_piece * 0 + length r)))
-    (begun kept (bare_entry p (kinds.File (dump_piece * 0 + length r)))))
-    (map (λ piece. Write p (dump_piece * piece.0) piece.1) (enumerate_from 1 rs))) other
-    ∙ keep_pieces kept p 1 (dump_piece * 0 + length r) rs
+  module _ (first : K) (begins : (at : ℕ) (bytes : List ℕ) → step first (Write p at bytes) ≡ of (at + length bytes))
+    where
+      fold_all : (rs : List (List ℕ)) → 1 ≤ length rs
+          → fold step first (map (λ piece. Write p (dump_piece * piece.0) piece.1) (enumerate_from 0 rs))
+          ≡ of (end_of 0 0 rs)
+      unfolding end_of
+      fold_all [] some = absurd (omega arith)
+      fold_all (r ∷ rs) some =
+          ap (λ (k : K). fold step k (map (λ piece. Write p (dump_piece * piece.0) piece.1) (enumerate_from 1 rs)))
+          (begins (dump_piece * 0) r)
+          ∙ fold_pieces 1 (dump_piece * 0 + length r) rs
+
+      pub fold_file : (bytes : List ℕ) → fold step first (file_steps p bytes) ≡ of (length bytes)
+      unfolding file_steps
+      fold_file [] = begins 0 []
+      fold_file (b ∷ bytes) =
+          let size = length-runs dump_piece (b ∷ bytes) in
+          fold_all (runs dump_piece (b ∷ bytes)) (omega arith) ∙ ap of (end_of_runs (b ∷ bytes) 0 (omega arith))
+
+-- ---- an entry of a tree
 
 keep_node : (kept : Kept) (p : Path) (node : Node) → is_last kept.last p ≡ false
     → fold keep kept (node_steps p node) ≡ begun kept (bare_entry p (kind_of node))
-unfolding file_steps
 keep_node kept p Directory other = refl
-keep_node kept p (File []) other =
-    ap (λ (t : Bool). cond t (changed kept (with_length 0)) (begun kept (bare_entry p (kinds.File 0)))) other
-keep_node kept p (File (b ∷ bytes)) other =
-    let size = length-runs dump_piece (b ∷ bytes) in
-    keep_first kept p (runs dump_piece (b ∷ bytes)) other (omega arith)
-    ∙ ap (λ (len : ℕ). begun kept (bare_entry p (kinds.File len))) (end_of_runs (b ∷ bytes) 0 (omega arith))
+keep_node kept p (File bytes) other =
+    fold_file keep p (λ len. begun kept (bare_entry p (kinds.File len)))
+    (λ len at more. ap (λ (t : Bool). cond t
+    (changed (begun kept (bare_entry p (kinds.File len))) (with_length (at + length more)))
+    (begun (begun kept (bare_entry p (kinds.File len))) (bare_entry p (kinds.File (at + length more)))))
+    (same_path-itself p))
+    kept
+    (λ at more. ap (λ (t : Bool). cond t (changed kept (with_length (at + length more)))
+    (begun kept (bare_entry p (kinds.File (at + length more))))) other)
+    bytes
 
 -- an attribute leaves the path as it is
 path_stays : (e : ListedEntry) (name : Name) (bytes : List ℕ) → (with_attribute e name bytes).path ≡ e.path
@@ -149,7 +159,7 @@ told_more false true e bytes mode mtime once again apart = rw (again refl) refl
 told_more false false e bytes mode mtime once again apart = refl
 
 -- the tests of names are those by which they are found
-name_test : (name other : Name) → same_bytes name other ≡ eq_by_cmp name_cmp other name
+pub name_test : (name other : Name) → same_bytes name other ≡ eq_by_cmp name_cmp other name
 name_test name other = texts_ties name other ∙ ap is_eq (name_cmp_total.antisymm name other)
     ∙ turned (name_cmp other name)
   where
@@ -159,7 +169,7 @@ name_test name other = texts_ties name other ∙ ap is_eq (name_cmp_total.antisy
     turned Greater = refl
 
 -- a name of a list that rises stands in it once
-found_once : (name : Name) (a : Name × List ℕ) (attributes : Attributes)
+pub found_once : (name : Name) (a : Name × List ℕ) (attributes : Attributes)
     → AllByRecursion (λ b. name_cmp a.0 b.0 ≡ Less) attributes → same_bytes a.0 name ≡ true
     → find name_cmp name attributes ≡ None
 found_once name a attributes above is =

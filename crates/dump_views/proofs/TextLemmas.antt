@@ -1,5 +1,5 @@
 -- Texts that are written one after another.
-use Rattle.std.proofs.Common.{◌≡◌, ℕ, ◌+◌, ◌<◌, ◌^◌, Ok, Err, subst, List, [], ◌∷◌, ◌++◌, Bool, cond, refl, sym, ◌∙◌}
+use Rattle.std.proofs.Common.{◌≡◌, ℕ, ◌+◌, ◌<◌, Ok, Err, subst, List, [], ◌∷◌, ◌++◌, Bool, cond, refl, sym, ◌∙◌}
 use Rattle.std.proofs.Common.{ap, ap₂, length, take, drop, get_or}
 use Rattle.std.specs.List.{flat_map}
 use Rattle.std.proofs.lemmas.List.{append-nil, take_more, take-append-drop}

@@ -1,8 +1,8 @@
 -- The days of the calendar, one after another.
-use Rattle.std.proofs.Common.{◌≡◌, ℕ, zero, suc, ◌+◌, ◌<◌, ◌≤◌, Bool, true, false, cond, nat_lt, inl, inr, ◌/◌, ◌%◌}
-use Rattle.std.proofs.Common.{◌++◌, codes, refl, sym, ap, subst, ◌∙◌, arith, ℤ, pos, ◌+ℤ◌}
+use Rattle.std.proofs.Common.{◌≡◌, ℕ, zero, suc, ◌+◌, ◌<◌, ◌≤◌, Bool, true, false, cond, nat_lt, inl, inr}
+use Rattle.std.proofs.Common.{refl, subst, arith, ℤ, pos, ◌+ℤ◌}
 use Rattle.std.specs.Int.{IsInRange}
-use Rattle.std.proofs.lemmas.Bool.{cases_lt, ltb-true, ltb-false, le-leb, lt-leb}
+use Rattle.std.proofs.lemmas.Bool.{cases_lt, ltb-true, ltb-false}
 use Rattle.jiff_core.specs.declared.civil.date.Date.{Date}
 use Rattle.jiff_core.specs.Calendar.{days_in_month, day_count}
 use Rattle.jiff_core.specs.Date.{epoch_day}
@@ -12,7 +12,7 @@ use Rattle.jiff_core.proofs.CalendarLemmas.{day_count-day, day_count-next_month,
 use Rattle.jiff_core.proofs.CalendarLemmas.{day_count-day_of_year, day_count-last_of_year, day_count-later_year}
 use Rattle.jiff_core.proofs.CalendarLemmas.{day_count-end, day_count_bounds}
 use Rattle.jiff_core.proofs.DateLemmas.{epoch_day_range, epoch_day_injective}
-use Rattle.dump_views.specs.Texts.{CalendarDay, day_after, day_since, day_of, date_text, clock_text, time_text, no_time}
+use Rattle.dump_views.specs.Texts.{CalendarDay, day_after, day_since, day_of}
 
 -- a day of the calendar, so many days behind 1 January 1970
 record IsDayAt (d : CalendarDay) (n : ℕ) : Type 0 where
@@ -143,17 +143,3 @@ date_is date n is =
     same_day : (date : Date) (d : CalendarDay) → date.year ≡ pos d.year → date.month ≡ d.month
         → date.day ≡ d.day → day_of date ≡ d
     same_day date d year month day = rw (year, month, day) refl
-
--- the text of a date and a time of day
-pub time_of : (date : Date) (s : ℕ) → epoch_day date ≡ pos (s / 86400)
-    → date_text (day_of date) ++ codes " " ++ clock_text (s % 86400) ≡ time_text s
-time_of date s is =
-    let same = date_is date (s / 86400) is in
-    ap (λ (d : CalendarDay). date_text d ++ codes " " ++ clock_text (s % 86400)) same.0
-    ∙ ap (λ (b : Bool). cond b (date_text (day_since (s / 86400)) ++ codes " " ++ clock_text (s % 86400)) no_time)
-    (sym (le-leb _ _ same.1))
-
-pub late_time : (s : ℕ) → 2_932_896 < s / 86400 → no_time ≡ time_text s
-late_time s late =
-    ap (λ (b : Bool). cond b (date_text (day_since (s / 86400)) ++ codes " " ++ clock_text (s % 86400)) no_time)
-    (sym (lt-leb _ _ (late_year (s / 86400) late)))

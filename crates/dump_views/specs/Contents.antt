@@ -1,11 +1,13 @@
 -- What the steps of a dump say of one path.
-use Rattle.std.specs.Prelude.{◌≡◌, ℕ, List, [], ◌++◌, fold, Option, Some, None, Result, if◌then◌else◌}
+use Rattle.std.specs.Prelude.{◌≡◌, ℕ, List, [], ◌++◌, fold, Option, Some, None, Result, Err, if◌then◌else◌}
 use Rattle.std.specs.List.{flat_map}
 use Rattle.store_model.specs.Paths.{Path, same_path}
 use Rattle.store_model.specs.Trees.{Node}
 use Rattle.store_model.specs.Trees.Node.{Directory, File}
 use Rattle.dump_streams.specs.Dumps.{DumpStep}
 use Rattle.dump_streams.specs.Dumps.DumpStep.{Make, Write, Set}
+use Rattle.dump_streams.specs.declared.taker.TakerFault.{TakerFault}
+use Rattle.dump_streams.specs.declared.taker.TakerFault.TheVariants as faults
 use Rattle.store_base.specs.Counts.{faults_after}
 use Rattle.script_lines.specs.SinkState.{SinkState, IsObservable, PutsBytes}
 use Rattle.dump_views.specs.declared.content.Standing.{Standing}
@@ -58,3 +60,9 @@ pub record TakesOne {W T E : Type 0} (sink_of : W → SinkState) (old new : Cont
   pub faults : (sink_of new.sink).faults ≡ faults_after (sink_of old.sink).faults result
   pub observed : IsObservable (sink_of old.sink)
       → PutsBytes (sink_of old.sink) (sink_of new.sink) (bytes_at old.path c) result
+
+-- A step was not taken: the sink failed, and a prefix of the step's bytes was put.
+pub record BreaksOne {W : Type 0} (sink_of : W → SinkState) (old new : ContentTaker W) (c : DumpStep)
+    (fault : TakerFault) : Type 0 where
+  pub fault_is : fault ≡ faults.Failed
+  pub taken : TakesOne {T = Unit {0}} sink_of old new c (Err fault)

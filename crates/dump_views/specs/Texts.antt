@@ -65,6 +65,19 @@ abbrev pub time_text : ℕ → List ℕ
 time_text s = if nat_le (day_since (s / 86400)).year 9999 then date_text (day_since (s / 86400)) ++ codes " "
     ++ clock_text (s % 86400) else no_time
 
+-- the same as YYYY-MM-DDThh:mm:ssZ, and `-` in its room behind the year 9999
+abbrev pub no_utc : List ℕ
+no_utc = codes "-                   "
+
+abbrev pub utc_text : ℕ → List ℕ
+utc_text s = if nat_le (day_since (s / 86400)).year 9999 then date_text (day_since (s / 86400)) ++ codes "T"
+    ++ clock_text (s % 86400) ++ codes "Z" else no_utc
+
+-- and `-` where no time is known
+abbrev pub utc_column : Option ℕ → List ℕ
+utc_column None = no_utc
+utc_column (Some s) = utc_text s
+
 -- the letter of what stands at a path
 abbrev pub letter_of : Kind → Bool → List ℕ
 letter_of Directory is_executable = codes "d"

@@ -57,11 +57,11 @@ fn letter_of(kind: Kind, is_executable: bool) -> &'static [u8]
     }
 }
 
-/// Adds how long what stands at a path is, at the right end of a column of eight, 10 bytes at most.
+/// Adds how long what stands at a path is, at the right end of a column of eight, 20 bytes at most.
 fn push_length(text: &mut Text, kind: Kind)
-    requires { length text.old + 10 ≤ MAX_TEXT }
+    requires { length text.old + 20 ≤ MAX_TEXT }
     ensures value { text.new ≡ text.old ++ right_aligned (length_text kind) }
-    ensures fits { length text.new ≤ length text.old + 10 }
+    ensures fits { length text.new ≤ length text.old + 20 }
 {
     match kind {
         Kind::Directory => push_aligned(text, b"-"),
@@ -72,12 +72,12 @@ fn push_length(text: &mut Text, kind: Kind)
     }
 }
 
-/// Adds a text of 10 bytes at most, at the right end of a column of eight.
-fn push_aligned(text: &mut Text, column: &[u8])
-    requires room { length text.old + 10 ≤ MAX_TEXT }
-    requires short { length column.now ≤ 10 }
+/// Adds a text of 20 bytes at most, at the right end of a column of eight; a longer text takes its own room.
+pub fn push_aligned(text: &mut Text, column: &[u8])
+    requires room { length text.old + 20 ≤ MAX_TEXT }
+    requires short { length column.now ≤ 20 }
     ensures value { text.new ≡ text.old ++ right_aligned column.now }
-    ensures fits { length text.new ≤ length text.old + 10 }
+    ensures fits { length text.new ≤ length text.old + 20 }
 {
     text.push(&[b' '; WIDTH][..WIDTH.saturating_sub(column.len())]);
     text.push(column);

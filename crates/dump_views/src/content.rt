@@ -1,12 +1,12 @@
 //! The bytes of one file of a dump.
 
-ghost use Rattle.std.specs.Prelude.{◌≡◌, [], IfErr, ⊤};
+ghost use Rattle.std.specs.Prelude.{◌≡◌, [], IfErr};
 ghost use Rattle.store_model.specs.Trees.{empty_tree, node_at};
 ghost use Rattle.dump_streams.specs.Dumps.DumpStep.{Make, Write};
 ghost use Rattle.dump_streams.specs.Takers.{IsTaken};
 ghost use Rattle.dump_streams.specs.declared.taker.TakerFault.TheVariants as faults;
 ghost use Rattle.dump_views.specs.declared.content.ContentTaker.{ContentTaker};
-ghost use Rattle.dump_views.specs.Contents.{TakesOne, TookContents, standing_by, standing_of};
+ghost use Rattle.dump_views.specs.Contents.{TakesOne, BreaksOne, TookContents, standing_by, standing_of};
 
 use crate::same::is_same_path;
 use dump_streams::{DumpStep, Step, Taker, TakerFault};
@@ -120,13 +120,14 @@ impl<W: Sink> ContentTaker<W> {
 impl<W: Sink> Taker for ContentTaker<W> {
     ghost took = { TookContents W.state };
 
-    ghost broke = { λ first now step fault. ⊤ };
+    ghost broke = { BreaksOne W.state };
 
     /// `Failed`: the sink failed. The first bytes of the step may have been put.
     fn take(&mut self, step: &DumpStep) -> Result<(), TakerFault>
         ensures contract { (first : ContentTaker W)
             → IsTaken (TookContents W.state first self.old) (TookContents W.state first self.new)
             step.now result }
+        ensures broken { IfErr result (BreaksOne W.state self.old self.new step.now) }
         ensures taken { TakesOne W.state self.old self.new step.now result }
         ensures fault { IfErr result (λ fault. fault ≡ faults.Failed) }
     {

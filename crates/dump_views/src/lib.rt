@@ -13,7 +13,10 @@ mod lister;
 mod same;
 mod times;
 
+pub use columns::push_aligned;
 pub use content::{ContentTaker, Standing};
 pub use entry::ListedEntry;
 pub use groups::{ListFault, write_listing};
 pub use lister::TreeLister;
+pub use same::is_same_path;
+pub use times::push_utc;

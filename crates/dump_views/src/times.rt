@@ -1,7 +1,8 @@
 //! The text of a time.
 
-ghost use Rattle.std.specs.Prelude.{◌≡◌, ◌<◌, ◌≤◌, ◌+◌, ◌++◌, ℕ, List, length};
-ghost use Rattle.dump_views.specs.Texts.{clock_text, date_text, day_of, time_column, time_text, two_digits, year_text};
+ghost use Rattle.std.specs.Prelude.{◌≡◌, ◌<◌, ◌≤◌, ◌+◌, ◌/◌, ◌++◌, ℕ, List, IfSome, is_some, length, nat_le};
+ghost use Rattle.dump_views.specs.Texts.{clock_text, date_text, day_of, day_since, time_column, time_text, two_digits};
+ghost use Rattle.dump_views.specs.Texts.{utc_column, utc_text, year_text};
 
 use jiff_core::civil::Date;
 use script_lines::{MAX_TEXT, Text};
@@ -11,6 +12,9 @@ const DAY: u64 = 86_400;
 
 /// The room of a time.
 const NO_TIME: &[u8; 19] = b"                   ";
+
+/// The column of a time where none is known.
+const NO_UTC: &[u8; 20] = b"-                   ";
 
 /// Adds the column of a time, if there is one, 20 bytes at most: spaces where no time is known, or one behind the
 /// year 9999.
@@ -35,13 +39,54 @@ fn push_moment(text: &mut Text, seconds: u64)
     ensures value { text.new ≡ text.old ++ time_text seconds }
     ensures fits { length text.new ≡ length text.old + 19 }
 {
-    match Date::from_unix_epoch_day((seconds / DAY) as i64) {
-        Ok(date) => {
+    match day_at(seconds) {
+        Some(date) => {
             push_date(text, date);
             text.push(b" ");
             push_clock(text, (seconds % DAY) as u32);
         }
-        Err(_) => text.push(NO_TIME),
+        None => text.push(NO_TIME),
+    }
+}
+
+/// Adds the column of a time by UTC, 20 bytes: as `2026-11-30T12:00:00Z`, and `-` where no time is known, or one behind
+/// the year 9999.
+pub fn push_utc(text: &mut Text, seconds: Option<u64>)
+    requires { length text.old + 20 ≤ MAX_TEXT }
+    ensures value { text.new ≡ text.old ++ utc_column seconds }
+    ensures fits { length text.new ≡ length text.old + 20 }
+{
+    match seconds {
+        Some(seconds) => push_utc_moment(text, seconds),
+        None => text.push(NO_UTC),
+    }
+}
+
+/// Adds the text of a time by UTC, 20 bytes.
+fn push_utc_moment(text: &mut Text, seconds: u64)
+    requires { length text.old + 20 ≤ MAX_TEXT }
+    ensures value { text.new ≡ text.old ++ utc_text seconds }
+    ensures fits { length text.new ≡ length text.old + 20 }
+{
+    match day_at(seconds) {
+        Some(date) => {
+            push_date(text, date);
+            text.push(b"T");
+            push_clock(text, (seconds % DAY) as u32);
+            text.push(b"Z");
+        }
+        None => text.push(NO_UTC),
+    }
+}
+
+/// The day by UTC of so many seconds since 1970, if it is not behind the year 9999.
+fn day_at(seconds: u64) -> Option<Date>
+    ensures day { IfSome result (λ date. day_of date ≡ day_since (seconds / DAY)) }
+    ensures told { is_some result ≡ nat_le (day_since (seconds / DAY)).year 9999 }
+{
+    match Date::from_unix_epoch_day((seconds / DAY) as i64) {
+        Ok(date) => Some(date),
+        Err(_) => None,
     }
 }
 

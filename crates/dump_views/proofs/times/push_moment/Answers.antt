@@ -1,25 +1,26 @@
-use Rattle.std.proofs.Common.{◌≡◌, ◌<◌, ◌/◌, ◌%◌, ◌++◌, List, ℕ, pos, codes, ap, ◌∙◌, arith, append_assoc}
-use Rattle.jiff_core.proofs.SignedLemmas.{signed_arith, signed_casts}
-use Rattle.jiff_core.specs.Date.{epoch_day}
-use Rattle.dump_views.specs.Texts.{clock_text, date_text, day_of}
-use Rattle.dump_views.proofs.TimeLemmas.{time_of, late_time}
+use Rattle.std.proofs.Common.{◌/◌, ◌%◌, ◌++◌, List, ℕ, nat_le, codes, sym, ap, ◌∙◌, append_assoc}
+use Rattle.std.proofs.lemmas.Bool.{cond-true, cond-false}
+use Rattle.dump_views.specs.Texts.{CalendarDay, clock_text, date_text, day_since, no_time}
 use Rattle.dump_views.proofs.times.push_moment.Goals as goal
 
-pub returns-in-Ok-clause-value : goal.returns-in-Ok-clause-value
-returns-in-Ok-clause-value c =
+pub returns-in-Some-clause-value : goal.returns-in-Some-clause-value
+returns-in-Some-clause-value c =
     let text = c.args.text.now in
     let s = c.args.seconds in
-    let date = date_text (day_of c.in-Ok.date) in
+    let day = day_since (s / 86400) in
     let clock = clock_text (s % 86400) in
-    let is : epoch_day c.in-Ok.date ≡ pos (s / 86400) =
-    omega (arith, signed_arith, signed_casts, c.in-Ok.ensures.value) in
     c.push_clock.ensures
     ∙ ap (λ (t : List ℕ). t ++ clock) (c.push.ensures ∙ ap (λ (t : List ℕ). t ++ codes " ") c.push_date.ensures)
-    ∙ append_assoc (text ++ date) (codes " ") clock ∙ append_assoc text date (codes " " ++ clock)
-    ∙ ap (λ (t : List ℕ). text ++ t) (time_of c.in-Ok.date s is)
+    ∙ ap (λ (d : CalendarDay). ((text ++ date_text d) ++ codes " ") ++ clock) c.in-Some.ensures.day
+    ∙ append_assoc (text ++ date_text day) (codes " ") clock ∙ append_assoc text (date_text day) (codes " " ++ clock)
+    ∙ ap (λ (t : List ℕ). text ++ t)
+    (sym (cond-true (nat_le day.year 9999) (date_text day ++ codes " " ++ clock) no_time
+    (sym c.in-Some.ensures.told)))
 
-pub returns-in-Err-clause-value : goal.returns-in-Err-clause-value
-returns-in-Err-clause-value c =
+pub returns-in-None-clause-value : goal.returns-in-None-clause-value
+returns-in-None-clause-value c =
     let s = c.args.seconds in
-    let late : 2_932_896 < s / 86400 = grind (arith, signed_arith, signed_casts, c.in-Err.ensures.succeeds) in
-    c.push-in-Err.ensures ∙ ap (λ (t : List ℕ). c.args.text.now ++ t) (late_time s late)
+    let day = day_since (s / 86400) in
+    c.push-in-None.ensures ∙ ap (λ (t : List ℕ). c.args.text.now ++ t)
+    (sym (cond-false (nat_le day.year 9999) (date_text day ++ codes " " ++ clock_text (s % 86400)) no_time
+    (sym c.in-None.ensures.told)))

@@ -1,0 +1,4 @@
+mod CutNames
+mod PathWords
+mod ShownNames
+mod VisibleText

@@ -1,0 +1,4 @@
+mod AttributeFolds
+mod ToldEntries
+mod ListerSteps
+pub mod ShownLines

@@ -1,0 +1,4 @@
+pub mod Entries
+pub mod Lines
+pub mod Listers
+pub mod Listings
