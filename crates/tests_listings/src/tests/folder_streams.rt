@@ -2,12 +2,11 @@
 
 use super::support::{add, found, long_listing};
 use dump_streams::{DrainFault, StreamFault};
-use host_folders::{Found, MemEntry, MemFolder, pack_folder};
+use host_folders::{Found, FoundKind, MemEntry, MemFolder, pack_folder};
 use path_keys::Path;
 use std::alloc::Global;
 use std::process::Abort;
 use tests_tools::{NEVER, fields, number, path_of, sink_of};
-use tree_pairs::Kind;
 
 /// A listing that is to be written: the fault by which the writing ends, if by any, at which path, or at the root where
 /// all was written, and the lines.
@@ -46,31 +45,41 @@ fn is_written(
     (ended == end) & is_at & (sink.written() == lines)
 }
 
-/// A folder with a time, a file in it with both attributes, and one with the attribute `mode`.
+/// A folder with a time, a file in it with both attributes, one with the attribute `mode`, and a link.
 fn entries(rt: &impl Abort, alloc: Global) -> Vec<MemEntry> {
-    let mut d = found("/d", Kind::Directory);
+    let mut d = found("/d", FoundKind::Folder);
     d.seconds = Some(7);
-    let mut f = found("/d/f", Kind::File(2));
+    let mut f = found("/d/f", FoundKind::File(2));
     f.is_executable = true;
     f.seconds = Some(1_000_000_007);
-    let mut g = found("/g", Kind::File(1));
+    let mut g = found("/g", FoundKind::File(1));
     g.is_executable = true;
     let mut entries = Vec::new(alloc);
     add(rt, alloc, &mut entries, d, b"");
     add(rt, alloc, &mut entries, f, b"\x00\x01");
     add(rt, alloc, &mut entries, g, b"\x00");
+    add(
+        rt,
+        alloc,
+        &mut entries,
+        found("/h", FoundKind::Link),
+        b"d/f",
+    );
     entries
 }
 
 /// Rows parted by `#`: the call of that folder that fails, or `-`; the path at which the writing ends so, or the root;
-/// and the lines that were written. A file is opened, read byte by byte, and read once more for its end.
+/// and the lines that were written. A file is opened, read byte by byte, and read once more for its end. A link is
+/// asked once, by the eighth call.
 const LISTINGS: &str = "\
     0|/d/f|make /d\nset /d mtime 37\n#\
     1|/d/f|make /d\nset /d mtime 37\n#\
     3|/d/f|make /d\nset /d mtime 37\n#\
     4|/g|make /d\nset /d mtime 37\nwrite /d/f 0 0001\nset /d/f mode 78\nset /d/f mtime 31303030303030303037\n#\
+    7|/h|make /d\nset /d mtime 37\nwrite /d/f 0 0001\nset /d/f mode 78\nset /d/f mtime 31303030303030303037\n\
+        write /g 0 00\nset /g mode 78\n#\
     -|/|make /d\nset /d mtime 37\nwrite /d/f 0 0001\nset /d/f mode 78\nset /d/f mtime 31303030303030303037\n\
-        write /g 0 00\nset /g mode 78\n";
+        write /g 0 00\nset /g mode 78\nwrite /h 0 -\nset /h link 642f66\n";
 
 /// Looks whether the folder is written so as a row says.
 fn expect_row(rt: &impl Abort, alloc: Global, row: &str) {
@@ -100,7 +109,7 @@ fn a_file_comes_in_pieces(rt: HostRuntime) {
         &rt,
         rt.alloc(),
         &mut entries,
-        found("/f", Kind::File(2049)),
+        found("/f", FoundKind::File(2049)),
         &bytes,
     );
     let lines = long_listing(&rt, rt.alloc());
@@ -115,14 +124,14 @@ fn entries_out_of_order_are_no_dump(rt: HostRuntime) {
         &rt,
         rt.alloc(),
         &mut entries,
-        found("/b", Kind::Directory),
+        found("/b", FoundKind::Folder),
         b"",
     );
     add(
         &rt,
         rt.alloc(),
         &mut entries,
-        found("/a", Kind::Directory),
+        found("/a", FoundKind::Folder),
         b"",
     );
     let wanted = (

@@ -4,8 +4,10 @@ ghost use Rattle.std.specs.Prelude.{◌≡◌, false};
 ghost use Rattle.host_builder.specs.Memory.{memory_state};
 
 use super::support::{long_listing, stream_of};
-use dump_streams::{DrainFault, TakerFault, drain};
-use host_builder::{BuildTaker, Builder, BuiltStep, MemBuilder, Wanted, build};
+use dump_streams::{StreamFault, TakerFault};
+use host_builder::{
+    BuildFault, Builder, Built, BuiltStep, LeftOut, Links, MemBuilder, Wanted, build,
+};
 use std::alloc::Global;
 use std::process::Abort;
 use tests_tools::{NEVER, path_of};
@@ -16,28 +18,33 @@ static TREE: &[u8] = b"make /a\nset /a mode 78\nset /a mtime 31303030\nset /a no
     write /a/l 0 -\nset /a/l link 2e2e2f63\nset /a/l mtime 35\n\
     make /c\nset /c mtime 3031\n";
 
+/// Names that spell none of the host, and one that does.
+static UNNAMED: &[u8] = b"make /!\nwrite /!/%41 0 61\nmake /%\nwrite /%/a 0 -\nmake /z\n";
+
+/// A file below one that would become a link.
+static BELOW_A_LINK: &[u8] = b"write /l 0 -\nset /l link 2f\nwrite /l/x 0 61\n";
+
 /// All attributes that a host can have.
 const ALL: Wanted = Wanted {
     mode: true,
     mtime: true,
-    link: true,
+    links: Links::Made,
+    skips: false,
 };
 
 /// None of them.
 const NONE: Wanted = Wanted {
     mode: false,
     mtime: false,
-    link: false,
+    links: Links::Data,
+    skips: false,
 };
 
-/// A builder in memory whose call of that number fails.
-fn builder_of(rt: &impl Abort, alloc: Global, failing: u64) -> MemBuilder
+/// A builder in memory whose calls of these numbers fail.
+fn builder_of(rt: &impl Abort, alloc: Global, failing: &[u64]) -> MemBuilder
     ensures { (memory_state result).has_links ≡ false }
 {
-    MemBuilder::new(
-        alloc,
-        Vec::from_slice(alloc, &[failing]).expect(rt, "memory"),
-    )
+    MemBuilder::new(alloc, Vec::from_slice(alloc, failing).expect(rt, "memory"))
 }
 
 /// Whether the step is what the text says.
@@ -51,6 +58,7 @@ fn is_step(step: &BuiltStep, text: &str) -> bool {
         BuiltStep::Bytes(path, at, bytes) => {
             word == "bytes" && *path == wanted && *at == 0 && bytes.as_slice() == rest.as_bytes()
         }
+        BuiltStep::Ended(path) => word == "ended" && *path == wanted,
         BuiltStep::Executes(path) => word == "executes" && *path == wanted,
         BuiltStep::Time(path, seconds) => {
             word == "time" && *path == wanted && rest.parse::<u64>() == Ok(*seconds)
@@ -58,6 +66,10 @@ fn is_step(step: &BuiltStep, text: &str) -> bool {
         BuiltStep::Link(path, target) => {
             word == "link" && *path == wanted && target.as_slice() == rest.as_bytes()
         }
+        BuiltStep::Removed(path) => word == "removed" && *path == wanted,
+        BuiltStep::RemovedRoot => word == "removed" && wanted.is_root(),
+        BuiltStep::LeftOut(path, LeftOut::NoName) => word == "unnamed" && *path == wanted,
+        BuiltStep::LeftOut(path, LeftOut::Link) => word == "unlinked" && *path == wanted,
     }
 }
 
@@ -76,24 +88,51 @@ fn are_steps(steps: &[BuiltStep], texts: &str) -> bool {
     count == steps.len()
 }
 
+/// What becomes of a listing whose builder fails at these calls.
+fn built(
+    rt: &impl Abort,
+    alloc: Global,
+    listing: &[u8],
+    failing: &[u64],
+    wanted: Wanted,
+) -> Built<MemBuilder> {
+    let mut stream = stream_of(rt, alloc, listing, 4096, NEVER);
+    build(alloc, &mut stream, builder_of(rt, alloc, failing), wanted)
+}
+
 /// Whether the tree is made by just these steps.
 fn is_made(rt: &impl Abort, alloc: Global, wanted: Wanted, texts: &str) -> bool {
-    let mut stream = stream_of(rt, alloc, TREE, 4096, NEVER);
-    let (builder, made) = build(alloc, &mut stream, builder_of(rt, alloc, NEVER), wanted);
-    made == Ok(()) && are_steps(builder.steps(), texts)
+    let Built {
+        builder,
+        stays,
+        done,
+    } = built(rt, alloc, TREE, &[], wanted);
+    done.is_ok() && stays == 0 && are_steps(builder.steps(), texts)
 }
 
 #[test]
 fn a_tree_is_made_with_its_attributes(rt: HostRuntime) {
-    let steps = "folder /a#bytes /a/b hi#executes /a/b#time /a/b 0#bytes /a/l #folder /c#\
-        link /a/l ../c#time /a 1000";
+    let steps =
+        "folder /a#bytes /a/b hi#executes /a/b#time /a/b 0#ended /a/b#bytes /a/l #ended /a/l#\
+        folder /c#link /a/l ../c#time /a 1000";
     assert!(rt; is_made(&rt, rt.alloc(), ALL, steps));
 }
 
 #[test]
 fn a_tree_is_made_without_them(rt: HostRuntime) {
-    let steps = "folder /a#bytes /a/b hi#bytes /a/l #folder /c";
+    let steps = "folder /a#bytes /a/b hi#ended /a/b#bytes /a/l #ended /a/l#folder /c";
     assert!(rt; is_made(&rt, rt.alloc(), NONE, steps));
+}
+
+#[test]
+fn links_are_left_out(rt: HostRuntime) {
+    let steps = "folder /a#bytes /a/b hi#ended /a/b#bytes /a/l #ended /a/l#folder /c#removed /a/l#\
+        unlinked /a/l";
+    let wanted = Wanted {
+        links: Links::LeftOut,
+        ..NONE
+    };
+    assert!(rt; is_made(&rt, rt.alloc(), wanted, steps));
 }
 
 /// Whether the step writes so many bytes from there on.
@@ -107,31 +146,86 @@ fn is_piece(steps: &[BuiltStep], number: usize, from: u32, len: usize) -> bool {
 #[test]
 fn a_long_file_is_made_piece_by_piece(rt: HostRuntime) {
     let long = long_listing(&rt, rt.alloc());
-    let mut stream = stream_of(&rt, rt.alloc(), &long, 4096, NEVER);
-    let builder = builder_of(&rt, rt.alloc(), NEVER);
-    let (builder, made) = build(rt.alloc(), &mut stream, builder, ALL);
-    assert!(rt; made == Ok(()) && builder.steps().len() == 2);
+    let Built {
+        builder,
+        stays: _,
+        done,
+    } = built(&rt, rt.alloc(), &long, &[], ALL);
+    assert!(rt; done.is_ok() && builder.steps().len() == 3);
     assert!(rt; is_piece(builder.steps(), 0, 0, 2048) && is_piece(builder.steps(), 1, 2048, 1));
 }
 
-/// Whether the taker is blamed where the call of that number fails, and so many steps were carried out.
-fn is_blamed(rt: &impl Abort, alloc: Global, failing: u64, count: usize) -> bool {
-    let mut stream = stream_of(rt, alloc, TREE, 4096, NEVER);
-    let (builder, made) = build(alloc, &mut stream, builder_of(rt, alloc, failing), ALL);
-    made == Err(DrainFault::Taker(TakerFault::Failed)) && builder.steps().len() == count
+/// Whether the builder is blamed that fails at these calls, and carried out just these steps; so much stays.
+fn is_blamed(rt: &impl Abort, alloc: Global, failing: &[u64], count: u64, texts: &str) -> bool {
+    let Built {
+        builder,
+        stays,
+        done,
+    } = built(rt, alloc, TREE, failing, ALL);
+    matches!(&done, Err(BuildFault::Builder(TakerFault::Failed)))
+        && stays == count
+        && are_steps(builder.steps(), texts)
 }
 
 #[test]
-fn a_builder_that_fails_ends_the_making(rt: HostRuntime) {
-    assert!(rt; is_blamed(&rt, rt.alloc(), 1, 1));
-    assert!(rt; is_blamed(&rt, rt.alloc(), 6, 6));
-    assert!(rt; is_blamed(&rt, rt.alloc(), 7, 7));
+fn what_was_made_goes_again(rt: HostRuntime) {
+    let alloc = rt.alloc();
+    assert!(rt; is_blamed(&rt, alloc, &[0], 0, "removed /"));
+    assert!(rt; is_blamed(&rt, alloc, &[1], 0, "folder /a#removed /a#removed /"));
+    assert!(rt;
+        is_blamed(
+            &rt,
+            alloc,
+            &[2],
+            0,
+            "folder /a#bytes /a/b hi#removed /a/b#removed /a#removed /"
+        )
+    );
+    let stays = "folder /a#bytes /a/b hi#removed /a#removed /";
+    assert!(rt; is_blamed(&rt, alloc, &[2, 3], 1, stays));
+    let linked =
+        "folder /a#bytes /a/b hi#executes /a/b#time /a/b 0#ended /a/b#bytes /a/l #ended /a/l#\
+        folder /c#link /a/l ../c#removed /c#removed /a/l#removed /a/b#removed /a#removed /";
+    assert!(rt; is_blamed(&rt, alloc, &[9], 0, linked));
 }
 
 #[test]
-fn what_waits_is_made_by_finish_alone(rt: HostRuntime) {
-    let mut stream = stream_of(&rt, rt.alloc(), TREE, 4096, NEVER);
-    let mut taker = BuildTaker::new(rt.alloc(), builder_of(&rt, rt.alloc(), NEVER), ALL);
-    assert!(rt; drain(&mut stream, &mut taker) == Ok(()));
-    assert!(rt; taker.into_builder().steps().len() == 6);
+fn a_name_that_none_can_have_ends_it(rt: HostRuntime) {
+    let Built {
+        builder,
+        stays,
+        done,
+    } = built(&rt, rt.alloc(), UNNAMED, &[], ALL);
+    assert!(rt; matches!(&done, Err(BuildFault::NoName(path)) if *path == path_of("/!/%41")));
+    assert!(rt; stays == 0);
+    assert!(rt;
+        are_steps(
+            builder.steps(),
+            "folder /!#unnamed /!/%41#removed /!#removed /"
+        )
+    );
+}
+
+#[test]
+fn a_name_that_none_can_have_is_skipped(rt: HostRuntime) {
+    let wanted = Wanted { skips: true, ..ALL };
+    let Built {
+        builder,
+        stays: _,
+        done,
+    } = built(&rt, rt.alloc(), UNNAMED, &[], wanted);
+    assert!(rt; done.is_ok());
+    let steps = "folder /!#unnamed /!/%41#unnamed /%#unnamed /%/a#folder /z";
+    assert!(rt; are_steps(builder.steps(), steps));
+}
+
+#[test]
+fn nothing_is_made_below_a_link(rt: HostRuntime) {
+    let Built {
+        builder,
+        stays,
+        done,
+    } = built(&rt, rt.alloc(), BELOW_A_LINK, &[], ALL);
+    assert!(rt; matches!(&done, Err(BuildFault::Stream(StreamFault::NoDump))) && stays == 0);
+    assert!(rt; are_steps(builder.steps(), "bytes /l #removed /l#removed /"));
 }

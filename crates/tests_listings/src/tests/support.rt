@@ -1,13 +1,12 @@
 //! What the tests of several modules make.
 
 use dump_streams::ListingStream;
-use host_folders::{Found, MemEntry};
+use host_folders::{Found, FoundKind, MemEntry};
 use script_lines::MemSource;
 use std::alloc::Global;
 use std::process::Abort;
 use store_base::Version;
 use tests_tools::{path_of, source_of};
-use tree_pairs::Kind;
 
 /// The stream of a listing, whose source gives this many bytes at each of its first takes, and fails at that of this
 /// number.
@@ -34,7 +33,7 @@ pub fn long_listing(rt: &impl Abort, alloc: Global) -> Vec<u8> {
 }
 
 /// What was found at a path, with no attribute.
-pub fn found(text: &str, kind: Kind) -> Found {
+pub fn found(text: &str, kind: FoundKind) -> Found {
     Found {
         path: path_of(text),
         kind,
@@ -43,7 +42,7 @@ pub fn found(text: &str, kind: Kind) -> Found {
     }
 }
 
-/// Adds what was found to the entries of a folder in memory; a file has these bytes.
+/// Adds what was found to the entries of a folder in memory; a file has these bytes, and a link leads there.
 pub fn add(
     rt: &impl Abort,
     alloc: Global,

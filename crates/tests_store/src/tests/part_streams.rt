@@ -5,8 +5,9 @@ use disk_model::{FailingDisk, MemDisk};
 use dump_streams::write_dump;
 use std::alloc::Global;
 use std::process::Abort;
+use std::slice;
 use store_core::Store;
-use store_stream::{PathStream, RootedStream};
+use store_stream::{PartsStream, RootedStream};
 use tests_tools::{disk_of, path_of, sink_of};
 
 /// A tree with a folder in a folder, and what stands before and behind them.
@@ -22,7 +23,8 @@ fn store_of(rt: &impl Abort, alloc: Global, image: &[u8]) -> Store<FailingDisk<M
 
 /// Looks whether the dump of the part of an image at a path has these lines.
 fn expect_part(rt: &impl Abort, alloc: Global, image: &[u8], path: &str, lines: &str) {
-    let mut stream = PathStream::new(store_of(rt, alloc, image), path_of(path));
+    let at = path_of(path);
+    let mut stream = PartsStream::new(store_of(rt, alloc, image), slice::from_ref(&at));
     let (sink, ended) = write_dump(&mut stream, sink_of(alloc, &[]).expect(rt, "memory"));
     let _ = stream.into_store().into_disk();
     assert!(rt;
@@ -33,8 +35,9 @@ fn expect_part(rt: &impl Abort, alloc: Global, image: &[u8], path: &str, lines: 
 
 /// Looks whether the dump of what is below a path, with it for the root, has these lines.
 fn expect_below(rt: &impl Abort, alloc: Global, image: &[u8], path: &str, lines: &str) {
-    let stream = PathStream::new(store_of(rt, alloc, image), path_of(path));
-    let mut rooted = RootedStream::new(stream, path_of(path));
+    let at = path_of(path);
+    let stream = PartsStream::new(store_of(rt, alloc, image), slice::from_ref(&at));
+    let mut rooted = RootedStream::new(stream, at);
     let (sink, ended) = write_dump(&mut rooted, sink_of(alloc, &[]).expect(rt, "memory"));
     let _ = rooted.into_stream().into_store().into_disk();
     assert!(rt;

@@ -4,6 +4,7 @@
 use super::recovered_disks::{put, zero_disk};
 use disk_model::MemDisk;
 use gate_journal::Journal;
+use image_summary::{Summary, SummaryFault, sum_up};
 use path_keys::Path;
 use recovered_store::attach_recovered;
 use script_lines::Command;
@@ -85,4 +86,28 @@ fn what_is_no_image_is_refused(rt: HostRuntime) {
     let mut damaged = formatted(&rt, rt.alloc());
     put(&rt, &mut damaged, 16_384, &[1]);
     assert!(&rt; fault_of(rt.alloc(), damaged) == Some(AttachFault::Damaged));
+}
+
+/// What a disk is summed up to.
+fn summary_of(disk: MemDisk) -> Result<Summary, SummaryFault> {
+    let (_, found) = sum_up(disk);
+    found
+}
+
+#[test]
+fn an_image_is_summed_up(rt: HostRuntime) {
+    let plain = summary_of(formatted(&rt, rt.alloc()))
+        .ok()
+        .expect(&rt, "a summary");
+    assert!(&rt; !plain.is_pending);
+    assert!(&rt; plain.contents.used == 0);
+    let pending = summary_of(broken_off(&rt, rt.alloc()))
+        .ok()
+        .expect(&rt, "a summary");
+    assert!(&rt; pending.is_pending);
+    assert!(&rt; pending.contents.used == 1);
+    assert!(&rt; pending.contents.counts.dirs == 1);
+    assert!(&rt; pending.digest != plain.digest);
+    let zeros = zero_disk(&rt, rt.alloc(), LEN);
+    assert!(&rt; summary_of(zeros).err() == Some(SummaryFault::NotImage));
 }
