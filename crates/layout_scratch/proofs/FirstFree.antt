@@ -15,7 +15,7 @@ use Rattle.store_model.specs.Placement.{probe, holds_nothing, is_free}
 use Rattle.layout_scratch.specs.Layouts.{table_of, IsNumber}
 
 -- numbers one after another, in two parts
-numbers_from-append : (first m n : ℕ) → numbers_from first (m + n) ≡ numbers_from first m ++ numbers_from (first + m) n
+pub numbers_from-append : (first m n : ℕ) → numbers_from first (m + n) ≡ numbers_from first m ++ numbers_from (first + m) n
 unfolding numbers_from
 numbers_from-append first zero n = ap₂ numbers_from (omega arith) (omega arith)
 numbers_from-append first (suc m) n =
@@ -37,7 +37,7 @@ map-numbers_from f a b (suc n) h =
     (map-numbers_from f (suc a) (suc b) n (λ i l. ap f (one_on a i) ∙ h (suc i) (omega arith) ∙ sym (one_on b i)))
 
 -- a probe sequence goes from the start to the end, and then from 0 to the start
-probes_in_parts : (slots start : ℕ) → start < slots
+pub probes_in_parts : (slots start : ℕ) → start < slots
     → map (probe slots start) (numbers_below slots) ≡ numbers_from start (slots - start) ++ numbers_from 0 start
 probes_in_parts slots start h =
     let whole : slots ≡ slots - start + start = omega arith in
@@ -69,7 +69,7 @@ position_from-add test a b (x ∷ xs) =
     [ true ↦ refl | false ↦ rest ]
 
 -- a search through numbers that are tested as the places of a list are
-find-numbers_from : {X : Type 0} (test : ℕ → Bool) (at_place : X → Bool) (a : ℕ) (xs : List X)
+pub find-numbers_from : {X : Type 0} (test : ℕ → Bool) (at_place : X → Bool) (a : ℕ) (xs : List X)
     → ((i : ℕ) (d : X) → i < length xs → test (a + i) ≡ at_place (get_or xs i d))
     → find test (numbers_from a (length xs)) ≡ position_from at_place a xs
 unfolding numbers_from

@@ -1,5 +1,5 @@
-mod FirstFree
-mod Placing
+pub mod FirstFree
+pub mod Placing
 pub mod AllLevels
 pub mod LevelCells
 pub mod LevelCounts

@@ -39,13 +39,13 @@ unfolding groups level_list cut_before onto_part
 one_group d y level there = ap (cut_before (leads_group d level)) (level_list-there d y [] level there)
 
 -- below the level of its key the pair begins a group
-groups_below : (d : Draw) (s : List Pair) (y : Pair) (level : ℕ) → level < d.level y.0
+pub groups_below : (d : Draw) (s : List Pair) (y : Pair) (level : ℕ) → level < d.level y.0
     → groups d (s ++ y ∷ []) level ≡ groups d s level ++ (cell_on level y ∷ []) ∷ []
 groups_below d s y level low = groups-split d s y [] level low
     ∙ ap (λ parts. groups d s level ++ parts) (one_group d y level (omega arith))
 
 -- on it the pair comes into the last group
-groups_at : (d : Draw) (s : List Pair) (y : Pair) (level : ℕ) → level ≡ d.level y.0
+pub groups_at : (d : Draw) (s : List Pair) (y : Pair) (level : ℕ) → level ≡ d.level y.0
     → groups d (s ++ y ∷ []) level ≡ onto_last (groups d s level) (cell_on level y)
 unfolding groups level_list
 groups_at d s y level top =

@@ -53,7 +53,7 @@ put_where_found d pages places number start page label answer found slots page_i
     (put_first_free-places d pages places number page found page_is (sym found_is ∙ answer_is ∙ along))
 
 -- pages put in, and one more
-put_all-push : (d : Draw) (table : Table) (pages : List Page) (page : Page)
+pub put_all-push : (d : Draw) (table : Table) (pages : List Page) (page : Page)
     → put_all d table (pages ++ page ∷ []) ≡ put_first_free d (put_all d table pages) page
 unfolding put_all
 put_all-push d table [] page = refl

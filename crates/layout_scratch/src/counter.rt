@@ -68,6 +68,20 @@ impl PageCounter {
         ensures level { result ≡ (W.drawn draw.now).level key.now }
     {
         let level = draw.level_from(front, key);
+        self.add_at(level);
+        level
+    }
+
+    /// As `add`, where the level of the key was drawn before.
+    pub fn add_at(&mut self, level: u8)
+        requires height { level < height_limit }
+        requires few { self.old.keys < sorted_limit }
+        ensures counted { (d : draws.Draw) (keys : List (List ℕ)) (key : List ℕ)
+            → d.height ≤ height_limit → level < d.height → level ≡ d.level key
+            → HasCounted d keys self.old → HasCounted d (keys ++ key ∷ []) self.new }
+        ensures grows { self.old.pages ≤ self.new.pages }
+        ensures keys { self.new.keys ≡ self.old.keys + 1 }
+    {
         let at = usize::from(level);
         let count = self.cells[at];
         // The last page of the group is full, or there is no group yet.
@@ -78,6 +92,5 @@ impl PageCounter {
         self.cells[..at].fill(1);
         self.cells[at] = count.saturating_add(1);
         self.keys += 1;
-        level
     }
 }

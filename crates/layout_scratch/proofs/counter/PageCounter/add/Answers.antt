@@ -1,43 +1,13 @@
-use Rattle.std.proofs.Common.{◌≡◌, ◌+◌, ◌%◌, Bool, true, false, cond, nat_eq, ◌++◌, drop, replicate, min, slice_set}
-use Rattle.std.proofs.Common.{refl, sym, ap, ap₂, ◌∙◌, subst, slice_index, arith, length-take-le}
-use Rattle.store_model.specs.Draws.{IsLawful}
-use Rattle.store_model.specs.Pages.{page_room}
-use Rattle.layout_scratch.specs.declared.counter.PageCounter.{PageCounter}
-use Rattle.layout_scratch.proofs.CountedKeys.{TookKey, counted_more, took_key}
-use Rattle.layout_scratch.proofs.OneMoreKey.{opens}
+use Rattle.std.proofs.Common.{sym, ◌∙◌, arith}
 use Rattle.layout_scratch.proofs.counter.PageCounter.add.Goals as goal
-use mir.Val.{bool_byte}
 
--- a truth value as a number
-as_number : (b : Bool) → bool_byte b ≡ cond b 1 0
-as_number true = refl
-as_number false = refl
+pub add_at-requires-clause-height : goal.add_at-requires-clause-height
+add_at-requires-clause-height g c =
+    let low = (g.met.W.Draw.lawful c.args.draw.now).level_in_range c.args.key.now in
+    omega (arith, c.level_from-level.ensures)
 
 pub returns-clause-counted : goal.returns-clause-counted
 returns-clause-counted g c = λ keys counted.
-    let d = g.W.Draw.drawn c.args.draw.now in
-    let old = c.args.self.now in
-    let lawful : IsLawful d = g.met.W.Draw.lawful c.args.draw.now in
-    let top = d.level c.args.key.now in
-    let at_is : c.from-at.result ≡ top = c.from-at.ensures ∙ c.level_from-level.ensures in
-    let low = lawful.level_in_range c.args.key.now in
-    let room_is : c.from.result ≡ page_room top =
-    c.from.ensures ∙ c.room.ensures ∙ ap page_room c.level_from-level.ensures in
-    let opened : c.from-3.result ≡ opens top (slice_index old.cells top) =
-    c.from-3.ensures ∙ as_number _
-    ∙ ap₂ (λ at room. cond (nat_eq (slice_index old.cells at % room) 0) 1 0) at_is room_is in
-    let level_is : c.from-2.result ≡ top = c.from-2.ensures ∙ c.level_from-level.ensures in
-    let at = c.from-at.result in
-    let new : PageCounter = record {
-      cells = slice_set (c.fill.new.self ++ drop at old.cells) at c.saturating_add.result;
-      pages = c.saturating_add-self.result;
-      keys = old.keys + 1;
-    } in
-    let front : c.fill.new.self ≡ replicate at 1 =
-    c.fill.ensures.after (λ y same. same) ∙ ap (λ n. replicate n 1) (length-take-le at old.cells (omega arith)) in
-    let took : TookKey at old new =
-    took_key at old new c.fill.new.self c.saturating_add.result front (omega arith) refl c.saturating_add.ensures
-    (c.saturating_add-self.ensures ∙ ap₂ (λ level more. min (old.pages + (level + more)) 4294967295)
-    (level_is ∙ sym at_is) (opened ∙ ap (λ l. opens l (slice_index old.cells l)) (sym at_is))) refl in
-    counted_more d keys c.args.key.now old new counted low
-    c.requires.height c.requires.few (subst (λ level. TookKey level old new) at_is took)
+    let low = (g.met.W.Draw.lawful c.args.draw.now).level_in_range c.args.key.now in
+    c.add_at.ensures.counted (g.W.Draw.drawn c.args.draw.now) keys c.args.key.now c.requires.height
+    (omega (arith, c.level_from-level.ensures)) c.level_from-level.ensures counted
