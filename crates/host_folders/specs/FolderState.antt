@@ -85,6 +85,7 @@ pub record TellsTarget (old new : FolderState) (path : Path) (target : List ℕ)
   pub read : new.read ≡ old.read
   pub targets : new.targets ≡ old.targets ++ (path, target) ∷ []
 
+-- a link was asked for its target
 pub record IsAsked (old new : FolderState) (path : Path) (result : Result (List ℕ) FolderFault) : Type 0 where
   pub observable : new.is_observable ≡ old.is_observable
   pub faults : new.faults ≡ faults_after old.faults result
