@@ -1,0 +1,6 @@
+mod Asking
+mod Building
+mod Handing
+mod Lookups
+mod Obstacles
+mod Timing

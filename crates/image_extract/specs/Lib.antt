@@ -1,0 +1,4 @@
+pub mod Extracts
+pub mod Faults
+pub mod Lookups
+pub mod Times
