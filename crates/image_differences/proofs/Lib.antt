@@ -1,0 +1,9 @@
+mod EqualViews
+mod StepCounts
+mod StoreSides
+mod FolderSides
+mod Blaming
+mod Comparing
+mod TimeSteps
+mod StoreTimes
+mod ViewedSides

@@ -1,0 +1,5 @@
+pub mod Compared
+pub mod Images
+pub mod Timing
+pub mod Told
+pub mod Folders
