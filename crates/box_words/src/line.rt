@@ -101,7 +101,9 @@ fn wrong_of(alloc: Global, text: &str) -> Result<String, AllocError> {
 fn advice_of(alloc: Global, text: &str, topic: Option<&'static str>) -> Result<String, AllocError> {
     let mut line = String::new(alloc);
     for part in text.lines() {
-        if let Some(tip) = part.trim().strip_prefix("tip: ") {
+        if let Some(tip) = part.trim().strip_prefix("tip: ")
+            && !tip.starts_with("to pass")
+        {
             write!(line, "{}; ", Visible(tip))?;
         }
     }

@@ -110,7 +110,7 @@ static SUBCOMMANDS: [Subcommand; 8] = [
     Subcommand {
         name: "extract",
         kind: Kind::Extract,
-        summary: "makes a folder of an image, or of some of its paths",
+        summary: "extracts an image, or some of its paths, into a folder",
         parts: EXTRACT,
         has_taken: true,
     },
@@ -159,7 +159,7 @@ static SUBCOMMANDS: [Subcommand; 8] = [
     Subcommand {
         name: "unpack",
         kind: Kind::Unpack,
-        summary: "makes a folder of a listing on standard input",
+        summary: "extracts a listing on standard input into a folder",
         parts: DIR,
         has_taken: true,
     },

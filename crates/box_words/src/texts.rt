@@ -17,34 +17,35 @@ hbox - gets folders and files out of images
 == about
 An image is one file that holds folders and files. hbox gets them out:
 
-  hbox ls -R box.img              lists all that is in box.img
+  hbox ls -lR box.img             lists all that is in it, with sizes
   hbox get box.img docs/a.txt     prints the file docs/a.txt
-  hbox extract box.img copy       makes the folder copy of box.img
-  hbox extract box.img part docs  makes the folder part with docs alone
-  hbox compare box.img copy       lists what differs from the folder copy
+  hbox extract box.img copy       extracts box.img into the folder copy
+  hbox extract box.img part docs  extracts docs alone into folder part
+  hbox compare box.img copy       compares it with copy: A is only in
+                                  copy, D only in box.img, M differs
 
 hbox only reads an image. A path in the image is written as on the host, with or
 without a / in front: docs/a.txt or /docs/a.txt.
 
 == words
-Options stand anywhere behind the subcommand. Each subcommand has:
+Options stand anywhere after the subcommand. Each subcommand has:
 
   -h, --help        prints what the subcommand does, with examples
-  --escaped         takes and prints paths as the image spells them: a%20b
+  --escaped         takes and prints paths as in the image: a%20b
   -q, --quiet       prints no summary and no progress
-  -v, --verbose     prints a summary even if standard error is no terminal
+  -v, --verbose     prints a summary even without a terminal
   --wait[=SECONDS]  waits, 60 seconds at most or as many as are given, if
-                    another program has the image
+                    another program is using the image
   --                ends the options: hbox ls -- -x.img
 
 == extract
-Makes a folder of an image, or of some of its paths.
+Extracts an image, or some of its paths, into a folder.
 
 Usage: hbox extract IMAGE DIR [PATH..] [OPTIONS]
 
   DIR         The folder, which is made. An empty folder may be there
-  PATH        What is extracted, with all below it, at its place in DIR.
-              Without PATH, everything is
+  PATH        What is extracted, with all below it, to DIR/PATH, as with
+              tar. Without PATH, everything is
   --skip      Leaves out what the host cannot have, and makes the rest
   --no-mode   Makes no file executable
   --no-links  Leaves out symbolic links
@@ -53,7 +54,7 @@ Usage: hbox extract IMAGE DIR [PATH..] [OPTIONS]
 
 The status is 1 if something was left out. Nothing is written over, and no link
 is followed. If extract fails, it takes away what it made. If it is killed, what
-it made stays: remove DIR, and call it again.
+it made stays: remove DIR, and run it again.
 
 Examples:
   hbox extract box.img copy
@@ -70,7 +71,7 @@ Usage: hbox ls IMAGE [PATH] [-l] [-R] [-0] [OPTIONS]
         kind is d for a folder, f for a file, x for a file that its owner
         may execute, l for a symbolic link
   -R    Lists all that is below PATH, by paths from PATH on
-  -0    Ends each name by a zero byte instead of a line feed
+  -0    Ends each name with a zero byte instead of a line feed
 
 The name of a folder ends with /. The order is that of the image.
 
@@ -84,7 +85,8 @@ Prints a file of an image, or copies it to a file.
 Usage: hbox get IMAGE PATH [FILE] [OPTIONS]
 
   PATH  The path of the file in the image
-  FILE  The file that is written. Without FILE, it is standard output
+  FILE  The file that is written. Without FILE, or if FILE is -, it is
+        standard output
 
 If FILE is there, it is replaced, and only once all bytes are written under
 another name in the same folder. A device or a pipe is written into. If PATH is
@@ -99,7 +101,7 @@ Lists how a folder or another image differs from an image.
 
 Usage: hbox compare IMAGE DIR|IMAGE2 [-0] [OPTIONS]
 
-  -0          Ends each line by a zero byte instead of a line feed
+  -0          Ends each line with a zero byte instead of a line feed
   --skip      Compares the rest if something in DIR cannot be in an image
   --no-mode   Ignores whether a file is executable
   --no-links  Ignores symbolic links
@@ -172,7 +174,7 @@ Examples:
   hbox map box.img | less
 
 == unpack
-Makes a folder of a listing on standard input.
+Extracts a listing on standard input into a folder.
 
 Usage: hbox unpack DIR [OPTIONS] <LISTING
 
@@ -183,8 +185,10 @@ Usage: hbox unpack DIR [OPTIONS] <LISTING
   --mtime     Sets times. A listing that has times sets them by itself
   --no-mtime  Sets no times
 
-A listing is what `hstore IMAGE dump` prints. The status is 1 if something was
-left out, and 15 if what came is no listing. What was made is taken away then.
+A listing is text: the commands that make a tree. `hstore IMAGE dump` prints it
+of an image, and `hstore-tree pack DIR` of a folder. The status is 1 if
+something was left out, and 15 if the input is not a listing. What was made is
+taken away then. An image is extracted by `hbox extract`.
 
 Examples:
   hstore box.img dump | hbox unpack copy
@@ -195,7 +199,7 @@ The status tells how a call ended. A message on standard error tells more.
 
    0  done; what was compared is equal
    1  what was compared differs, or something was left out
-   2  the words are wrong; nothing was opened
+   2  the command line is wrong; nothing was opened
    3  standard input could not be read
    4  standard output could not be written
    5  the disk with an image failed
@@ -203,13 +207,14 @@ The status tells how a call ended. A message on standard error tells more.
    8  an image is damaged
    9  memory ran out
   12  a file could not be opened or made
-  15  what came is no listing
+  15  the input is not a listing
   17  a path is missing, is there already, or is of the wrong kind
-  18  a file or folder of the host failed, or the host cannot have a name
-  19  another program has the image
+  18  a file or folder failed, or this system cannot have a name
+  19  another program is using the image
 
 == see
-hbox shows an image that a program was stopped in as recovery would leave it.
+If a program was stopped while it changed an image, hbox shows what recovery
+would leave.
 
   docs/USING.md
       how folders go in and out, what is kept, and how names are written

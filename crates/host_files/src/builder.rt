@@ -5,18 +5,17 @@ ghost use Rattle.std.specs.Prelude.{if◌then◌else◌};
 ghost use Rattle.store_base.specs.Counts.{raised};
 ghost use Rattle.host_builder.specs.Builders.{untold, faults_after};
 
-use crate::messages::Messages;
+use crate::report::Reporter;
 use crate::site::{NoFolder, Site};
 use dump_streams::TakerFault;
 use host_builder::{Builder, HostAttribute, LeftOut};
 use path_keys::{AttrName, Path};
-use script_lines::Sink;
 
 /// Makes a tree in a folder of the host. It makes each file and folder where nothing stands, and follows no link. The
-/// umask says who may read them. A message says what failed, and what is left out.
+/// umask says who may read them. What failed is reported, and what is left out.
 #[derive(Drop)]
-pub struct HostBuilder<W: Sink> {
-    site: Site<W>,
+pub struct HostBuilder<R: Reporter> {
+    site: Site<R>,
     counts: Counts,
 }
 
@@ -60,10 +59,10 @@ impl Counts {
     }
 }
 
-impl<W: Sink + Drop> HostBuilder<W> {
-    /// Begins with the folder at a path of the host: it is made, or it is there, empty and no link. After an error a
-    /// message says why, and the messages are gone.
-    pub fn new(rt: HostRuntime, folder: String, messages: Messages<W>) -> Result<Self, NoFolder>
+impl<R: Reporter + Drop> HostBuilder<R> {
+    /// Begins with the folder at a path of the host: it is made, or it is there, empty and no link. After an error the
+    /// reporter was told why, and is gone.
+    pub fn new(rt: HostRuntime, folder: String, reporter: R) -> Result<Self, NoFolder>
         ensures links { IfOk result (λ builder. builder.counts.has_links ≡ false) }
         ensures faults { IfOk result (λ builder. builder.counts.faults ≡ 0) }
         ensures left_out { IfOk result (λ builder. builder.counts.left_out ≡ 0) }
@@ -73,7 +72,7 @@ impl<W: Sink + Drop> HostBuilder<W> {
             faults: 0,
             left_out: 0,
         };
-        match Site::begin(rt, folder, messages) {
+        match Site::begin(rt, folder, reporter) {
             Ok(site) => Ok(HostBuilder { site, counts }),
             Err(why) => Err(why),
         }
@@ -98,19 +97,24 @@ impl<W: Sink + Drop> HostBuilder<W> {
         self.site.attributes_left_out()
     }
 
-    /// Says which attributes were left out, and which options would keep them.
+    /// Reports which attributes were left out.
     pub fn say_attributes(&mut self) {
         self.site.say_attributes();
     }
 
-    /// Gives the sink of the messages back.
-    pub fn into_sink(self) -> W {
+    /// Takes the folder away again where it was made here and nothing stands in it. Nothing is reported.
+    pub fn abandon(&mut self) {
+        self.site.abandon();
+    }
+
+    /// Gives the reporter back.
+    pub fn into_reporter(self) -> R {
         let HostBuilder { site, counts: _ } = self;
-        site.into_sink()
+        site.into_reporter()
     }
 }
 
-impl<W: Sink + Drop> Builder for HostBuilder<W> {
+impl<R: Reporter + Drop> Builder for HostBuilder<R> {
     ghost state = { λ builder. untold builder.counts.has_links builder.counts.faults
         builder.counts.left_out };
 

@@ -5,16 +5,15 @@ ghost use Rattle.host_builder.specs.HostAttributes.{is_target};
 ghost use Rattle.host_folders.specs.Faults.{faults_after};
 
 use crate::left_out::LeftOut;
-use crate::messages::Messages;
 use crate::opened::open_plain;
 use crate::own::FileId;
 use crate::reading::Reading;
+use crate::report::{Remark, Reporter, Thing};
 use crate::target::read_target;
 use host_builder::{Links, Wanted};
 use host_folders::{Folder, FolderFault, Found, FoundKind, LinkTarget};
 use host_names::{HostPathFault, host_text, image_path};
 use path_keys::{AttrName, Path, attr_key};
-use script_lines::Sink;
 use std::fs::{self, DirEntry, Metadata, ReadDir};
 use std::io::{self, Error, ErrorKind};
 use std::os::unix::fs::MetadataExt;
@@ -23,20 +22,22 @@ use tree_pairs::FILE_LIMIT;
 /// The bit of a file's mode that lets its owner execute it.
 const OWNER_EXECUTES: u32 = 0o100;
 
-/// A folder of the host, to be packed. What has no place in an image is left out: a message says so, and it is
+/// A folder of the host, to be packed. What has no place in an image is left out, reported and
 /// counted.
 ///
 /// The folder may itself be a link to one; no other link is followed. Where links are wanted each other one is an entry
 /// of its own, and else it is left out.
 #[derive(Drop)]
-pub struct StdFolder<W: Sink> {
+pub struct StdFolder<R: Reporter> {
     rt: HostRuntime,
     /// The path of the folder on the host.
     folder: String,
     wanted: Wanted,
+    /// Whether a time before 1970 is an obstacle. Else the entry has none.
+    minds_old_times: bool,
     /// The files that the program itself works on.
     own: Vec<FileId>,
-    messages: Messages<W>,
+    reporter: R,
     left_out: u64,
     own_left_out: u64,
     links_left_out: u64,
@@ -47,7 +48,7 @@ pub struct StdFolder<W: Sink> {
     faults: u64,
 }
 
-impl<W: Sink + Drop> StdFolder<W> {
+impl<R: Reporter + Drop> StdFolder<R> {
     /// The folder at a path of the host. Where `wanted` skips each file and folder is opened once when it is found, and
     /// left out where it cannot be. Links are read where they are made there. The files in `own` are left out wherever
     /// they stand: the image, and the file to which standard output leads.
@@ -56,14 +57,15 @@ impl<W: Sink + Drop> StdFolder<W> {
         folder: String,
         wanted: Wanted,
         own: Vec<FileId>,
-        messages: Messages<W>,
+        reporter: R,
     ) -> Self {
         StdFolder {
             rt,
             folder,
             wanted,
+            minds_old_times: true,
             own,
-            messages,
+            reporter,
             left_out: 0,
             own_left_out: 0,
             links_left_out: 0,
@@ -71,6 +73,11 @@ impl<W: Sink + Drop> StdFolder<W> {
             open: None,
             faults: 0,
         }
+    }
+
+    /// From now on a time before 1970, which no image can hold, is no obstacle: what has such a time has none.
+    pub fn pass_over_old_times(&mut self) {
+        self.minds_old_times = false;
     }
 
     /// How much was left out so far, a folder as one, but for the program's own files and for links that nobody wants.
@@ -88,14 +95,15 @@ impl<W: Sink + Drop> StdFolder<W> {
         self.links_left_out
     }
 
-    /// Gives the sink of the messages back.
-    pub fn into_sink(self) -> W {
+    /// Gives the reporter back.
+    pub fn into_reporter(self) -> R {
         let StdFolder {
             rt: _,
             folder: _,
             wanted: _,
+            minds_old_times: _,
             own: _,
-            messages,
+            reporter,
             left_out: _,
             own_left_out: _,
             links_left_out: _,
@@ -103,7 +111,12 @@ impl<W: Sink + Drop> StdFolder<W> {
             open: _,
             faults: _,
         } = self;
-        messages.into_sink()
+        reporter
+    }
+
+    /// Reports what the system did not answer.
+    fn report(&mut self, path: &Path, remark: Remark) {
+        self.reporter.report(&Thing::Path(path), remark, None);
     }
 
     /// Counts what is left out.
@@ -113,7 +126,7 @@ impl<W: Sink + Drop> StdFolder<W> {
 
     /// Says that what stands at a path is left out, and counts it.
     fn leave_out(&mut self, path: &Path, why: LeftOut) {
-        self.messages.say(path, why.words());
+        self.report(path, Remark::NotPacked(why));
         match why {
             LeftOut::Own => self.own_left_out = self.own_left_out.saturating_add(1),
             LeftOut::Link if self.wanted.links == Links::LeftOut => {
@@ -129,7 +142,7 @@ impl<W: Sink + Drop> StdFolder<W> {
             Ok(text) => Ok(text),
             Err(HostPathFault::NoMemory) => Err(FolderFault::NoMemory),
             Err(HostPathFault::NoSpelling | HostPathFault::NotUtf8) => {
-                self.messages.say(path, "it is no path of the host");
+                self.report(path, Remark::NoHostPath);
                 Err(FolderFault::Unreadable)
             }
         }
@@ -146,7 +159,7 @@ impl<W: Sink + Drop> StdFolder<W> {
             match entry {
                 Ok(entry) => self.add(path, &entry, found)?,
                 Err(error) if error.kind() == ErrorKind::InvalidFilename => {
-                    self.messages.say(path, LeftOut::NotUtf8.words());
+                    self.report(path, Remark::NotPacked(LeftOut::NotUtf8));
                     self.count();
                 }
                 Err(error) => self.unlisted(path, &error)?,
@@ -168,13 +181,15 @@ impl<W: Sink + Drop> StdFolder<W> {
         if error.kind() == ErrorKind::OutOfMemory {
             return Err(FolderFault::NoMemory);
         }
-        let words = LeftOut::Unreadable.words();
         if path.is_root() {
-            self.messages
-                .say_of_host_why(self.folder.as_str(), words, error);
+            let thing = Thing::Host(self.folder.as_str());
+            self.reporter
+                .report(&thing, Remark::Unreadable, Some(error));
             return Err(FolderFault::Unreadable);
         }
-        self.messages.say_why(path, words, error);
+        let remark = Remark::NotPacked(LeftOut::Unreadable);
+        self.reporter
+            .report(&Thing::Path(path), remark, Some(error));
         self.count();
         Ok(())
     }
@@ -188,8 +203,9 @@ impl<W: Sink + Drop> StdFolder<W> {
     ) -> Result<(), FolderFault> {
         let name = entry.file_name();
         let Ok(path) = image_path(folder, name.as_bytes()) else {
-            self.messages
-                .say_of_name(folder, name, LeftOut::TooLong.words());
+            let remark = Remark::NotPacked(LeftOut::TooLong);
+            self.reporter
+                .report(&Thing::Name(folder, name), remark, None);
             self.count();
             return Ok(());
         };
@@ -269,6 +285,7 @@ impl<W: Sink + Drop> StdFolder<W> {
         }
         match u64::try_from(metadata.mtime()) {
             Ok(seconds) => Ok(Some(seconds)),
+            Err(_) if !self.minds_old_times => Ok(None),
             Err(_) => Err(LeftOut::TooOld),
         }
     }
@@ -307,11 +324,11 @@ impl<W: Sink + Drop> StdFolder<W> {
         match read_target(&self.rt, text.as_str()) {
             Ok(Ok(target)) => Ok(target),
             Ok(Err(why)) => {
-                self.messages.say(path, LeftOut::Target(why).words());
+                self.report(path, Remark::NotPacked(LeftOut::Target(why)));
                 Err(FolderFault::Unreadable)
             }
             Err(error) if error.kind() == ErrorKind::InvalidInput => {
-                self.messages.say(path, "it is no longer a link");
+                self.report(path, Remark::NoLongerLink);
                 Err(FolderFault::Unreadable)
             }
             Err(error) => Err(self.unread(path, &error)),
@@ -323,8 +340,8 @@ impl<W: Sink + Drop> StdFolder<W> {
         if error.kind() == ErrorKind::OutOfMemory {
             return FolderFault::NoMemory;
         }
-        self.messages
-            .say_why(path, LeftOut::Unreadable.words(), error);
+        self.reporter
+            .report(&Thing::Path(path), Remark::Unreadable, Some(error));
         FolderFault::Unreadable
     }
 }
@@ -387,7 +404,7 @@ fn counted<T>(faults: u64, answer: &Result<T, FolderFault>) -> u64
     }
 }
 
-impl<W: Sink + Drop> Folder for StdFolder<W> {
+impl<R: Reporter + Drop> Folder for StdFolder<R> {
     ghost state = { λ folder. record {
       is_observable = false;
       listed = [];

@@ -1,9 +1,11 @@
-//! Messages, one line each.
+//! Messages of `hstore-tree`, one line each.
 
 ghost use Rattle.std.specs.Prelude.{◌≡◌, ◌≤◌, ◌+◌, ◌++◌, length};
 ghost use Rattle.store_model.specs.Paths.{path_text};
 ghost use Rattle.script_lines.specs.CommandLines.{names_text};
 
+use crate::omitted::Omitted;
+use crate::report::{Remark, Reporter, Thing};
 use crate::spelled::Spelled;
 use arrayvec::ArrayVec;
 use path_keys::Path;
@@ -33,41 +35,24 @@ impl<W: Sink> Messages<W> {
         self.end(words);
     }
 
-    /// Says something of a path of the image, and what the system answered.
-    pub fn say_why(&mut self, path: &Path, words: &str, error: &Error) {
-        self.begin();
-        self.put_bytes(text_of(path).as_slice());
-        self.end_why(words, error);
-    }
-
-    /// Says something of a name in a folder of the image that has no path there.
-    pub fn say_of_name(&mut self, folder: &Path, name: &str, words: &str) {
-        self.begin();
-        self.put_bytes(names_of(folder).as_slice());
-        self.put("/");
-        self.show(&Spelled(name));
-        self.end(words);
-    }
-
-    /// Says something of a path of the host.
-    pub fn say_of_host(&mut self, path: &str, words: &str) {
-        self.begin();
-        self.show(&Spelled(path));
-        self.end(words);
-    }
-
-    /// Says something of a path of the host, and what the system answered.
-    pub fn say_of_host_why(&mut self, path: &str, words: &str, error: &Error) {
-        self.begin();
-        self.show(&Spelled(path));
-        self.end_why(words, error);
-    }
-
     /// Says something, which names its path where it speaks of one.
-    pub fn say_all(&mut self, what: &impl Display) {
+    fn say_all(&mut self, what: &impl Display) {
         self.begin();
         self.show(what);
         self.put("\n");
+    }
+
+    /// Puts what is spoken of.
+    fn put_thing(&mut self, thing: &Thing<'_>) {
+        match thing {
+            Thing::Path(path) => self.put_bytes(text_of(path).as_slice()),
+            Thing::Name(folder, name) => {
+                self.put_bytes(names_of(folder).as_slice());
+                self.put("/");
+                self.show(&Spelled(name));
+            }
+            Thing::Host(path) => self.show(&Spelled(path)),
+        }
     }
 
     /// Gives the sink back.
@@ -100,16 +85,59 @@ impl<W: Sink> Messages<W> {
         self.put("\n");
     }
 
-    /// Ends a line with what the system answered.
-    fn end_why(&mut self, words: &str, error: &Error) {
-        self.put(": ");
-        self.put(words);
-        self.end(cause(error));
-    }
-
     /// Puts what shows itself.
     fn show(&mut self, what: &impl Display) {
         let _ = write!(self.sink, "{what}");
+    }
+}
+
+impl<W: Sink> Reporter for Messages<W> {
+    fn report(&mut self, thing: &Thing<'_>, remark: Remark, error: Option<&Error>) {
+        self.begin();
+        self.put_thing(thing);
+        if let Some(error) = error {
+            self.put(": ");
+            self.put(words_of(remark));
+            self.end(cause(error));
+        } else {
+            self.end(words_of(remark));
+        }
+    }
+
+    fn report_omitted(&mut self, omitted: &Omitted) {
+        for one in omitted.names() {
+            self.say_all(one);
+        }
+        let others = omitted.others();
+        match others {
+            0 => {}
+            1 => self.say_all(&"1 attribute of another name is left out"),
+            _ => self.say_all(&format_args!("{others} attributes of other names are left out")),
+        }
+    }
+}
+
+/// What is said in a message.
+fn words_of(remark: Remark) -> &'static str {
+    match remark {
+        Remark::NotPacked(why) => why.words(),
+        Remark::Unreadable => "it cannot be read",
+        Remark::NoHostPath => "it is no path of the host",
+        Remark::NoLongerLink => "it is no longer a link",
+        Remark::NoSpelling => "it spells no name of the host",
+        Remark::NotUtf8 => "its name is not UTF-8",
+        Remark::NoMemory => "memory ran out",
+        Remark::LinkLeftOut => "it is a link, and is left out",
+        Remark::NotEmpty => "it is there, and no empty folder",
+        Remark::NotMade => "it cannot be made",
+        Remark::NotWritten => "it cannot be written",
+        Remark::ModeNotSet => "its mode cannot be set",
+        Remark::TimeNotSet => "its time cannot be set",
+        Remark::Stays => "it cannot be taken away",
+        Remark::NothingMade => "nothing was made in it",
+        Remark::NotAllTakenAway => "not all that was made is taken away",
+        Remark::TakenAway => "what was made is taken away",
+        Remark::TakenAwayInIt => "what was made in it is taken away",
     }
 }
 

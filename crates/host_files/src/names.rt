@@ -2,26 +2,25 @@
 
 ghost use Rattle.std.specs.Prelude.{⊤};
 
-use crate::messages::Messages;
 use crate::places::Places;
+use crate::report::Reporter;
 use dump_streams::{DumpStep, Step, Taker, TakerFault};
 use path_keys::Path;
-use script_lines::Sink;
 use std::alloc::Global;
 
 /// Looks at the paths of a listing, and makes nothing. It names each one that is no path on the host, as the builder
 /// does.
 #[derive(Drop)]
-pub struct NameTaker<W: Sink> {
-    places: Places<W>,
+pub struct NameTaker<R: Reporter> {
+    places: Places<R>,
     last: Option<Path>,
 }
 
-impl<W: Sink + Drop> NameTaker<W> {
-    /// For a listing that is to be made in the folder at a path of the host. Messages go to the sink.
-    pub fn new(alloc: Global, folder: String, sink: W) -> Self {
+impl<R: Reporter + Drop> NameTaker<R> {
+    /// For a listing that is to be made in the folder at a path of the host.
+    pub fn new(alloc: Global, folder: String, reporter: R) -> Self {
         NameTaker {
-            places: Places::new(alloc, folder, Messages::new(sink)),
+            places: Places::new(alloc, folder, reporter),
             last: None,
         }
     }
@@ -31,10 +30,10 @@ impl<W: Sink + Drop> NameTaker<W> {
         self.places.left_out()
     }
 
-    /// Gives the sink of the messages back.
-    pub fn into_sink(self) -> W {
+    /// Gives the reporter back.
+    pub fn into_reporter(self) -> R {
         let NameTaker { places, last: _ } = self;
-        places.into_messages().into_sink()
+        places.into_reporter()
     }
 
     /// Looks at a path, once for all pieces of a file.
@@ -47,7 +46,7 @@ impl<W: Sink + Drop> NameTaker<W> {
     }
 }
 
-impl<W: Sink + Drop> Taker for NameTaker<W> {
+impl<R: Reporter + Drop> Taker for NameTaker<R> {
     ghost took = { λ first now steps. ⊤ };
 
     ghost broke = { λ first now step fault. ⊤ };

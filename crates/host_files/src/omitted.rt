@@ -1,8 +1,7 @@
 //! Attributes that are left out where a folder is made.
 
-use crate::messages::{Messages, text_of};
+use crate::messages::text_of;
 use path_keys::{AttrName, Path};
-use script_lines::Sink;
 use std::alloc::Global;
 use std::fmt::{self, Display, Formatter};
 
@@ -33,7 +32,7 @@ impl Keeper {
 
 /// The attributes of one name that are left out, and that the same option would keep.
 #[derive(Clone, Copy, Debug)]
-struct OmittedName {
+pub struct OmittedName {
     name: AttrName,
     keeper: Keeper,
     /// The path of the first of them.
@@ -106,16 +105,13 @@ impl Omitted {
         count
     }
 
-    /// Says which they are, and what would keep them.
-    pub fn say<W: Sink>(&self, messages: &mut Messages<W>) {
-        for one in &self.names {
-            messages.say_all(one);
-        }
-        let others = self.others;
-        match others {
-            0 => {}
-            1 => messages.say_all(&"1 attribute of another name is left out"),
-            _ => messages.say_all(&format_args!("{others} attributes of other names are left out")),
-        }
+    /// Those whose names are told apart, each name once.
+    pub fn names(&self) -> &[OmittedName] {
+        self.names.as_slice()
+    }
+
+    /// How many there are of other names.
+    pub fn others(&self) -> u64 {
+        self.others
     }
 }

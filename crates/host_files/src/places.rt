@@ -4,22 +4,21 @@ ghost use Rattle.std.specs.Prelude.{◌≡◌, IfOk, IfSome};
 ghost use Rattle.std.specs.String.{string_bytes};
 ghost use Rattle.host_names.specs.HostPaths.{IsHostPath};
 
-use crate::messages::Messages;
+use crate::report::{Remark, Reporter, Thing};
 use dump_streams::TakerFault;
 use host_names::{HostPathFault, host_text};
 use path_keys::Path;
-use script_lines::Sink;
 use std::alloc::Global;
 use std::io::Error;
 
 /// Where the entries of a listing are made. One whose path is none on the host is left out, and all below it: the first
 /// of them is named, and each is counted.
 #[derive(Drop)]
-pub struct Places<W: Sink> {
+pub struct Places<R: Reporter> {
     alloc: Global,
     /// The path of the folder on the host.
     folder: String,
-    messages: Messages<W>,
+    reporter: R,
     /// The last entry that was left out.
     last_out: Option<Path>,
     /// The last entry that was named.
@@ -27,13 +26,13 @@ pub struct Places<W: Sink> {
     left_out: u64,
 }
 
-impl<W: Sink + Drop> Places<W> {
-    /// The places in the folder at a path of the host. Messages go to the sink.
-    pub fn new(alloc: Global, folder: String, messages: Messages<W>) -> Self {
+impl<R: Reporter + Drop> Places<R> {
+    /// The places in the folder at a path of the host.
+    pub fn new(alloc: Global, folder: String, reporter: R) -> Self {
         Places {
             alloc,
             folder,
-            messages,
+            reporter,
             last_out: None,
             last_named: None,
             left_out: 0,
@@ -45,33 +44,28 @@ impl<W: Sink + Drop> Places<W> {
         self.folder.as_str()
     }
 
-    /// The messages.
-    pub fn messages(&mut self) -> &mut Messages<W> {
-        &mut self.messages
+    /// The reporter.
+    pub fn reporter(&mut self) -> &mut R {
+        &mut self.reporter
     }
 
-    /// Says something of the folder.
-    pub fn say(&mut self, words: &str) {
-        self.messages.say_of_host(self.folder.as_str(), words);
+    /// Reports something of the folder, and what the system answered.
+    pub fn report(&mut self, remark: Remark, error: Option<&Error>) {
+        let thing = Thing::Host(self.folder.as_str());
+        self.reporter.report(&thing, remark, error);
     }
 
-    /// Says something of the folder, and what the system answered.
-    pub fn say_why(&mut self, words: &str, error: &Error) {
-        self.messages
-            .say_of_host_why(self.folder.as_str(), words, error);
-    }
-
-    /// Gives the messages back.
-    pub fn into_messages(self) -> Messages<W> {
+    /// Gives the reporter back.
+    pub fn into_reporter(self) -> R {
         let Places {
             alloc: _,
             folder: _,
-            messages,
+            reporter,
             last_out: _,
             last_named: _,
             left_out: _,
         } = self;
-        messages
+        reporter
     }
 
     /// How many entries have no place.
@@ -111,10 +105,10 @@ impl<W: Sink + Drop> Places<W> {
     pub fn leave_out(&mut self, path: &Path, why: HostPathFault)
         ensures { self.new.folder ≡ self.old.folder }
     {
-        let words = match why {
-            HostPathFault::NoSpelling => "it spells no name of the host",
-            HostPathFault::NotUtf8 => "its name is not UTF-8",
-            HostPathFault::NoMemory => "memory ran out",
+        let remark = match why {
+            HostPathFault::NoSpelling => Remark::NoSpelling,
+            HostPathFault::NotUtf8 => Remark::NotUtf8,
+            HostPathFault::NoMemory => Remark::NoMemory,
         };
         self.left_out = self.left_out.saturating_add(1);
         self.last_out = Some(*path);
@@ -124,6 +118,6 @@ impl<W: Sink + Drop> Places<W> {
             return;
         }
         self.last_named = Some(*path);
-        self.messages.say(path, words);
+        self.reporter.report(&Thing::Path(path), remark, None);
     }
 }

@@ -1,29 +1,19 @@
 //! A folder of the host in which a tree is made: what asks the system.
 
-use crate::messages::Messages;
 use crate::omitted::{Keeper, Omitted};
 use crate::places::Places;
+use crate::report::{Remark, Reporter, Thing};
 use crate::writing::{Writing, set_time};
 use dump_streams::TakerFault;
 use host_builder::{HostAttribute, LeftOut};
 use host_names::HostPathFault;
 use path_keys::{AttrName, Path};
-use script_lines::Sink;
 use std::fs::{self, File};
 use std::io::{self, Error, ErrorKind};
 use std::os::unix::fs::symlink;
 use thiserror::Error as ErrorText;
 
-/// What is said of what is to be taken away and stays.
-const STAYS: &str = "it cannot be taken away";
-
-/// What is said of a file whose bytes are not all written.
-const NOT_WRITTEN: &str = "it cannot be written";
-
-/// What is said of what is not made.
-const NOT_MADE: &str = "it cannot be made";
-
-/// Why there is no folder to make a tree in. A message says so.
+/// Why there is no folder to make a tree in. The reporter was told so.
 #[derive(Clone, Copy, Debug, PartialEq, Eq, ErrorText)]
 pub enum NoFolder {
     /// Something stands there that is no empty folder. A link to an empty folder is none.
@@ -34,11 +24,11 @@ pub enum NoFolder {
     NotMade,
 }
 
-/// The folder, the file that is written, and what is said of both.
+/// The folder, the file that is written, and what is reported of both.
 #[derive(Drop)]
-pub struct Site<W: Sink> {
+pub struct Site<R: Reporter> {
     rt: HostRuntime,
-    places: Places<W>,
+    places: Places<R>,
     /// Whether the folder itself was made.
     is_new: bool,
     /// Whether something was made in it.
@@ -51,18 +41,14 @@ pub struct Site<W: Sink> {
     omitted: Omitted,
 }
 
-impl<W: Sink + Drop> Site<W> {
-    /// Begins with the folder at a path of the host: it is made, or it is there, empty and no link. After an error a
-    /// message says why.
-    pub fn begin(
-        rt: HostRuntime,
-        folder: String,
-        mut messages: Messages<W>,
-    ) -> Result<Self, NoFolder> {
+impl<R: Reporter + Drop> Site<R> {
+    /// Begins with the folder at a path of the host: it is made, or it is there, empty and no link. After an error
+    /// the reporter was told why.
+    pub fn begin(rt: HostRuntime, folder: String, mut reporter: R) -> Result<Self, NoFolder> {
         match begin(&rt, folder.as_str()) {
             Ok(is_new) => Ok(Site {
                 rt,
-                places: Places::new(rt.alloc(), folder, messages),
+                places: Places::new(rt.alloc(), folder, reporter),
                 is_new,
                 has_made: false,
                 has_left: false,
@@ -71,7 +57,7 @@ impl<W: Sink + Drop> Site<W> {
             }),
             Err(error) => {
                 let why = no_folder(&error);
-                say_no_folder(&mut messages, folder.as_str(), why, &error);
+                report_no_folder(&mut reporter, folder.as_str(), why, &error);
                 Err(why)
             }
         }
@@ -82,13 +68,13 @@ impl<W: Sink + Drop> Site<W> {
         self.omitted.count()
     }
 
-    /// Says which attributes were left out, and which options would keep them.
+    /// Reports which attributes were left out.
     pub fn say_attributes(&mut self) {
-        self.omitted.say(self.places.messages());
+        self.places.reporter().report_omitted(&self.omitted);
     }
 
-    /// Gives the sink of the messages back.
-    pub fn into_sink(self) -> W {
+    /// Gives the reporter back.
+    pub fn into_reporter(self) -> R {
         let Site {
             rt: _,
             places,
@@ -98,23 +84,29 @@ impl<W: Sink + Drop> Site<W> {
             writing: _,
             omitted: _,
         } = self;
-        places.into_messages().into_sink()
+        places.into_reporter()
     }
 
-    /// Says what failed.
-    fn failed(&mut self, path: &Path, words: &str, error: &Error) -> TakerFault {
+    /// Reports what failed.
+    fn failed(&mut self, path: &Path, remark: Remark, error: &Error) -> TakerFault {
         if error.kind() == ErrorKind::OutOfMemory {
             return TakerFault::NoMemory;
         }
-        self.places.messages().say_why(path, words, error);
+        let thing = Thing::Path(path);
+        self.places.reporter().report(&thing, remark, Some(error));
         TakerFault::Failed
     }
 
-    /// How a call ended, and what is said where it failed.
-    fn ended(&mut self, path: &Path, words: &str, done: io::Result<()>) -> Result<(), TakerFault> {
+    /// How a call ended, and what is reported where it failed.
+    fn ended(
+        &mut self,
+        path: &Path,
+        remark: Remark,
+        done: io::Result<()>,
+    ) -> Result<(), TakerFault> {
         match done {
             Ok(()) => Ok(()),
-            Err(error) => Err(self.failed(path, words, &error)),
+            Err(error) => Err(self.failed(path, remark, &error)),
         }
     }
 
@@ -135,7 +127,7 @@ impl<W: Sink + Drop> Site<W> {
         let text = self.place(path)?;
         let done = fs::create_dir(&self.rt, text.as_str());
         self.has_made = self.has_made || done.is_ok();
-        self.ended(path, NOT_MADE, done)
+        self.ended(path, Remark::NotMade, done)
     }
 
     /// Writes bytes to a file, which is made where nothing stands, if these are its first.
@@ -146,7 +138,7 @@ impl<W: Sink + Drop> Site<W> {
         let text = self.place(path)?;
         match File::create_new(&self.rt, text.as_str()) {
             Ok(file) => self.begin_file(path, text.as_str(), file, bytes),
-            Err(error) => Err(self.failed(path, NOT_MADE, &error)),
+            Err(error) => Err(self.failed(path, Remark::NotMade, &error)),
         }
     }
 
@@ -166,7 +158,7 @@ impl<W: Sink + Drop> Site<W> {
             }
             Err(error) => {
                 let _ = fs::remove_file(&self.rt, text);
-                Err(self.failed(path, NOT_WRITTEN, &error))
+                Err(self.failed(path, Remark::NotWritten, &error))
             }
         }
     }
@@ -185,7 +177,7 @@ impl<W: Sink + Drop> Site<W> {
             Some(writing) if writing.path() == path => writing.write(at, bytes),
             _ => Err(Error::from(ErrorKind::InvalidData)),
         };
-        self.ended(path, NOT_WRITTEN, done)
+        self.ended(path, Remark::NotWritten, done)
     }
 
     /// Ends the file to which bytes were written.
@@ -195,7 +187,7 @@ impl<W: Sink + Drop> Site<W> {
         };
         let path = *writing.path();
         let done = writing.finish();
-        self.ended(&path, NOT_WRITTEN, done)
+        self.ended(&path, Remark::NotWritten, done)
     }
 
     /// Lets those execute the file that is written who may read it.
@@ -204,7 +196,7 @@ impl<W: Sink + Drop> Site<W> {
             Some(writing) if writing.path() == path => writing.let_execute(),
             _ => Err(Error::from(ErrorKind::InvalidData)),
         };
-        self.ended(path, "its mode cannot be set", done)
+        self.ended(path, Remark::ModeNotSet, done)
     }
 
     /// Sets the time of the file that is written, or of a folder.
@@ -217,14 +209,14 @@ impl<W: Sink + Drop> Site<W> {
         }
         let text = self.place(path)?;
         let done = set_time_at(&self.rt, text.as_str(), seconds);
-        self.ended(path, "its time cannot be set", done)
+        self.ended(path, Remark::TimeNotSet, done)
     }
 
     /// Makes a link in the place of an empty file.
     pub fn make_link(&mut self, path: &Path, target: &[u8]) -> Result<(), TakerFault> {
         let text = self.place(path)?;
         let done = link_at(&self.rt, text.as_str(), target);
-        self.ended(path, NOT_MADE, done)
+        self.ended(path, Remark::NotMade, done)
     }
 
     /// Takes a file or a link away; whether nothing stands there.
@@ -251,35 +243,38 @@ impl<W: Sink + Drop> Site<W> {
         }
     }
 
-    /// Whether what was made at a path is gone; says so where it stays.
+    /// Whether what was made at a path is gone; reports it where it stays.
     fn is_gone(&mut self, path: &Path, removed: io::Result<()>) -> bool {
         match removed {
             Ok(()) => true,
             Err(error) if error.kind() == ErrorKind::NotFound => true,
             Err(error) => {
-                self.places.messages().say_why(path, STAYS, &error);
+                let thing = Thing::Path(path);
+                self.places
+                    .reporter()
+                    .report(&thing, Remark::Stays, Some(&error));
                 self.has_left = true;
                 false
             }
         }
     }
 
-    /// Takes the folder itself away where it was made here, and says what became of what was made; whether it is as it
-    /// was before.
+    /// Takes the folder itself away where it was made here, and reports what became of what was made; whether it is as
+    /// it was before.
     pub fn remove_root(&mut self) -> bool {
         self.writing = None;
         let is_gone = self.take_folder_away();
         self.has_left = self.has_left || !is_gone;
-        let words = if !self.has_made && !self.is_new {
-            "nothing was made in it"
+        let remark = if !self.has_made && !self.is_new {
+            Remark::NothingMade
         } else if self.has_left {
-            "not all that was made is taken away"
+            Remark::NotAllTakenAway
         } else if self.is_new {
-            "what was made is taken away"
+            Remark::TakenAway
         } else {
-            "what was made in it is taken away"
+            Remark::TakenAwayInIt
         };
-        self.places.say(words);
+        self.places.report(remark, None);
         is_gone
     }
 
@@ -291,19 +286,29 @@ impl<W: Sink + Drop> Site<W> {
         match fs::remove_dir(&self.rt, self.places.folder()) {
             Ok(()) => true,
             Err(error) => {
-                self.places.say_why(STAYS, &error);
+                self.places.report(Remark::Stays, Some(&error));
                 false
             }
         }
     }
 
-    /// Says that an entry is left out; of those that have no path on the host, the one above all others.
+    /// Takes the folder away again where it was made here and nothing stands in it. Nothing is reported.
+    pub fn abandon(&mut self) {
+        self.writing = None;
+        if self.is_new {
+            let _ = fs::remove_dir(&self.rt, self.places.folder());
+        }
+    }
+
+    /// Reports that an entry is left out; of those that have no path on the host, the one above all others.
     pub fn leave_out(&mut self, path: &Path, why: LeftOut) {
         match why {
-            LeftOut::Link => self
-                .places
-                .messages()
-                .say(path, "it is a link, and is left out"),
+            LeftOut::Link => {
+                let thing = Thing::Path(path);
+                self.places
+                    .reporter()
+                    .report(&thing, Remark::LinkLeftOut, None);
+            }
             LeftOut::NoName => match self.places.text(path) {
                 Ok(_) => self.places.leave_out(path, HostPathFault::NoSpelling),
                 Err(fault) => self.places.leave_out(path, fault),
@@ -379,11 +384,12 @@ fn no_folder(error: &Error) -> NoFolder {
     }
 }
 
-/// Says why there is no folder.
-fn say_no_folder<W: Sink>(messages: &mut Messages<W>, folder: &str, why: NoFolder, error: &Error) {
+/// Reports why there is no folder.
+fn report_no_folder<R: Reporter>(reporter: &mut R, folder: &str, why: NoFolder, error: &Error) {
+    let thing = Thing::Host(folder);
     match why {
-        NoFolder::NotEmpty => messages.say_of_host(folder, "it is there, and no empty folder"),
-        NoFolder::NotMade => messages.say_of_host_why(folder, NOT_MADE, error),
+        NoFolder::NotEmpty => reporter.report(&thing, Remark::NotEmpty, None),
+        NoFolder::NotMade => reporter.report(&thing, Remark::NotMade, Some(error)),
     }
 }
 

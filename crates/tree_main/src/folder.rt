@@ -10,7 +10,7 @@ use script_lines::StdSink;
 use std::io::Stderr;
 
 /// A folder, which names what cannot be packed on standard error.
-type Host = StdFolder<StdSink<Stderr>>;
+type Host = StdFolder<Messages<StdSink<Stderr>>>;
 
 /// The steps of a folder's dump.
 pub type FolderDump = Watched<FolderStream<Host>>;

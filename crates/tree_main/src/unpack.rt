@@ -41,7 +41,7 @@ fn look_through(
         return lead(rt, listing, &mut NoTaker);
     }
     let name = String::from_str(rt.alloc(), folder)?;
-    let mut names = NameTaker::new(rt.alloc(), name, StdSink::new(rt.stderr()));
+    let mut names = NameTaker::new(rt.alloc(), name, Messages::new(StdSink::new(rt.stderr())));
     lead(rt, listing, &mut names)?;
     match names.left_out() {
         0 => Ok(()),
