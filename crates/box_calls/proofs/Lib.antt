@@ -1,0 +1,4 @@
+mod Printing
+mod Counting
+mod Flushing
+mod ReadFlushing

@@ -1,0 +1,12 @@
+pub mod Checks
+pub mod Comparisons
+pub mod Counted
+pub mod Endings
+pub mod Extractions
+pub mod Gets
+pub mod Listings
+pub mod Makings
+pub mod Maps
+pub mod Marks
+pub mod Readings
+pub mod Texts
