@@ -1,5 +1,6 @@
 //! The tests, a module for each kind, and `support`, which they share.
 
+mod differences;
 mod failures;
 mod part_streams;
 mod reads;
@@ -9,3 +10,4 @@ mod sessions;
 mod stops;
 mod support;
 mod walks;
+mod written;

@@ -54,7 +54,7 @@ fn make_files(rt: &(impl Abort + Files)) {
 }
 
 /// Whether the file that is open gives these pieces, one after another, each with a dot for each byte that it lacks.
-fn gives(folder: &mut StdFolder<MemSink>, pieces: &str) -> bool {
+fn gives(folder: &mut StdFolder<Messages<MemSink>>, pieces: &str) -> bool {
     for piece in pieces.split('|') {
         let mut buffer = [b'.'; 3];
         if folder.read(&mut buffer).is_err() || buffer.as_slice() != piece.as_bytes() {
@@ -65,17 +65,17 @@ fn gives(folder: &mut StdFolder<MemSink>, pieces: &str) -> bool {
 }
 
 /// Whether no byte can be read.
-fn is_unread(folder: &mut StdFolder<MemSink>) -> bool {
+fn is_unread(folder: &mut StdFolder<Messages<MemSink>>) -> bool {
     folder.read(&mut [0; 3]) == Err(FolderFault::Unreadable)
 }
 
 /// Whether the file at a path is opened, and begins with these pieces.
-fn opens(folder: &mut StdFolder<MemSink>, at: &str, pieces: &str) -> bool {
+fn opens(folder: &mut StdFolder<Messages<MemSink>>, at: &str, pieces: &str) -> bool {
     folder.open(&path_of(at)).is_ok() && gives(folder, pieces)
 }
 
 /// Looks whether files are read in turns; where there is none to be opened, no file is open then.
-fn expect_turns(rt: &impl Abort, folder: &mut StdFolder<MemSink>) {
+fn expect_turns(rt: &impl Abort, folder: &mut StdFolder<Messages<MemSink>>) {
     assert!(rt; is_unread(folder), "a file is open");
     for row in "/a aaa#/b bc.|...#/a aaa".split('#') {
         let (at, pieces) = row.split_once(' ').unwrap_or((row, ""));
