@@ -16,14 +16,13 @@ use Rattle.store_model.specs.Placement.{page_cmp, put_all, place}
 use Rattle.store_model.proofs.ListsLemmas.{all_weaker, in_order_of_rising}
 use Rattle.store_model.proofs.PagesLemmasOrder.{rising_pages}
 use Rattle.store_model.proofs.PlacementLemmasDraws.{IsLawful-draw_of}
-use Rattle.disk_model.specs.DiskState.{DiskState, IsObservable, IsDurable, IsSound}
+use Rattle.disk_model.specs.DiskState.{DiskState, IsObservable, IsSound}
 use Rattle.disk_model.proofs.Crashes.{LeavesOnly-weaken}
 use Rattle.gate_journal.specs.Places.{AreCalls, Keeps, SameAt}
 use Rattle.gate_journal.specs.Formats.{NamesNoParameters}
 use Rattle.gate_journal.proofs.Calls.{AreCalls-none, AreCalls-as, Made-none}
 use Rattle.gate_journal.proofs.Places.{Keeps-refl, Keeps-durable}
 use Rattle.gate_journal.proofs.Formatting.{no_image}
-use Rattle.layout_scratch.specs.Sorting.{sorted_limit}
 use Rattle.rising_pages.specs.declared.kept.KeptPairs.{KeptPairs}
 use Rattle.rising_pages.specs.FreePlaces.{AreFree}
 use Rattle.rising_pages.specs.OpenPages.{closed_pages}

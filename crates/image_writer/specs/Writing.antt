@@ -30,6 +30,10 @@ pub record HasWritten (d : Draw) (s : List Pair) (start now : DiskState) (free :
   pub free_are : AreFree (placed d (closed_pages d s 0)) free
   pub placed_so : ArePlaced d (closed_pages d s 0) start now
 
+-- the pages of just these pairs are counted
+abbrev pub CountsPairs : Parameters → List Pair → ImageWriter → Type 0
+CountsPairs p s writer = IsKept (draw_of p) s writer.kept
+
 -- The writer began at the first moment, and just these pairs came since. At the second moment it has written what
 -- no later pair changes, as long as the pages fit, and never the first byte; no call of the disk failed.
 pub record IsWriting (p : Parameters) (s : List Pair) (start now : DiskState) (writer : ImageWriter) : Type 0 where

@@ -12,7 +12,7 @@ ghost use Rattle.gate_journal.specs.Places.{AreCalls};
 ghost use Rattle.rising_pages.specs.Kept.{FitSlots};
 ghost use Rattle.image_writer.specs.declared.fault.WriteFault.TheVariants as faults;
 ghost use Rattle.image_writer.specs.Sealing.{image_of_pairs, Becomes};
-ghost use Rattle.image_writer.specs.Writing.{IsWriting, IsNext, IsNotFull, StaysNone, disk_answer};
+ghost use Rattle.image_writer.specs.Writing.{CountsPairs, IsWriting, IsNext, IsNotFull, StaysNone, disk_answer};
 
 use crate::fault::WriteFault;
 use crate::place::place_page;
@@ -51,12 +51,9 @@ impl ImageWriter {
         })
     }
 
-    /// Takes the next pair, whose key is drawn this level. Writes the page of level 0 that it closes, as long as the
-    /// pages of all levels are no more than the slots; from then on the pages are only counted.
-    ///
-    /// `Disk` comes only where the disk failed, and `NoMemory` where memory ran out; the disk is no image then, and
-    /// nothing is known of the writer.
-    pub fn push<D: Disk>(
+    /// Takes the next pair as `push` does, whether or not it closes a page.
+    // Apart from `push`, which would pay for the room of a page with each pair.
+    fn push_onto<D: Disk>(
         &mut self,
         disk: &mut D,
         level: u8,
@@ -82,6 +79,44 @@ impl ImageWriter {
             }
             None => Ok(()),
         }
+    }
+
+    /// Takes the next pair, whose key is drawn this level. Writes the page of level 0 that it closes, as long as the
+    /// pages of all levels are no more than the slots; from then on the pages are only counted.
+    ///
+    /// `Disk` comes only where the disk failed, and `NoMemory` where memory ran out; the disk is no image then, and
+    /// nothing is known of the writer.
+    pub fn push<D: Disk>(
+        &mut self,
+        disk: &mut D,
+        level: u8,
+        pair: (Key, Value),
+    ) -> Result<(), WriteFault>
+        requires { (p : Parameters) × (start : D) × (s : List Pair)
+            × IsNext p s level pair (D.state start) (D.state disk.old) self.old }
+        ensures calls { AreCalls (D.state disk.old) (D.state disk.new) (disk_answer result) }
+        ensures writes { (p : Parameters) (start : D) (s : List Pair)
+            → IsNext p s level pair (D.state start) (D.state disk.old) self.old
+            → OnOk result (IsWriting p (s ++ pair ∷ []) (D.state start) (D.state disk.new) self.new) }
+        ensures none { (p : Parameters) (start : D) (s : List Pair)
+            → IsNext p s level pair (D.state start) (D.state disk.old) self.old
+            → IsObservable (D.state start) → slice_index (D.state start).bytes 0 ≢ first_byte
+            → StaysNone (D.state start) (D.state disk.new) }
+        ensures faults { IfErr result IsNotFull }
+    {
+        if self.kept.is_joined(level) {
+            self.kept.join(level, pair);
+            return Ok(());
+        }
+        self.push_onto(disk, level, pair)
+    }
+
+    /// How many pages the pairs have that came, on all levels.
+    pub fn pages(&self) -> u32
+        ensures { (p : Parameters) (s : List Pair) → CountsPairs p s self.now
+            → result ≡ length (pages_of_pairs (draw_of p) s) }
+    {
+        self.kept.pages()
     }
 
     /// Writes what is left of an image whose pages fit.

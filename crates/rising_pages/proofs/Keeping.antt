@@ -1,5 +1,5 @@
 -- One pair more is kept.
-use Rattle.std.proofs.Common.{◌≡◌, ℕ, ◌≤◌, ◌<◌, List, [], ◌∷◌, ◌++◌, map, length, cond, nat_le, Some, None, refl, sym}
+use Rattle.std.proofs.Common.{◌≡◌, ℕ, ◌<◌, List, [], ◌∷◌, ◌++◌, map, length, cond, nat_le, Some, None, refl, sym}
 use Rattle.std.proofs.Common.{ap}
 use Rattle.std.proofs.Common.{Bool, append-nil, subst, ◌∙◌, arith}
 use Rattle.std.specs.List.{filter}

@@ -1,7 +1,7 @@
 -- The keys above level 0 as pairs, and the pages of the levels above 0.
-use Rattle.std.proofs.Common.{◌≡◌, ℕ, zero, suc, ◌+◌, ◌-◌, ◌≤◌, ◌<◌, List, [], ◌∷◌, ◌++◌, map, length, Bool, true}
+use Rattle.std.proofs.Common.{◌≡◌, ℕ, zero, suc, ◌-◌, ◌≤◌, List, [], ◌∷◌, ◌++◌, map, length, Bool, true}
 use Rattle.std.proofs.Common.{false}
-use Rattle.std.proofs.Common.{Ordering, cond, nat_le, refl, sym, ap, ap₂, subst, ◌∙◌, arith}
+use Rattle.std.proofs.Common.{Ordering, cond, nat_le, refl, ap, ap₂, arith}
 use Rattle.std.specs.List.{filter, flat_map, AllByRecursion}
 use Rattle.std.proofs.lemmas.List.{length-map}
 use Rattle.std.proofs.lemmas.List.Kept.{IsStrictlySortedBy-filter}
@@ -9,7 +9,7 @@ use Rattle.store_model.specs.Lists.{numbers_from}
 use Rattle.store_model.specs.Paths.{key_cmp}
 use Rattle.store_model.specs.Draws.{Draw}
 use Rattle.store_model.specs.Pairs.{Pair, IsPair, IsPairs, directory_value}
-use Rattle.store_model.specs.Pages.{Page, level_pages, pages_of_pairs}
+use Rattle.store_model.specs.Pages.{level_pages, pages_of_pairs}
 use Rattle.layout_scratch.specs.Sorting.{pair_cmp}
 use Rattle.store_model.proofs.ListsLemmas.{bytes_from_all, all_map, all_filter, rising_to_map, rising_from_is_sorted}
 use Rattle.store_model.proofs.ListsLemmas.{is_sorted_from_rising}

@@ -9,7 +9,7 @@ use Rattle.layout_scratch.specs.Counting.{HasCounted}
 use Rattle.layout_scratch.specs.Sorting.{sorted_limit}
 use Rattle.rising_pages.specs.declared.kept.KeptPairs.{KeptPairs}
 use Rattle.rising_pages.specs.Ends.{list_of}
-use Rattle.rising_pages.specs.OpenPages.{closed_pages, open_page}
+use Rattle.rising_pages.specs.OpenPages.{closed_pages, open_page, HasRoom}
 use Rattle.rising_pages.specs.Raised.{raised_keys}
 
 -- the pages of the pairs, on all levels, are no more than the slots
@@ -35,6 +35,12 @@ pub record PairComes (d : Draw) (s : List Pair) (level : ℕ) (pair : Pair) (kep
   pub level_is : level ≡ d.level pair.0
   pub pairs : IsPairs (s ++ pair ∷ [])
   pub few : length s < sorted_limit
+
+-- a pair whose key is drawn this level comes onto the last page of level 0, and closes none
+pub record JoinsLast (level : ℕ) (kept : KeptPairs) : Type 0 where
+  pub low : level ≡ 0
+  pub fits : kept.counter.pages ≤ kept.slots
+  pub room : HasRoom kept.last 0 level
 
 -- the pair came: the page that it closed is behind the closed ones, and none is answered where the pages don't fit
 pub record PairCame (d : Draw) (s : List Pair) (pair : Pair) (closed : Option Page) (kept : KeptPairs) : Type 0 where

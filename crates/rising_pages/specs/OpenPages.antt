@@ -4,7 +4,7 @@ use Rattle.std.specs.List.Sorted.{IsStrictlySortedBy}
 use Rattle.store_model.specs.Paths.{key_cmp}
 use Rattle.store_model.specs.Pairs.{Pair, IsPairs}
 use Rattle.store_model.specs.Draws.{Draw}
-use Rattle.store_model.specs.Pages.{Cell, Page, cell_on, level_pages}
+use Rattle.store_model.specs.Pages.{Cell, Page, page_room, cell_on, level_pages}
 use Rattle.rising_pages.specs.Ends.{all_but_last, last_of, list_of}
 
 -- the pages of a level that stay as they are whatever pairs come
@@ -25,6 +25,11 @@ abbrev pub StandsBehind : Option Page → ℕ → Cell → Type 0
 StandsBehind None level cell = Unit {0}
 StandsBehind (Some page) level cell = (page.label.level ≡ level)
     × IsStrictlySortedBy key_cmp (map (λ c. c.key) (page.cells ++ cell ∷ []))
+
+-- the next cell of the level, up to level `top`, comes onto the page: it leads no group, and the page has room
+abbrev pub HasRoom : Option Page → ℕ → ℕ → Type 0
+HasRoom None level top = ⊥
+HasRoom (Some page) level top = (top ≤ level) × (length page.cells < page_room level)
 
 -- the next pair's cell comes to the open page of a level: the pair stands behind the others, and its key on the level
 pub record Comes (d : Draw) (level top : ℕ) (s : List Pair) (y : Pair) (last : Option Page) (cell : Cell)

@@ -1,12 +1,12 @@
 //! What is kept of pairs while they come in the order of their keys.
 
-ghost use Rattle.std.specs.Prelude.{◌≡◌, ◌++◌, ◌∷◌, [], List, length, IfOk, OnOk};
+ghost use Rattle.std.specs.Prelude.{◌≡◌, ◌↔◌, ◌++◌, ◌∷◌, [], List, length, None, IsTrue, IfOk, OnOk};
 ghost use Rattle.store_model.specs.Draws as draws;
 ghost use Rattle.store_model.specs.Pairs.{Pair};
 ghost use Rattle.store_model.specs.Pages.{pages_of_pairs};
 ghost use Rattle.rising_pages.specs.OpenPages.{open_page};
 ghost use Rattle.rising_pages.specs.Raised.{raised_keys};
-ghost use Rattle.rising_pages.specs.Kept.{FitSlots, IsKept, PairComes, PairCame};
+ghost use Rattle.rising_pages.specs.Kept.{FitSlots, IsKept, JoinsLast, PairComes, PairCame};
 
 use crate::open::OpenPage;
 use crate::raised::RaisedKey;
@@ -55,6 +55,25 @@ impl KeptPairs {
             last,
             raised,
         }
+    }
+
+    /// Whether the next pair, whose key is drawn this level, comes onto the last page of level 0, as most do.
+    pub fn is_joined(&self, level: u8) -> bool
+        ensures { IsTrue result ↔ JoinsLast level self.now }
+    {
+        level == 0 && self.counter.pages() <= self.slots && self.last.has_room(0, level)
+    }
+
+    /// Takes such a pair, as `push` does. It costs no more than the bytes of the pair, and takes no memory.
+    pub fn join(&mut self, level: u8, pair: (Key, Value))
+        requires comes { (d : draws.Draw) × (s : List Pair) × PairComes d s level pair self.old }
+        requires joins { JoinsLast level self.old }
+        ensures { (d : draws.Draw) (s : List Pair) → PairComes d s level pair self.old
+            → PairCame d s pair None self.new }
+    {
+        self.counter.add_at(0);
+        let (key, value) = pair;
+        self.last.add(0, level, &Cell::with_value(key, value));
     }
 
     /// Takes the next pair, whose key is drawn this level. Answers the page of level 0 that it closes: no later pair

@@ -1,11 +1,11 @@
 //! The last page of a level while its cells come.
 
-ghost use Rattle.std.specs.Prelude.{◌≡◌, ℕ, ◌+◌, ◌<◌, ◌≤◌, ◌∷◌, [], List, Option, Some, None};
+ghost use Rattle.std.specs.Prelude.{◌≡◌, ◌↔◌, ℕ, ◌+◌, ◌<◌, ◌≤◌, ◌∷◌, [], List, Option, Some, None, IsTrue};
 ghost use Rattle.store_model.specs.Draws as draws;
 ghost use Rattle.store_model.specs.Pairs.{Pair};
 ghost use Rattle.store_model.specs.Pages as model;
 ghost use Rattle.store_model.specs.Pages.{IsCell, lead_of};
-ghost use Rattle.rising_pages.specs.OpenPages.{Comes, HasCome, StandsBehind};
+ghost use Rattle.rising_pages.specs.OpenPages.{Comes, HasCome, HasRoom, StandsBehind};
 ghost use Rattle.rising_pages.specs.Raised.{KeyComes, key_pair, bare_cell};
 
 use crate::raised::RaisedKey;
@@ -84,11 +84,35 @@ impl OpenPage {
         &self.page
     }
 
-    /// Takes the cell of the next pair whose key stands on the level, up to the level `top`. Answers the page that it
-    /// closes: no later cell comes onto that.
-    pub fn take(&mut self, level: u8, top: u8, cell: &Cell) -> Option<Page>
+    /// Whether the next cell of the level, up to the level `top`, comes onto the page.
+    pub fn has_room(&self, level: u8, top: u8) -> bool
+        ensures { IsTrue result ↔ HasRoom self.now level top }
+    {
+        match &self.page {
+            Some(page) => top <= level && page.len() < u32::from(room(level)),
+            None => false,
+        }
+    }
+
+    /// Takes a cell as `take` does, which comes onto the page. It costs no more than the bytes of the cell.
+    pub fn add(&mut self, level: u8, top: u8, cell: &Cell)
         requires cell { IsCell level cell.now }
         requires behind { StandsBehind self.old level cell.now }
+        requires room { HasRoom self.old level top }
+        ensures { (d : draws.Draw) (s : List Pair) (y : Pair) → Comes d level top s y self.old cell.now
+            → HasCome d level s y self.new None }
+    {
+        let Some(page) = &mut self.page else {
+            return;
+        };
+        page.add(cell);
+    }
+
+    /// Takes a cell as `take` does, which begins a page.
+    fn begin(&mut self, level: u8, top: u8, cell: &Cell) -> Option<Page>
+        requires cell { IsCell level cell.now }
+        requires behind { StandsBehind self.old level cell.now }
+        requires no_room { HasRoom self.old level top → ⊥ }
         ensures { (d : draws.Draw) (s : List Pair) (y : Pair) → Comes d level top s y self.old cell.now
             → HasCome d level s y self.new result }
     {
@@ -99,12 +123,23 @@ impl OpenPage {
         if top > level {
             return Some(replace(page, Page::with_first(first_label(level, top, cell), cell)));
         }
-        if page.len() < u32::from(room(level)) {
-            page.add(cell);
-            return None;
-        }
         let label = next_label(&page.label());
         Some(replace(page, Page::with_first(label, cell)))
+    }
+
+    /// Takes the cell of the next pair whose key stands on the level, up to the level `top`. Answers the page that it
+    /// closes: no later cell comes onto that.
+    pub fn take(&mut self, level: u8, top: u8, cell: &Cell) -> Option<Page>
+        requires cell { IsCell level cell.now }
+        requires behind { StandsBehind self.old level cell.now }
+        ensures { (d : draws.Draw) (s : List Pair) (y : Pair) → Comes d level top s y self.old cell.now
+            → HasCome d level s y self.new result }
+    {
+        if self.has_room(level, top) {
+            self.add(level, top, cell);
+            return None;
+        }
+        self.begin(level, top, cell)
     }
 
     /// Takes a key above level 0: its cell, where it stands on the level. Answers as `take` does.

@@ -1,15 +1,13 @@
-use Rattle.std.proofs.Common.{◌≡◌, ◌≤◌, ◌<◌, [], ◌++◌, List, length, OnOk, sym, ap, subst, ◌∙◌, arith}
-use Rattle.std.proofs.lemmas.List.{length-append}
-use Rattle.store_model.specs.Pairs.{Pair, IsPairs}
+use Rattle.std.proofs.Common.{[], ◌++◌, length, OnOk, sym, ap, subst, arith}
+use Rattle.store_model.specs.Pairs.{IsPairs}
 use Rattle.store_model.specs.Pages.{pages_of_pairs}
 use Rattle.rising_pages.specs.Ends.{list_of}
 use Rattle.rising_pages.specs.FreePlaces.{AreFree}
 use Rattle.rising_pages.specs.OpenPages.{closed_pages}
-use Rattle.rising_pages.specs.Raised.{AreRaised, key_pairs, upper_pages}
+use Rattle.rising_pages.specs.Raised.{AreRaised, key_pairs}
 use Rattle.rising_pages.proofs.RaisedPairs.{are_raised, few_raised, raised_are_pairs}
 use Rattle.image_writer.specs.Placing.{placed, Places}
-use Rattle.image_writer.specs.Writing.{AreComplete}
-use Rattle.image_writer.proofs.LevelsPlaced.{places_short, on_ok}
+use Rattle.image_writer.proofs.LevelsPlaced.{places_short}
 use Rattle.image_writer.proofs.UpperPlaced.{last_closed, all_pages, level_fits}
 use Rattle.image_writer.proofs.upper.place_left.Goals as goal
 

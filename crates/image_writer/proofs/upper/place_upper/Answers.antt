@@ -1,9 +1,9 @@
-use Rattle.std.proofs.Common.{rules, ◌≡◌, ◌+◌, ◌≤◌, ◌<◌, List, [], ◌++◌, length, sym, ap, subst, ◌∙◌, arith}
+use Rattle.std.proofs.Common.{rules, ◌≡◌, ◌+◌, List, [], ◌++◌, length, ap, subst, arith}
 use Rattle.store_model.specs.Pages.{Page, level_pages}
 use Rattle.gate_journal.proofs.Calls.{AreCalls-none}
 use Rattle.rising_pages.specs.FreePlaces.{AreFree}
 use Rattle.rising_pages.specs.Raised.{key_pairs, upper_pages}
-use Rattle.image_writer.specs.Placing.{placed, ArePlaced, Places}
+use Rattle.image_writer.specs.Placing.{placed, ArePlaced}
 use Rattle.image_writer.proofs.LevelsPlaced.{places_short}
 use Rattle.image_writer.proofs.UpperPlaced.{levels_below, no_level, one_level_more, levels_fit, all_levels}
 use Rattle.image_writer.proofs.UpperPlaced.{places_so_far}

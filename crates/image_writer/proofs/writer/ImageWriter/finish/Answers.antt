@@ -1,7 +1,6 @@
-use Rattle.std.proofs.Common.{◌≡◌, ◌≤◌, ◌<◌, Ok, Err, refl, ap₂, sym, ◌∙◌, arith}
+use Rattle.std.proofs.Common.{Err, refl, ap₂, arith}
 use Rattle.store_model.specs.Draws.{draw_of}
 use Rattle.gate_journal.proofs.Calls.{AreCalls-none, AreCalls-answered}
-use Rattle.image_writer.specs.declared.fault.WriteFault.{WriteFault}
 use Rattle.image_writer.specs.declared.fault.WriteFault.TheVariants.{Full}
 use Rattle.image_writer.specs.Sealing.{image_of_pairs}
 use Rattle.image_writer.proofs.Sealed.{becomes_none}

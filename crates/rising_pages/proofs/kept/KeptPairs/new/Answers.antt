@@ -1,4 +1,3 @@
-use Rattle.std.proofs.Common.{refl, sym, ◌∙◌}
 use Rattle.rising_pages.proofs.Keeping.{kept_none}
 use Rattle.rising_pages.proofs.kept.KeptPairs.new.Goals as goal
 

@@ -1,9 +1,10 @@
-use Rattle.std.proofs.Common.{◌≡◌, ◌+◌, ◌≤◌, length, [], ◌∷◌, Some, None, sym, ap, subst, ◌∙◌, arith, inl, inr}
+use Rattle.std.proofs.Common.{◌≡◌, suc, ◌+◌, ◌≤◌, length, [], ◌∷◌, Some, None, sym, ap, subst, ◌∙◌, arith, inl, inr}
+use Rattle.std.proofs.Math.Nat.{lt_of_not-le}
 use Rattle.store_model.specs.Labels.{Label}
 use Rattle.store_model.specs.Pages.{Cell, Page, page_room}
-use Rattle.rising_pages.specs.OpenPages.{Comes, HasCome}
-use Rattle.rising_pages.proofs.OpenPages.{top_of_cell, come_first, come_onto, come_behind, number_behind}
-use Rattle.rising_pages.proofs.open.OpenPage.take.Goals as goal
+use Rattle.rising_pages.specs.OpenPages.{Comes, HasCome, HasRoom}
+use Rattle.rising_pages.proofs.OpenPages.{top_of_cell, come_first, come_behind, number_behind}
+use Rattle.rising_pages.proofs.open.OpenPage.begin.Goals as goal
 
 -- the page that begins with a cell
 begun : Cell → Label → Page
@@ -36,18 +37,6 @@ returns-then-top-level c = λ d s y comes.
     (c.replace.ensures.after ∙ c.with_first-then-top-level.ensures.value
     ∙ ap (begun cell) (c.first_label-then-top-level.ensures.value d (top_of_cell d level top s y held cell comes))))
 
-pub returns-then-len-from : goal.returns-then-len-from
-returns-then-len-from c = λ d s y comes.
-    let level = c.args.level in
-    let top = c.args.top in
-    let cell = c.args.cell.now in
-    let last = c.in-Some.page in
-    let some : c.args.self.now ≡ Some last = sym c.self.view_is ∙ c.in-Some.is in
-    subst (λ p. HasCome d level s y (Some p) None) (sym c.add.ensures.value)
-    (come_onto d level top s y last cell (subst (λ o. Comes d level top s y o cell) some comes)
-    (omega (arith, c.if-top-level.false))
-    (omega (arith, c.if-len-from.true, c.len.ensures.value, c.from.ensures, c.room.ensures)))
-
 pub returns : goal.returns
 unfolding begun
 returns c = λ d s y comes.
@@ -58,13 +47,9 @@ returns c = λ d s y comes.
     let some : c.args.self.now ≡ Some last = sym c.self.view_is ∙ c.in-Some.is in
     let comes_there = subst (λ o. Comes d level top s y o cell) some comes in
     let high : top ≤ level = omega (arith, c.if-top-level.false) in
-    let full : page_room level ≤ length last.cells = omega (
-      arith,
-      c.if-len-from.false,
-      c.len.ensures.value,
-      c.from.ensures,
-      c.room.ensures,
-    ) in
+    let no_room : HasRoom (Some last) level top → ⊥ = subst (λ o. HasRoom o level top → ⊥) some c.requires.no_room in
+    let below = lt_of_not-le {n = suc (length last.cells)} {m = page_room level} (λ less. no_room (high, less)) in
+    let full : page_room level ≤ length last.cells = omega (arith, below) in
     let label_is = c.label.ensures.value in
     let number = number_behind d level top s y last cell comes_there high full in
     let next : Label → Label = λ l. record { level = l.level; lead = l.lead; index = l.index + 1 } in
