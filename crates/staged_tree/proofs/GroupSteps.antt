@@ -12,11 +12,10 @@ use Rattle.store_model.specs.Trees.{Tree}
 use Rattle.store_model.specs.Draws.{draw_of}
 use Rattle.store_model.specs.Pairs.{pairs}
 use Rattle.store_model.specs.Pages.{page_count}
-use Rattle.store_model.specs.Commands.{Command, IsCommand}
+use Rattle.store_model.specs.Commands.{Command, Reply, IsCommand}
 use Rattle.store_model.specs.Commands.Reply.{Acknowledged, Refused}
 use Rattle.store_model.specs.Steps.{Step, lacks_version, step}
 use Rattle.store_model.specs.Scripts.{tree_by}
-use Rattle.store_model.proofs.TreesLemmasSteps.{step_of_version}
 use Rattle.disk_model.specs.DiskState.{DiskState, IsObservable}
 use Rattle.seeded_draw.specs.declared.any.AnyDraw.{AnyDraw}
 use Rattle.seeded_draw.specs.AnyDrawn.{any_draw}
@@ -30,18 +29,19 @@ use Rattle.image_check.specs.Faults.{apply_fault_of}
 use Rattle.image_check.specs.Standing.{IsFitting}
 use Rattle.tree_pairs.specs.TreeCalls.{reply_seen, uncounted_step, CarriesOutUnder}
 use Rattle.tree_commands.specs.Counted.{counted_step}
-use Rattle.tree_commands.proofs.StepLemmas.{acked_step, answered_step}
 use Rattle.staged_tree.specs.declared.group.GroupAnswer.{GroupAnswer}
 use Rattle.staged_tree.specs.declared.group.GroupAnswer.TheVariants as answers
 use Rattle.staged_tree.specs.Groups.{step_under, refused_in, group_tree, answered_group, IsGroupAnswer}
-use Rattle.staged_tree.specs.StagedTree.{TreeList, IsListAt, IsListFor, FollowsList}
+use Rattle.staged_tree.specs.Roomy.{roomy_step}
+use Rattle.staged_tree.specs.StagedTree.{TreeList, IsListAt, IsListOver, IsListFor, FollowsList}
 use Rattle.staged_tree.specs.Steps.{EndsStep}
-use Rattle.staged_tree.specs.Staging.{counted_answer, StagesChange, StagesAll}
+use Rattle.staged_tree.specs.Staging.{counted_answer, StagesChange, StagesRoomy, StagesAll}
 use Rattle.staged_tree.proofs.AnswerSteps.{staged_then}
 use Rattle.staged_tree.proofs.StagedSteps.{read_step, taken_back, failed_step, told_as, behind_reads}
 use Rattle.staged_tree.proofs.GroupLemmas.{behind, behind_none, refused_later, refused_first, tree_later, none_refused}
 use Rattle.staged_tree.proofs.GroupLemmas.{tree_stays, group_done, group_refused}
-use Rattle.staged_tree.proofs.ListSteps.{AnswersList, pairs_state, changed_list, answers_at, whole_behind}
+use Rattle.staged_tree.proofs.ListSteps.{pairs_state, changed_list, answers_at, whole_behind}
+use Rattle.staged_tree.proofs.RoomyLemmas.{roomy_lacks, roomy_has, roomy_refused, roomy_acked, roomy_under}
 use Rattle.staged_tree.proofs.TreePages.{fitting_step, held_count}
 
 -- ---- the pages counted
@@ -78,85 +78,123 @@ counted_next t next p value is = by (nat_lt p.slots (page_count next p)) is
 -- ---- a change
 
 module _ {D : Type 0} (state : D → DiskState) (t now : Tree) (p : Parameters) (c : Command) (old : TreeList D)
-    (list : IsListFor state t now p old) (runs : old.pages.is_spent ≡ false) where
+    (list : IsListOver state t now p old) (runs : old.pages.is_spent ≡ false) where
   -- the version lacks it
-  pub version_lacks : lacks_version c p ≡ true → StagesChange state t now p c old old (Ok (Err refusals.Version))
+  pub version_lacks : lacks_version c p ≡ true → StagesRoomy state t now p c old old (Ok (Err refusals.Version))
   version_lacks is = record {
     faults = refl;
-    answer = λ observable. sym (ap (λ (s : Step). s.reply) (step_of_version now c p is));
+    answer = λ observable. sym (ap (λ (s : Step). s.reply) (roomy_lacks p now c is));
     goes = tt;
   }
 
   module _ (command : IsCommand c) (has : lacks_version c p ≡ false) (version : Version) (under : version ≡ p.version)
       (mid : TreeList D) (follows : FollowsList state old mid) where
-    -- it is refused otherwise
-    pub change_refused : (refusal : Refusal)
-        → CarriesOutUnder {T = Unit {0}} version (λ _. Acknowledged) c (pairs_state state old) (pairs_state state mid)
-        (Ok (Err refusal)) → StagesChange state t now p c old mid (Ok (Err refusal))
-    change_refused refusal call =
-        let is = changed_list state p version c old mid (Ok (Err refusal))
-        (Ok (replies.No refusal)) under refl follows call in
+    next_is : (roomy_step p now c).tree ≡ (uncounted_step now c p).tree
+    next_is = ap (λ (s : Step). s.tree) (roomy_has p now c has)
+
+    to_roomy : {reply : Reply} → reply ≡ (uncounted_step now c p).reply → reply ≡ (roomy_step p now c).reply
+    to_roomy is = is ∙ sym (ap (λ (s : Step). s.reply) (roomy_has p now c has))
+
+    -- or else it is carried out, refused, or failed
+    pub change_staged : (r : Result (Result (Unit {0}) Refusal) Fault)
+        → CarriesOutUnder {T = Unit {0}} version (λ _. Acknowledged) c (pairs_state state old) (pairs_state state mid) r
+        → StagesRoomy state t now p c old mid r
+    change_staged (Err fault) call = record { faults = call.faults; answer = λ observable. tt; goes = tt }
+    change_staged (Ok (Err refusal)) call =
+        let reply = replies.No refusal in
+        let is = changed_list state p version c old mid (Ok (Err refusal)) (Ok reply) under refl follows call in
+        let answers = answers_at state t now p old list runs c mid (Ok reply) is in
         record {
           faults = call.faults;
-          answer = λ observable.
-              sym (ap (λ (s : Step). s.reply)
-              (answered_step now c p (Refused refusal) has
-              ((answers_at state t now p old list runs c mid (Ok (replies.No refusal)) is).answered observable).reply_is
-              (λ e. cc)));
+          answer = λ observable. to_roomy (answers.answered observable).reply_is;
           goes = tt;
         }
-
-    -- it failed
-    pub change_failed : (fault : Fault)
-        → CarriesOutUnder {T = Unit {0}} version (λ _. Acknowledged) c (pairs_state state old) (pairs_state state mid)
-        (Err fault) → StagesChange state t now p c old mid (Err fault)
-    change_failed fault call = record { faults = call.faults; answer = λ observable. tt; goes = tt }
-
-    -- it is carried out, and the pages are counted
-    module _ (value : Unit {0}) (call : CarriesOutUnder {T = Unit {0}} version (λ _. Acknowledged) c
-        (pairs_state state old) (pairs_state state mid) (Ok (Ok value))) (answer : Result (Unit {0}) Refusal)
-        (counts : IsObservable (state mid.pages.disk) → answer ≡ counted_answer (maps.len mid.pages.map) p.slots) where
-      abbrev next : Tree
-      next = (uncounted_step now c p).tree
-
-      is : AnswersList state p.version c old mid (Ok replies.Ok)
-      is = changed_list state p version c old mid (Ok (Ok value)) (Ok replies.Ok) under refl follows call
-
-      module _ (observable : IsObservable (state old.pages.disk)) where
-        holds : HoldsPairs (draw_of p) (pairs next p) mid.pages.map
-        holds = ((answers_at state t now p old list runs c mid (Ok replies.Ok) is).answered observable).holds
-
-        stepped : step now c p ≡ counted_step now next p
-        stepped = acked_step now c p list.fitting.tree list.fitting.fits has
-            (sym ((answers_at state t now p old list runs c mid (Ok replies.Ok) is).answered observable).reply_is)
-
-        counted : answer ≡ counted_answer (page_count next p) p.slots
-        counted = counts (follows.0.disk.observable ∙ observable)
-            ∙ ap (λ (n : ℕ). counted_answer n p.slots) (held_count next p mid.pages.map holds)
-
-      goes : (r : Result (Unit {0}) Refusal) → r ≡ answer → OnOk r (IsListFor state t (step now c p).tree p mid)
-      goes (Err refusal) e = tt
-      goes (Ok done) e =
-          let to = fitting_step now c p list.fitting command in
-          let same = λ (observable : IsObservable (state old.pages.disk)).
-          ap (λ (s : Step). s.tree) (stepped observable) ∙ counted_next now next p done (e ∙ counted observable) in
-          record {
-            fitting = to;
-            staged = staged_then state t now (step now c p).tree p
-                old.pages mid.pages list.staged follows.0 to.tree (λ observable room. to.fits)
+    change_staged (Ok (Ok value)) call =
+        let is = changed_list state p version c old mid (Ok (Ok value)) (Ok replies.Ok) under refl follows call in
+        let answers = answers_at state t now p old list runs c mid (Ok replies.Ok) is in
+        let to = roomy_under p now c list.under command in
+        record {
+          faults = call.faults;
+          answer = λ observable. to_roomy (answers.answered observable).reply_is;
+          goes = record {
+            under = to;
+            staged = staged_then state t now (roomy_step p now c).tree p
+                old.pages mid.pages list.staged follows.0 to.is_tree
+                (λ observable room. record { room = room; bare = to.bare })
                 (λ observable. subst (λ (u : Tree). HoldsPairs (draw_of p) (pairs u p) mid.pages.map)
-                (sym (same observable)) (holds observable));
+                (sym next_is) (answers.answered observable).holds);
             draw = ap any_draw follows.1 ∙ list.draw;
             whole = whole_behind state t now p old list runs c mid replies.Ok is;
-          }
+          };
+        }
 
-      pub change_counted : StagesChange state t now p c old mid (Ok answer)
-      change_counted = record {
-        faults = call.faults;
-        answer = λ observable. ap (reply_seen (λ _. Acknowledged)) (counted observable) ∙ counted_reply now next p
-            ∙ sym (ap (λ (s : Step). s.reply) (stepped observable));
-        goes = goes answer refl;
-      }
+-- a change of a tree that fits, behind which the pages are counted
+module _ {D : Type 0} (state : D → DiskState) (t now : Tree) (p : Parameters) (c : Command) (old mid : TreeList D)
+    (list : IsListFor state t now p old) (follows : FollowsList state old mid) where
+  -- it is refused otherwise
+  pub change_refused : (refusal : Refusal) → StagesRoomy state t now p c old mid (Ok (Err refusal))
+      → StagesChange state t now p c old mid (Ok (Err refusal))
+  change_refused refusal stages = record {
+    faults = stages.faults;
+    answer = λ observable. sym (ap (λ (s : Step). s.reply) (roomy_refused p now c refusal (stages.answer observable)));
+    goes = tt;
+  }
+
+  -- it is carried out
+  module _ (command : IsCommand c) (value : Unit {0}) (stages : StagesRoomy state t now p c old mid (Ok (Ok value)))
+      (answer : Result (Unit {0}) Refusal)
+      (counts : IsObservable (state mid.pages.disk) → answer ≡ counted_answer (maps.len mid.pages.map) p.slots) where
+    abbrev next : Tree
+    next = (roomy_step p now c).tree
+
+    over : IsListOver state t next p mid
+    over = stages.goes
+
+    module _ (observable : IsObservable (state old.pages.disk)) where
+      stepped : step now c p ≡ counted_step now next p
+      stepped = roomy_acked p now c list.fitting.tree list.fitting.fits (stages.answer observable)
+
+      counted : answer ≡ counted_answer (page_count next p) p.slots
+      counted =
+          let seen = follows.0.disk.observable ∙ observable in
+          counts seen
+          ∙ ap (λ (n : ℕ). counted_answer n p.slots) (held_count next p mid.pages.map (over.staged.holds seen))
+
+    goes : (r : Result (Unit {0}) Refusal) → r ≡ answer → OnOk r (IsListFor state t (step now c p).tree p mid)
+    goes (Err refusal) e = tt
+    goes (Ok done) e =
+        let to = fitting_step now c p list.fitting command in
+        let same = λ (observable : IsObservable (state mid.pages.disk)).
+        let before = sym follows.0.disk.observable ∙ observable in
+        ap (λ (s : Step). s.tree) (stepped before) ∙ counted_next now next p done (e ∙ counted before) in
+        record {
+          fitting = to;
+          over = record {
+            under = record { is_tree = to.tree; bare = to.fits.bare };
+            staged = record {
+              fitting = over.staged.fitting;
+              tree = to.tree;
+              params = over.staged.params;
+              draw = over.staged.draw;
+              size_is = over.staged.size_is;
+              stands = over.staged.stands;
+              table_is = over.staged.table_is;
+              fits = λ observable room. to.fits;
+              holds = λ observable. subst (λ (u : Tree). HoldsPairs (draw_of p) (pairs u p) mid.pages.map)
+                  (sym (same observable)) (over.staged.holds observable);
+            };
+            draw = over.draw;
+            whole = over.whole;
+          };
+        }
+
+    pub change_counted : StagesChange state t now p c old mid (Ok answer)
+    change_counted = record {
+      faults = stages.faults;
+      answer = λ observable. ap (reply_seen (λ _. Acknowledged)) (counted observable) ∙ counted_reply now next p
+          ∙ sym (ap (λ (s : Step). s.reply) (stepped observable));
+      goes = goes answer refl;
+    }
 
 -- ---- changes one after another
 

@@ -1,6 +1,6 @@
 -- The list of a tree over its staged pages: what it holds, and what it knows, as these change.
-use Rattle.std.proofs.Common.{◌≡◌, ◌<◌, Bool, true, false, List, length, Option, Result, Ok, Err, refl, sym, ap, subst}
-use Rattle.std.proofs.Common.{◌∙◌}
+use Rattle.std.proofs.Common.{◌≡◌, ◌<◌, ◌≤◌, Bool, true, false, List, length, Option, Result, Ok, Err, refl, sym, ap}
+use Rattle.std.proofs.Common.{subst, ◌∙◌}
 use Rattle.store_model.specs.declared.refusal.Refusal.{Refusal}
 use Rattle.store_model.specs.declared.version.Version.{Version}
 use Rattle.store_base.specs.declared.store_fault.Fault.{Fault}
@@ -8,7 +8,7 @@ use Rattle.store_model.specs.Parameters.{Parameters}
 use Rattle.store_model.specs.Trees.{Tree}
 use Rattle.store_model.specs.Draws.{Draw, draw_of}
 use Rattle.store_model.specs.Pairs.{Pair, pairs}
-use Rattle.store_model.specs.Pages.{pages}
+use Rattle.store_model.specs.Pages.{pages, page_count}
 use Rattle.store_model.specs.PageMaps.{PageMap, IsPageMap, map_of_pages}
 use Rattle.store_model.specs.Commands.{Command}
 use Rattle.store_model.specs.Commands.Reply.{Acknowledged}
@@ -32,9 +32,10 @@ use Rattle.tree_commands.proofs.ReplyLemmas.{AnswersUnder, answers_under, carrie
 use Rattle.tree_commands.proofs.StepLemmas.{uncounted_still}
 use Rattle.staged_tree.proofs.StagedAnswers.{AnswersAt}
 use Rattle.image_check.specs.Standing.{IsFitting}
-use Rattle.staged_tree.specs.StagedTree.{TreeList, IsListAt, IsListFor, FollowsList, HoldsTable}
+use Rattle.staged_tree.specs.StagedTree.{TreeList, IsListAt, IsListOver, IsListFor, IsListWithin, most_staged}
+use Rattle.staged_tree.specs.StagedTree.{FollowsList, HoldsTable}
 use Rattle.staged_tree.proofs.AnswerSteps.{reply_at, staged_at}
-use Rattle.staged_tree.proofs.TreePages.{few_pairs, tree_holds, tree_valid, held_map}
+use Rattle.staged_tree.proofs.TreePages.{few_within, fits_within, tree_holds, held_valid, held_map}
 
 -- ---- pages that stay
 
@@ -111,25 +112,38 @@ changed_list state p version c old new r reply under is follows call =
 
 -- the list of a tree is one over its own table
 pub over_table : {D : Type 0} {state : D → DiskState} {t : Tree} {p : Parameters} {list : TreeList D}
-    → IsListAt state t p list → list.pages.is_spent ≡ false → IsListFor state t t p list
+    → IsListAt state t p list → list.pages.is_spent ≡ false → IsListOver state t t p list
 over_table {D} {state} {t} {p} {list} at runs = record {
-  fitting = at.fitting;
+  under = record { is_tree = at.fitting.tree; bare = at.fitting.fits.bare };
   staged = staged_at state t p list.pages at.fitting at.pages runs;
   draw = at.draw;
   whole = at.whole;
 }
 
+-- of a tree that fits, and so has few pages
+pub fits_table : {D : Type 0} {state : D → DiskState} {t : Tree} {p : Parameters} {list : TreeList D}
+    → IsListAt state t p list → list.pages.is_spent ≡ false → IsListFor state t t p list
+fits_table at runs = record { fitting = at.fitting; over = over_table at runs }
+
+pub as_within : {D : Type 0} {state : D → DiskState} {t now : Tree} {p : Parameters} {list : TreeList D}
+    → IsListFor state t now p list → IsListWithin state t now p list
+as_within {D} {state} {t} {now} {p} list = record {
+  over = list.over;
+  few = λ observable. fits_within now p list.fitting;
+}
+
 -- a list of one tree, over the table of another
 module _ {D : Type 0} (state : D → DiskState) (t now : Tree) (p : Parameters) (old : TreeList D)
-    (list : IsListFor state t now p old) (runs : old.pages.is_spent ≡ false) where
+    (list : IsListOver state t now p old) (runs : old.pages.is_spent ≡ false) where
   pub own_pairs : IsObservable (state old.pages.disk) → pairs_of_map old.pages.map ≡ pairs now p
   own_pairs observable = holds_own (draw_of p) (pairs now p) old.pages.map (list.staged.holds observable)
 
   -- the list has room for what a command adds
-  pub room_at : IsHeld (any_draw old.draw) old.is_whole (pages_state state old.pages)
+  pub room_at : (IsObservable (state old.pages.disk) → page_count now p ≤ most_staged)
+      → IsHeld (any_draw old.draw) old.is_whole (pages_state state old.pages)
       → length (pairs_of_map old.pages.map) < pairs_limit
-  room_at seen = subst (λ (s : List Pair). length s < pairs_limit) (sym (own_pairs seen.1.0.disk))
-      (few_pairs now p list.fitting)
+  room_at few seen = subst (λ (s : List Pair). length s < pairs_limit) (sym (own_pairs seen.1.0.disk))
+      (few_within now p list.staged.fitting.in_range (few seen.1.0.disk))
 
   pub seen_at : IsObservable (state old.pages.disk)
       → IsHeld (any_draw old.draw) old.is_whole (pages_state state old.pages)
@@ -138,7 +152,7 @@ module _ {D : Type 0} (state : D → DiskState) (t now : Tree) (p : Parameters) 
       let told : IsTold state old.pages = record {
         disk = observable;
         runs = runs;
-        valid = tree_valid now p old.pages.map list.fitting (held_map now p old.pages.map holds);
+        valid = held_valid now p old.pages.map holds;
       } in (
         list.whole observable,
         (
@@ -169,7 +183,7 @@ module _ {D : Type 0} (state : D → DiskState) (t now : Tree) (p : Parameters) 
           let seen = seen_at observable in
           reply_at (uncounted_step now c p) p (any_draw mid.draw) (pairs_state state mid) mid.pages result
           (ap any_draw is.follows.1 ∙ list.draw) (λ held. held.1.1) (is.call.observable seen)
-          (is.call.answered seen now p refl (record { tree = list.fitting.tree; pairs_are = own_pairs observable }));
+          (is.call.answered seen now p refl (record { tree = list.under.is_tree; pairs_are = own_pairs observable }));
     }
 
     -- behind it the list is whole

@@ -1,6 +1,6 @@
 -- Steps that staged pages take which are those of a tree.
 use Rattle.std.proofs.Common.{◌≡◌, ◌⊎◌, ◌<◌, ◌≤◌, ℕ, Bool, false, List, length, Result, Ok, Err, IfOk, OnOk, OnErr}
-use Rattle.std.proofs.Common.{refl, sym, ap, ap₂, subst, ◌∙◌, inl, inr, ⊎_elim, arith}
+use Rattle.std.proofs.Common.{refl, sym, ap, subst, ◌∙◌, inl, inr, ⊎_elim, arith}
 use Rattle.std.specs.FinMap as maps
 use Rattle.store_base.specs.declared.store_fault.Fault.{Fault}
 use Rattle.store_base.specs.declared.store_fault.Fault.TheVariants as below
@@ -12,7 +12,6 @@ use Rattle.store_model.specs.Draws.{Draw, draw_of}
 use Rattle.store_model.specs.Pages.{pages, page_count}
 use Rattle.store_model.specs.PageMaps.{PageMap, map_of_pages}
 use Rattle.store_model.specs.Images.{Represents}
-use Rattle.store_model.specs.Commands.Reply.{Acknowledged, Refused}
 use Rattle.store_model.specs.Steps.{Step}
 use Rattle.disk_model.specs.DiskState.{DiskState, IsObservable, IsSound}
 use Rattle.disk_model.proofs.Crashes.{LeavesOnly-weaken}
@@ -21,7 +20,6 @@ use Rattle.gate_journal.specs.Places.{ReadsOnly}
 use Rattle.gate_journal.specs.Costs.{CountsCommit}
 use Rattle.seeded_draw.specs.declared.any.AnyDraw.{AnyDraw}
 use Rattle.seeded_draw.specs.AnyDrawn.{any_draw}
-use Rattle.script_lines.specs.declared.reply.Reply.{Reply}
 use Rattle.script_lines.specs.declared.reply.Reply.TheVariants as replies
 use Rattle.page_store.specs.declared.fault.SettleFault.{SettleFault}
 use Rattle.page_store.specs.declared.fault.SettleFault.TheVariants as causes
@@ -38,8 +36,8 @@ use Rattle.staged_tree.specs.TableChanges.{slots_between}
 use Rattle.image_check.specs.Faults.{apply_fault_of, apply_faults_after}
 use Rattle.image_check.specs.Standing.{IsFitting, Stands}
 use Rattle.staged_tree.specs.StagedTree.{AreAt, IsStagedFor}
-use Rattle.staged_tree.specs.Steps.{settled_reply, settle_cause, StepsPages, TakesStep, EndsStep, IsReplyTo}
-use Rattle.staged_tree.specs.Steps.{EndsCommand}
+use Rattle.staged_tree.specs.Steps.{counted_end, settled_reply, settle_cause, StepsPages, TakesStep, EndsStep}
+use Rattle.staged_tree.specs.Steps.{IsReplyTo, EndsCommand}
 use Rattle.staged_tree.specs.ImageChanges.{ChangesImage}
 use Rattle.staged_tree.proofs.DiskLemmas.{keeps_then}
 use Rattle.staged_tree.proofs.TreePages.{held_map, held_count, stands_tree, slots_as}
@@ -327,62 +325,64 @@ module _ {D : Type 0} (state : D → DiskState) (t next : Tree) (p : Parameters)
       let full = (settles.observed observable).full in
       absurd (omega (arith, full.more, full.need_is ∙ count_is, full.slots_are ∙ slots_are, to.fits.room))
 
-  -- a command that changed the tree to a next one that fits, by the step that counts its pages
-  acked : (r : Result Reply ApplyFault) → IsFitting next p
-      → StepsPages state t next (IsReplyTo (record { reply = Acknowledged; tree = next })) p old new r
-      → StepsPages state t (counted_step t next p).tree (IsReplyTo (counted_step t next p)) p old new r
-  acked r to = subst (λ (s : Step). StepsPages state t s.tree (IsReplyTo s) p old new r)
-      (sym (counted_fits t next p to.fits.room))
+  -- a next tree that fits is the one behind the step that counts its pages
+  to_next : {A : Type 0} (IsAnswer : A → Type 0) (r : Result A ApplyFault) → IsFitting next p
+      → StepsPages state t next IsAnswer p old new r
+      → StepsPages state t (counted_step t next p).tree IsAnswer p old new r
+  to_next IsAnswer r to = subst (λ (u : Tree). StepsPages state t u IsAnswer p old new r)
+      (sym (ap (λ (s : Step). s.tree) (counted_fits t next p to.fits.room)))
 
-  -- the step that the settle of a command takes
-  pub stepped : (r : Result (Unit {0}) SettleFault) → Settles state any_draw old new r
-      → StepsPages state t (counted_step t next p).tree (IsReplyTo (counted_step t next p)) p old new (settled_reply r)
-  stepped (Ok value) settles =
+  -- the step that a settle takes to a tree that has room, or does not
+  pub stepped : {A : Type 0} (IsAnswer : A → Type 0) (done : A) (full : ℕ → ℕ → A)
+      → (page_count next p ≤ p.slots → IsAnswer done)
+      → (p.slots < page_count next p → IsAnswer (full (page_count next p) p.slots))
+      → (r : Result (Unit {0}) SettleFault) → Settles state any_draw old new r
+      → StepsPages state t (counted_step t next p).tree IsAnswer p old new (counted_end done full r)
+  stepped IsAnswer done full is_done is_full (Ok value) settles =
       let to = fitting_next (settles.observed observable).full in
-      acked (Ok replies.Ok) to (stepped_fitting (IsReplyTo (record { reply = Acknowledged; tree = next }))
-      replies.Ok refl to (Ok value) settles)
-  stepped (Err causes.Disk) settles =
+      to_next IsAnswer (Ok done) to (stepped_fitting IsAnswer done (is_done to.fits.room) to (Ok value) settles)
+  stepped IsAnswer done full is_done is_full (Err causes.Disk) settles =
       let to = fitting_next (settles.observed observable).full in
-      acked (Err apply.Disk) to
-      (stepped_fitting (IsReplyTo (record { reply = Acknowledged; tree = next })) replies.Ok refl to
-      (Err causes.Disk) settles)
-  stepped (Err causes.NoMemory) settles =
+      to_next IsAnswer (Err apply.Disk) to
+      (stepped_fitting IsAnswer done (is_done to.fits.room) to (Err causes.Disk) settles)
+  stepped IsAnswer done full is_done is_full (Err causes.NoMemory) settles =
       let to = fitting_next (settles.observed observable).full in
-      acked (Err apply.NoMemory) to
-      (stepped_fitting (IsReplyTo (record { reply = Acknowledged; tree = next })) replies.Ok refl to
-      (Err causes.NoMemory) settles)
-  stepped (Err (causes.Full need slots)) settles =
+      to_next IsAnswer (Err apply.NoMemory) to
+      (stepped_fitting IsAnswer done (is_done to.fits.room) to (Err causes.NoMemory) settles)
+  stepped {A} IsAnswer done full is_done is_full (Err (causes.Full need slots)) settles =
       let disk = settles.observed observable in
-      let full = disk.full in
+      let too_many = disk.full in
       let still : new.is_spent ≡ false = settles.runs (λ e. absurd (cc)) in
-      let need_is : need ≡ page_count next p = full.need_is ∙ count_is in
-      let all_are : slots ≡ p.slots = full.slots_are ∙ slots_are in
+      let need_is : need ≡ page_count next p = too_many.need_is ∙ count_is in
+      let all_are : slots ≡ p.slots = too_many.slots_are ∙ slots_are in
+      let more : p.slots < page_count next p = omega (arith, too_many.more, need_is, all_are) in
       let reads : ReadsOnly (state old.disk) (state new.disk) = disk.too_many need slots refl in
-      subst (λ (s : Step). StepsPages state t s.tree (IsReplyTo s) p old new
-      (Ok (replies.No (refusals.Full need slots))))
-      (sym (counted_full t next p (omega (arith, full.more, need_is, all_are)))) (record {
-        answer = ap₂ (λ (m n : ℕ). Refused (refusals.Full m n)) need_is all_are;
-        image = subst (λ (b : Bool). ChangesImage t t p (state old.disk) (state new.disk) b
-            (Ok (replies.No (refusals.Full need slots)))) (sym still)
+      subst (λ (u : Tree). StepsPages state t u IsAnswer p old new (Ok (full need slots)))
+      (sym (ap (λ (s : Step). s.tree) (counted_full t next p more))) (record {
+        answer = subst (λ (n : ℕ). IsAnswer (full need n)) (sym all_are)
+            (subst (λ (n : ℕ). IsAnswer (full n p.slots)) (sym need_is) (is_full more));
+        image = subst (λ (b : Bool). ChangesImage {T = A} t t p (state old.disk) (state new.disk) b
+            (Ok (full need slots))) (sym still)
             (reads_change t t p staged.fitting (state old.disk) (state new.disk)
-            (Ok (replies.No (refusals.Full need slots))) (staged.stands observable) reads refl);
+            (Ok (full need slots)) (staged.stands observable) reads refl);
         goes = settles.table_stays observable still ∙ staged.table_is observable;
         stays = λ runs. tt;
       })
 
 -- what a settle makes of the count of faults
-settled_faults : (n m : ℕ) (r : Result (Unit {0}) SettleFault) → m ≡ settle_faults_after n r
-    → m ≡ apply_faults_after n (settled_reply r)
-settled_faults n m (Ok value) is = is
-settled_faults n m (Err (causes.Full need slots)) is = is
-settled_faults n m (Err causes.Disk) is = is
-settled_faults n m (Err causes.NoMemory) is = is
+counted_faults : {A : Type 0} (done : A) (full : ℕ → ℕ → A) (n m : ℕ) (r : Result (Unit {0}) SettleFault)
+    → m ≡ settle_faults_after n r → m ≡ apply_faults_after n (counted_end done full r)
+counted_faults done full n m (Ok value) is = is
+counted_faults done full n m (Err (causes.Full need slots)) is = is
+counted_faults done full n m (Err causes.Disk) is = is
+counted_faults done full n m (Err causes.NoMemory) is = is
 
-settled_never : (r : Result (Unit {0}) SettleFault) → settled_reply r ≡ Err apply.Stopped → ⊥
-settled_never (Ok value) is = cc
-settled_never (Err (causes.Full need slots)) is = cc
-settled_never (Err causes.Disk) is = cc
-settled_never (Err causes.NoMemory) is = cc
+counted_never : {A : Type 0} (done : A) (full : ℕ → ℕ → A) (r : Result (Unit {0}) SettleFault)
+    → counted_end done full r ≡ Err apply.Stopped → ⊥
+counted_never done full (Ok value) is = cc
+counted_never done full (Err (causes.Full need slots)) is = cc
+counted_never done full (Err causes.Disk) is = cc
+counted_never done full (Err causes.NoMemory) is = cc
 
 pub ended_faults : {A : Type 0} (answer : A) (n m : ℕ) (r : Result (Unit {0}) SettleFault) → m ≡ settle_faults_after n r
     → m ≡ apply_faults_after n (ended answer r)
@@ -405,22 +405,33 @@ module _ {D : Type 0} (state : D → DiskState) (t next : Tree) (p : Parameters)
   seen : IsObservable (state old.disk) → IsSound (state new.disk)
   seen observable = sound new.disk (settles.kept.observable ∙ observable)
 
-  -- of a command's changes
-  pub settled : EndsCommand state t (counted_step t next p) p old (without_changes new) (settled_reply r)
-  settled = record {
+  -- of changes whose pages have room, or not
+  pub settled_counted : {A : Type 0} (IsAnswer : A → Type 0) (done : A) (full : ℕ → ℕ → A)
+      → (page_count next p ≤ p.slots → IsAnswer done)
+      → (p.slots < page_count next p → IsAnswer (full (page_count next p) p.slots))
+      → EndsStep state t (counted_step t next p).tree IsAnswer p old (without_changes new) (counted_end done full r)
+  settled_counted IsAnswer done full is_done is_full = record {
     step = record {
       params = settles.params;
       draw = settles.draw;
       kept = settles.kept;
-      faults = settled_faults (state old.disk).faults (state new.disk).faults r settles.faults;
-      never = settled_never r;
-      runs = λ other. settles.runs (λ e. other (ap settled_reply e));
+      faults = counted_faults done full (state old.disk).faults (state new.disk).faults r settles.faults;
+      never = counted_never done full r;
+      runs = λ other. settles.runs (λ e. other (ap (counted_end done full) e));
       observed = λ observable.
-          let step = stepped state t next p old new staged runs observable (seen observable) r settles in
+          let step = stepped state t next p old new staged runs observable (seen observable)
+          IsAnswer done full is_done is_full r settles in
           record { answer = step.answer; image = step.image; goes = step.goes; stays = step.stays };
     };
     none_staged = λ observable still. refl;
   }
+
+  -- of a command's changes
+  pub settled : EndsCommand state t (counted_step t next p) p old (without_changes new) (settled_reply r)
+  settled = settled_counted (IsReplyTo (counted_step t next p)) replies.Ok
+      (λ need slots. replies.No (refusals.Full need slots))
+      (λ room. sym (ap (λ (s : Step). s.reply) (counted_fits t next p room)))
+      (λ more. sym (ap (λ (s : Step). s.reply) (counted_full t next p more)))
 
   -- and of changes to a tree that fits
   pub settled_fitting : {A : Type 0} (IsAnswer : A → Type 0) (answer : A) → IsAnswer answer → IsFitting next p

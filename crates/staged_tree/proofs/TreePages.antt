@@ -1,10 +1,10 @@
 -- Lemmas on the pages of trees, in images and in maps of pages.
-use Rattle.std.proofs.Common.{◌≡◌, ℕ, ◌*◌, ◌<◌, ◌≤◌, List, [], length, slice_get, refl, sym, ap, ap₂, subst, ◌∙◌, arith}
+use Rattle.std.proofs.Common.{◌≡◌, ℕ, ◌<◌, ◌≤◌, List, [], length, slice_get, refl, sym, ap, ap₂, subst, ◌∙◌, arith}
 use Rattle.std.specs.FinMap as maps
 use Rattle.std.specs.Option.{option_map_or}
 use Rattle.std.proofs.lemmas.List.Sorted.{length_permutation}
 use Rattle.store_model.specs.declared.version.Version.TheVariants.{Two}
-use Rattle.store_model.specs.Parameters.{Parameters, with_version, slots_limit, image_len}
+use Rattle.store_model.specs.Parameters.{Parameters, IsParameters, with_version, image_len}
 use Rattle.store_model.specs.Trees.{Tree}
 use Rattle.store_model.specs.Pairs.{pairs}
 use Rattle.store_model.specs.Draws.{Draw, draw_of}
@@ -33,19 +33,25 @@ use Rattle.page_store.proofs.SlotLemmas.{pages_in_held}
 use Rattle.page_store.proofs.TreeLayouts.{tree_layout, layout_of_tree}
 use Rattle.staged_tree.specs.TableChanges.{bytes_of, differing, slots_between, slots_upgraded}
 use Rattle.image_check.specs.Standing.{IsFitting, Stands}
+use Rattle.staged_tree.specs.StagedTree.{most_staged}
 
--- a tree that fits has at most ten pairs a slot
-few_fitting : (t : Tree) (p : Parameters) → IsFitting t p → length (pairs t p) ≤ 10 * slots_limit
+-- a page has at most ten pairs, so in a tree of few pages a command finds room for what it adds
+pub few_within : (t : Tree) (p : Parameters) → IsParameters p → page_count t p ≤ most_staged
+    → length (pairs t p) < pairs_limit
 unfolding draw_of pages
-few_fitting t p fitting =
-    let full = pairs_per_page (draw_of p) (pairs t p) fitting.in_range.some_level in
+few_within t p in_range few =
+    let full = pairs_per_page (draw_of p) (pairs t p) in_range.some_level in
+    omega arith
+
+-- one that fits has few
+pub fits_within : (t : Tree) (p : Parameters) → IsFitting t p → page_count t p ≤ most_staged
+fits_within t p fitting =
     let slots = fitting.in_range.slots_in_range in
     let room = fitting.fits.room in
     omega arith
 
--- so a command finds room for what it adds
 pub few_pairs : (t : Tree) (p : Parameters) → IsFitting t p → length (pairs t p) < pairs_limit
-few_pairs t p fitting = let few = few_fitting t p fitting in omega (arith, few)
+few_pairs t p fitting = few_within t p fitting.in_range (fits_within t p fitting)
 
 -- the map of its pages holds its pairs
 pub tree_holds : (t : Tree) (p : Parameters) (m : PageMap) → IsFitting t p → m ≡ map_of_pages (pages t p)
@@ -62,14 +68,17 @@ tree_holds t p m fitting is =
       map_is = is;
     }
 
--- and is one of pages under their labels
+-- a map that holds pairs is one of pages under their labels
+pub held_valid : (t : Tree) (p : Parameters) (m : PageMap) → HoldsPairs (draw_of p) (pairs t p) m → IsPageMap m
+held_valid t p m holds =
+    let few = holds.few in
+    let height = holds.height in
+    subst IsPageMap (sym holds.map_is) (IsPageMap-pages_of_pairs (draw_of p) (pairs t p) (omega (arith, height))
+    holds.pairs (omega (arith, few)))
+
+-- so is that of a tree's pages
 pub tree_valid : (t : Tree) (p : Parameters) (m : PageMap) → IsFitting t p → m ≡ map_of_pages (pages t p) → IsPageMap m
-unfolding draw_of pages
-tree_valid t p m fitting is =
-    let few = few_pairs t p fitting in
-    let height = fitting.in_range.height_in_range in
-    subst IsPageMap (sym is) (IsPageMap-pages_of_pairs (draw_of p) (pairs t p) (omega (arith, height))
-    (pairs_are_pairs t p fitting.tree) (omega (arith, few)))
+tree_valid t p m fitting is = held_valid t p m (tree_holds t p m fitting is)
 
 -- a map that holds the pairs of a tree is that of its pages, and has as many
 pub held_map : (t : Tree) (p : Parameters) (m : PageMap) → HoldsPairs (draw_of p) (pairs t p) m

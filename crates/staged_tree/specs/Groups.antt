@@ -26,18 +26,22 @@ refusal_in (PagesUsed used slots) = None
 refusal_in (ImageDigest digest) = None
 refusal_in (Refused refusal) = Some refusal
 
+-- the first of some replies that is a refusal: the first one, or one that stands so far behind it
+abbrev pub or_later : Option Refusal → Option (ℕ × Refusal) → Option (ℕ × Refusal)
+or_later (Some refusal) later = Some (0, refusal)
+or_later None later = option_map (λ (found : ℕ × Refusal). (suc found.0, found.1)) later
+
 -- the first reply that is a refusal: how many stand before it, and why it refuses
 unfoldable pub first_refused : List Reply → Option (ℕ × Refusal)
 first_refused [] = None
 first_refused (reply ∷ replies) = or_later (refusal_in reply) (first_refused replies)
-  where
-    or_later : Option Refusal → Option (ℕ × Refusal) → Option (ℕ × Refusal)
-    or_later (Some refusal) later = Some (0, refusal)
-    or_later None later = option_map (λ (found : ℕ × Refusal). (suc found.0, found.1)) later
 
--- the first of these changes that is refused where they are carried out one after another
+-- the first of these changes that is refused where they are carried out one after another, each by its step
+abbrev pub refused_by : {Q : Type 0} → (Tree → Q → Step) → Tree → List Q → Option (ℕ × Refusal)
+refused_by stepped t changes = first_refused (replies_by stepped t changes)
+
 abbrev pub refused_in : Parameters → Tree → List Command → Option (ℕ × Refusal)
-refused_in p t changes = first_refused (replies_by (step_under p) t changes)
+refused_in p t changes = refused_by (step_under p) t changes
 
 -- the next tree where nothing is refused, and else the one before
 abbrev pub tree_unless : Option (ℕ × Refusal) → Tree → Tree → Tree

@@ -1,7 +1,11 @@
+pub mod ChangeStreams
 pub mod Groups
+pub mod Guards
 pub mod TableChanges
 pub mod ImageChanges
+pub mod Listed
 pub mod Loads
+pub mod Roomy
 pub mod StagedTree
 pub mod Staging
 pub mod Steps

@@ -1,11 +1,11 @@
 -- Staged pages that are those of a tree.
-use Rattle.std.specs.Prelude.{◌≡◌, ◌≤◌, true, false, List}
+use Rattle.std.specs.Prelude.{◌≡◌, ◌≤◌, ℕ, true, false, List}
 use Rattle.store_model.specs.declared.version.Version.TheVariants.{Two}
 use Rattle.store_model.specs.Parameters.{Parameters, with_version, image_len}
 use Rattle.store_model.specs.Trees.{Tree, IsTree}
 use Rattle.store_model.specs.Draws.{draw_of}
 use Rattle.store_model.specs.Pairs.{Pair, pairs}
-use Rattle.store_model.specs.Pages.{page_count, Fits, pages}
+use Rattle.store_model.specs.Pages.{page_count, Fits, pages, IsTreeUnder}
 use Rattle.store_model.specs.PageMaps.{map_of_pages}
 use Rattle.disk_model.specs.DiskState.{DiskState, IsObservable}
 use Rattle.seeded_draw.specs.declared.any.AnyDraw.{AnyDraw}
@@ -69,14 +69,30 @@ pub record IsListAt {D : Type 0} (state : D → DiskState) (t : Tree) (p : Param
   pub draw : any_draw list.draw ≡ draw_of p
   pub whole : IsObservable (state list.pages.disk) → list.is_whole ≡ true
 
--- A list of a tree, which fits, and whose pages are staged over those of another one in the table; where its disk tells
--- its bytes, it is whole.
-pub record IsListFor {D : Type 0} (state : D → DiskState) (t next : Tree) (p : Parameters)
+-- A list of a tree, however many pages that has, which are staged over those of another one in the table; where its
+-- disk tells its bytes, it is whole.
+pub record IsListOver {D : Type 0} (state : D → DiskState) (t next : Tree) (p : Parameters)
     (list : TreeList D) : Type 0 where
-  pub fitting : IsFitting next p
+  pub under : IsTreeUnder next p
   pub staged : IsStagedFor state t next p list.pages
   pub draw : any_draw list.draw ≡ draw_of p
   pub whole : IsObservable (state list.pages.disk) → list.is_whole ≡ true
+
+-- such a list of a tree that fits
+pub record IsListFor {D : Type 0} (state : D → DiskState) (t next : Tree) (p : Parameters)
+    (list : TreeList D) : Type 0 where
+  pub fitting : IsFitting next p
+  pub over : IsListOver state t next p list
+
+-- the most pages that a tree may have in the middle of a group: four times as many as the largest table has slots
+abbrev pub most_staged : ℕ
+most_staged = 262144
+
+-- such a list of a tree that has no more
+pub record IsListWithin {D : Type 0} (state : D → DiskState) (t next : Tree) (p : Parameters)
+    (list : TreeList D) : Type 0 where
+  pub over : IsListOver state t next p list
+  pub few : IsObservable (state list.pages.disk) → page_count next p ≤ most_staged
 
 -- what every call keeps of a list over staged pages
 abbrev pub FollowsList : {D : Type 0} → (D → DiskState) → TreeList D → TreeList D → Type 0

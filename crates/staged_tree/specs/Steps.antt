@@ -1,5 +1,5 @@
 -- A step that staged pages take which are those of a tree.
-use Rattle.std.specs.Prelude.{◌≡◌, false, Result, Ok, Err, IfOk, OnOk, OnErr}
+use Rattle.std.specs.Prelude.{◌≡◌, ℕ, false, Result, Ok, Err, IfOk, OnOk, OnErr}
 use Rattle.store_model.specs.declared.refusal.Refusal.TheVariants as refusals
 use Rattle.store_model.specs.declared.version.Version.TheVariants.{Two}
 use Rattle.store_model.specs.Parameters.{Parameters, with_version}
@@ -10,6 +10,7 @@ use Rattle.store_model.specs.Steps.{Step}
 use Rattle.disk_model.specs.DiskState.{DiskState, IsObservable}
 use Rattle.gate_journal.specs.Disks.{KeepsDisk}
 use Rattle.seeded_draw.specs.declared.any.AnyDraw.{AnyDraw}
+use Rattle.seeded_draw.specs.AnyDrawn.{any_draw}
 use Rattle.script_lines.specs.declared.reply.Reply.{Reply}
 use Rattle.script_lines.specs.declared.reply.Reply.TheVariants as replies
 use Rattle.script_lines.specs.Replies.{reply_of}
@@ -17,18 +18,24 @@ use Rattle.page_store.specs.declared.commit_kind.CommitKind.TheVariants.{Upgrade
 use Rattle.page_store.specs.CommitKinds.{params_after}
 use Rattle.page_store.specs.declared.fault.SettleFault.{SettleFault}
 use Rattle.page_store.specs.declared.fault.SettleFault.TheVariants as causes
-use Rattle.page_store.specs.StagedState.{StagedState}
+use Rattle.page_store.specs.Settling.{Settles}
+use Rattle.page_store.specs.StagedState.{StagedState, without_changes}
 use Rattle.image_check.specs.declared.fault.ApplyFault.{ApplyFault}
 use Rattle.image_check.specs.declared.fault.ApplyFault.TheVariants as apply
 use Rattle.image_check.specs.Faults.{apply_faults_after}
 use Rattle.staged_tree.specs.ImageChanges.{ChangesImage, UpgradesImage}
 
--- what a command answers whose changes were settled so
+-- what a step answers whose changes were settled so: this where the pages have room, and else that, by how many there
+-- are of them and of the slots
+abbrev pub counted_end : {A : Type 0} → A → (ℕ → ℕ → A) → Result (Unit {0}) SettleFault → Result A ApplyFault
+counted_end done full (Ok value) = Ok done
+counted_end done full (Err (causes.Full need slots)) = Ok (full need slots)
+counted_end done full (Err causes.Disk) = Err apply.Disk
+counted_end done full (Err causes.NoMemory) = Err apply.NoMemory
+
+-- and what a command answers
 abbrev pub settled_reply : Result (Unit {0}) SettleFault → Result Reply ApplyFault
-settled_reply (Ok value) = Ok replies.Ok
-settled_reply (Err (causes.Full need slots)) = Ok (replies.No (refusals.Full need slots))
-settled_reply (Err causes.Disk) = Err apply.Disk
-settled_reply (Err causes.NoMemory) = Err apply.NoMemory
+settled_reply settled = counted_end replies.Ok (λ need slots. replies.No (refusals.Full need slots)) settled
 
 -- why a step to a tree that fits failed whose settle did so; none of such a tree is full
 abbrev pub settle_cause : SettleFault → ApplyFault
@@ -56,6 +63,13 @@ pub record TakesStep {D A : Type 0} (state : D → DiskState) (t next : Tree) (I
   pub never : result ≡ Err apply.Stopped → ⊥
   pub runs : (result ≡ Err apply.Disk → ⊥) → new.is_spent ≡ false
   pub observed : IsObservable (state old.disk) → StepsPages state t next IsAnswer p old new result
+
+-- The staged pages of a value are settled, and behind it nothing is staged.
+pub record SettlesAll {D : Type 0} (state : D → DiskState) (old new : StagedState D AnyDraw)
+    (result : Result (Unit {0}) SettleFault) : Type 0 where
+  pub settled : StagedState D AnyDraw
+  pub settles : Settles state any_draw old settled result
+  pub new_is : new ≡ without_changes settled
 
 -- a step behind which nothing is staged
 pub record EndsStep {D A : Type 0} (state : D → DiskState) (t next : Tree) (IsAnswer : A → Type 0) (p : Parameters)

@@ -16,7 +16,7 @@ ghost use Rattle.script_lines.specs.Sessions.{is_change};
 ghost use Rattle.tree_commands.specs.Answers.{is_look, change_reply};
 ghost use Rattle.tree_commands.specs.Counted.{counted_step};
 ghost use Rattle.staged_tree.specs.StagedTree.{IsStagedFor, IsListAt, GoesOn, HoldsTable};
-ghost use Rattle.staged_tree.specs.Steps.{settled_reply, settle_cause, EndsCommand};
+ghost use Rattle.staged_tree.specs.Steps.{settled_reply, settle_cause, SettlesAll, EndsCommand};
 
 use disk_model::Disk;
 use image_check::ApplyFault;
@@ -118,14 +118,32 @@ fn end_change<D: Disk>(pairs: &mut TreeList<D>) -> Result<Answer<()>, ApplyFault
         pairs.old.pages pairs.new.pages (change_reply result) }
     ensures list { GoesOn D.state pairs.old pairs.new }
 {
+    match settle_list(pairs) {
+        Ok(()) => Ok(Ok(())),
+        Err(fault) => answer_to(fault),
+    }
+}
+
+/// Settles what is staged, and where that fails takes it back. Either way nothing is staged after it.
+pub fn settle_list<D: Disk>(pairs: &mut TreeList<D>) -> Result<(), SettleFault>
+    requires runs { pairs.old.pages.is_spent ≡ false }
+    requires whole { IsObservable (D.state pairs.old.pages.disk) → pairs.old.is_whole ≡ true }
+    requires staged { (t : Tree)
+        × ((next : Tree)
+        × ((p : Parameters)
+        × (IsStagedFor D.state t next p pairs.old.pages
+        × (any_draw pairs.old.draw ≡ draw_of p)))) }
+    ensures call { SettlesAll D.state pairs.old.pages pairs.new.pages result }
+    ensures list { GoesOn D.state pairs.old pairs.new }
+{
     match pairs.pages.settle() {
         Ok(()) => {
             pairs.pages.discard();
-            Ok(Ok(()))
+            Ok(())
         }
         Err(fault) => {
             give_up(pairs);
-            answer_to(fault)
+            Err(fault)
         }
     }
 }

@@ -9,11 +9,11 @@ ghost use Rattle.script_lines.specs.Parsing.{command_of};
 ghost use Rattle.script_lines.specs.Sessions.{is_change, change_of};
 ghost use Rattle.image_check.specs.Standing.{IsFitting};
 ghost use Rattle.staged_tree.specs.Groups.{group_tree, IsGroupAnswer};
-ghost use Rattle.staged_tree.specs.StagedTree.{IsListAt, IsListFor, FollowsList, GoesOn};
-ghost use Rattle.staged_tree.specs.Staging.{counted_answer, StagesChange, StagesAll};
+ghost use Rattle.staged_tree.specs.StagedTree.{IsListAt, IsListOver, IsListFor, IsListWithin, FollowsList, GoesOn};
+ghost use Rattle.staged_tree.specs.Staging.{counted_answer, StagesChange, StagesRoomy, StagesAll};
 ghost use Rattle.staged_tree.specs.Steps.{EndsStep};
 
-use crate::commands::{TreeList, TreePages, cause_of, give_up, lacks_version};
+use crate::commands::{TreeList, TreePages, cause_of, give_up, lacks_version, settle_list};
 use disk_model::Disk;
 use image_check::ApplyFault;
 use script_lines::{Change, Command};
@@ -112,13 +112,32 @@ fn stage_change<D: Disk>(
     ensures follows { FollowsList D.state pairs.old pairs.new }
 {
     reveal(command);
-    if lacks_version(command, params) {
-        return Ok(Err(Refusal::Version));
-    }
-    match change(pairs, params.version(), command)? {
+    match stage_roomy(pairs, params, command)? {
         Ok(()) => Ok(count_pages(&pairs.pages, params)),
         Err(refusal) => Ok(Err(refusal)),
     }
+}
+
+/// Stages a change, whether or not its pages have room. It is refused as a command is, but never as full. After a
+/// refusal or a fault nothing is promised of what is staged.
+pub fn stage_roomy<D: Disk>(
+    pairs: &mut TreeList<D>,
+    params: &Params,
+    command: &Command,
+) -> Result<Answer<()>, Fault>
+    requires change { is_change (command_of command.now) ≡ true }
+    requires runs { pairs.old.pages.is_spent ≡ false }
+    requires list { (t : Tree) × ((now : Tree) × IsListWithin D.state t now params.now pairs.old) }
+    ensures call { (t now : Tree) → IsListOver D.state t now params.now pairs.old
+        → StagesRoomy D.state t now params.now (command_of command.now)
+        pairs.old pairs.new result }
+    ensures follows { FollowsList D.state pairs.old pairs.new }
+{
+    reveal(command);
+    if lacks_version(command, params) {
+        return Ok(Err(Refusal::Version));
+    }
+    change(pairs, params.version(), command)
 }
 
 /// Refuses staged pages as full where they are more than the slots.
@@ -146,14 +165,8 @@ fn end_group<D: Disk>(pairs: &mut TreeList<D>) -> Result<GroupAnswer, ApplyFault
         pairs.old.pages pairs.new.pages result }
     ensures list { GoesOn D.state pairs.old pairs.new }
 {
-    match pairs.pages.settle() {
-        Ok(()) => {
-            pairs.pages.discard();
-            Ok(GroupAnswer::Done)
-        }
-        Err(fault) => {
-            give_up(pairs);
-            Err(cause_of(fault))
-        }
+    match settle_list(pairs) {
+        Ok(()) => Ok(GroupAnswer::Done),
+        Err(fault) => Err(cause_of(fault)),
     }
 }

@@ -16,6 +16,8 @@ use Rattle.image_check.specs.declared.fault.ApplyFault.{ApplyFault}
 use Rattle.image_check.specs.declared.fault.ApplyFault.TheVariants as apply
 use Rattle.staged_tree.specs.declared.group.GroupAnswer.{GroupAnswer}
 use Rattle.staged_tree.specs.Groups.{group_tree, IsGroupAnswer}
+use Rattle.staged_tree.specs.Guards.{Guarded}
+use Rattle.staged_tree.specs.Roomy.{streamed_tree, IsStreamAnswer}
 use Rattle.store_core.specs.Known.{KnownState, MovesOn}
 use Rattle.image_check.specs.Standing.{IsFitting, Stands}
 use Rattle.staged_tree.specs.StagedTree.{TreeList, StagesTreePages, IsListAt, GoesOn}
@@ -59,6 +61,13 @@ group_next group p t = group_tree p t group
 
 abbrev pub GroupReply : List Command → Answers GroupAnswer
 GroupReply group p t = IsGroupAnswer p t group
+
+-- those of the changes that came of a stream, all of them or the first ones
+abbrev pub stream_next : Bool → List Guarded → Nexts
+stream_next is_whole changes p t = streamed_tree p t is_whole changes
+
+abbrev pub StreamReply : {F : Type 0} → Bool → List Guarded → Answers (Result GroupAnswer F)
+StreamReply is_whole changes p t = IsStreamAnswer p t is_whole changes
 
 -- those of a search for the next pair, which leaves the tree
 abbrev pub next_tree : Nexts

@@ -4,4 +4,5 @@ pub mod Opening
 pub mod StoreCalls
 pub mod StoreFields
 pub mod StoreState
+pub mod Streams
 pub mod Walks

@@ -13,13 +13,14 @@ use Rattle.staged_tree.specs.StagedTree.{TreeList}
 use Rattle.staged_tree.proofs.AnswerSteps.{acked, acked_staged, answered_at, failed_at}
 use Rattle.staged_tree.proofs.ListSteps.{AnswersList, changed_list, keeps_stays, back_stays, room_at, answers_at}
 use Rattle.staged_tree.proofs.ListSteps.{whole_behind, same_behind, table_behind, over_table}
+use Rattle.staged_tree.proofs.TreePages.{fits_within}
 use Rattle.staged_tree.proofs.commands.carry_out_change.Given.{Over}
 use Rattle.staged_tree.proofs.commands.carry_out_change.Goals as goal
 
 pub change-requires-clause-room : goal.change-requires-clause-room
 change-requires-clause-room g c = let some = c.requires.list
     in room_at g.D.Disk.state some.0 some.0 c.args.params.now c.args.pairs.now (over_table some.1 c.requires.runs)
-    c.requires.runs
+    c.requires.runs (λ observable. fits_within some.0 c.args.params.now some.1.fitting)
 
 -- ---- acknowledged
 

@@ -8,11 +8,11 @@ use Rattle.staged_tree.specs.declared.group.GroupAnswer.TheVariants as answers
 use Rattle.staged_tree.specs.Groups.{group_tree, IsGroupAnswer}
 use Rattle.staged_tree.specs.Steps.{EndsStep}
 use Rattle.staged_tree.proofs.GroupSteps.{refused_ends, refused_fits, failed_ends, done_ends, done_fits}
-use Rattle.staged_tree.proofs.ListSteps.{over_table, table_behind}
+use Rattle.staged_tree.proofs.ListSteps.{over_table, fits_table, table_behind}
 use Rattle.staged_tree.proofs.group.carry_out_all.Goals as goal
 
 pub stage_all-requires-clause-list : goal.stage_all-requires-clause-list
-stage_all-requires-clause-list g c = (c.requires.list.0, over_table c.requires.list.1 c.requires.runs)
+stage_all-requires-clause-list g c = (c.requires.list.0, fits_table c.requires.list.1 c.requires.runs)
 
 -- ---- all are staged
 
@@ -24,7 +24,7 @@ end_group-requires-clause-list g c = let some = c.requires.list
         _,
         (
           c.args.params.now,
-          (c.in-Ok-Done.ensures.call some.0 (over_table some.1 c.requires.runs)).goes
+          (c.in-Ok-Done.ensures.call some.0 (fits_table some.1 c.requires.runs)).goes
               (ap Ok c.in-Ok-Done.field-0-is),
         ),
       ),
@@ -35,7 +35,7 @@ returns-in-Ok-Done-clause-call g c t list =
     let p = c.args.params.now in
     done_ends g.D.Disk.state t p (map change_of c.args.changes.now) c.args.pairs.now c.stage_all.new.pairs list
     c.requires.runs c.in-Ok-Done.ensures.follows c.in-Ok-Done.field-0 c.in-Ok-Done.field-0-is
-    (c.in-Ok-Done.ensures.call t (over_table list c.requires.runs))
+    (c.in-Ok-Done.ensures.call t (fits_table list c.requires.runs))
     c.end_group.new.pairs.pages c.end_group.result (λ next staged. c.end_group.ensures.call t next p staged)
 
 pub returns-in-Ok-Done-clause-fits : goal.returns-in-Ok-Done-clause-fits
@@ -43,7 +43,7 @@ returns-in-Ok-Done-clause-fits g c t list =
     done_fits g.D.Disk.state t c.args.params.now (map change_of c.args.changes.now)
     c.args.pairs.now c.stage_all.new.pairs list
     c.requires.runs c.in-Ok-Done.ensures.follows c.in-Ok-Done.field-0 c.in-Ok-Done.field-0-is
-    (c.in-Ok-Done.ensures.call t (over_table list c.requires.runs)) c.end_group.result
+    (c.in-Ok-Done.ensures.call t (fits_table list c.requires.runs)) c.end_group.result
 
 -- ---- one is refused
 
@@ -66,7 +66,7 @@ returns-in-Ok-Refused-clause-call g c t list =
     (refused_ends state t p group old c.stage_all.new.pairs list
     c.requires.runs c.in-Ok-Refused.ensures.follows c.in-Ok-Refused.field-0 c.in-Ok-Refused.index
     c.in-Ok-Refused.reply c.in-Ok-Refused.field-0-is
-    (c.in-Ok-Refused.ensures.call t (over_table list c.requires.runs)))
+    (c.in-Ok-Refused.ensures.call t (fits_table list c.requires.runs)))
 
 pub returns-in-Ok-Refused-clause-fits : goal.returns-in-Ok-Refused-clause-fits
 returns-in-Ok-Refused-clause-fits g c t list =
@@ -74,7 +74,7 @@ returns-in-Ok-Refused-clause-fits g c t list =
     c.args.pairs.now c.stage_all.new.pairs list
     c.requires.runs c.in-Ok-Refused.ensures.follows c.in-Ok-Refused.field-0 c.in-Ok-Refused.index
     c.in-Ok-Refused.reply c.in-Ok-Refused.field-0-is
-    (c.in-Ok-Refused.ensures.call t (over_table list c.requires.runs))
+    (c.in-Ok-Refused.ensures.call t (fits_table list c.requires.runs))
 
 -- ---- it failed
 
@@ -97,7 +97,7 @@ returns-in-Err-clause-call g c t list =
     (Err (apply_fault_of c.in-Err.fault))) (sym c.give_up-in-Err.ensures.pages)
     (failed_ends state t p group old c.stage_all.new.pairs list
     c.requires.runs c.in-Err.ensures.follows c.in-Err.fault
-    (c.in-Err.ensures.call t (over_table list c.requires.runs))))
+    (c.in-Err.ensures.call t (fits_table list c.requires.runs))))
 
 -- ---- the list goes on
 

@@ -7,12 +7,13 @@ use Rattle.staged_tree.specs.Steps.{EndsUpgrade}
 use Rattle.image_check.specs.Faults.{apply_fault_of}
 use Rattle.staged_tree.proofs.ListSteps.{room_at, table_behind, over_table}
 use Rattle.staged_tree.proofs.UpgradeLists.{whole_upgraded, upgrade_staged, list_upgraded, list_failed}
+use Rattle.staged_tree.proofs.TreePages.{fits_within}
 use Rattle.staged_tree.proofs.upgrade.upgrade_list.Goals as goal
 
 pub inline_short_files-requires : goal.inline_short_files-requires
 inline_short_files-requires g c = let some = c.requires.list in record {
   room = room_at g.D.Disk.state some.0 some.0 some.1.0 c.args.pairs.now (over_table some.1.1.0 c.requires.runs)
-      c.requires.runs;
+      c.requires.runs (λ observable. fits_within some.0 some.1.0 some.1.1.0.fitting);
 }
 
 pub end_upgrade-requires-clause-whole : goal.end_upgrade-requires-clause-whole
