@@ -356,9 +356,9 @@ module _ {F : Type 0} (state_of : F → FolderState) where
   }
 
   -- a file is opened, and its first piece is written
-  pub gives_file : {E : Type 0} (old : FolderStream F) (found : Found) (len : ℕ) (opened now : F) (c : DumpStep)
+  pub gives_file : {E : Type 0} (old : FolderStream F) (found : Found) (len told : ℕ) (opened now : F) (c : DumpStep)
       (count : ℕ) (reader : ListingReader) → IsBegun old found → found.kind ≡ kinds.File len
-      → IsOpened (state_of old.folder) (state_of opened) found.path (Ok tt)
+      → IsOpened (state_of old.folder) (state_of opened) found.path (Ok told)
       → (state_of now).is_observable ≡ (state_of opened).is_observable
       → (state_of now).faults ≡ (state_of opened).faults
       → IsPiece (state_of opened) (state_of now) found.path 0 c count → AddsStep old.reader reader c true
@@ -367,10 +367,11 @@ module _ {F : Type 0} (state_of : F → FolderState) where
         folder = now;
         at = old.at + 1;
         place = place_behind found 0 count;
+        told = told;
         reader = reader;
       })) c (Ok tt)
   unfolding place_of
-  gives_file old found len opened now c count reader begins kind opens same calm piece adds = record {
+  gives_file old found len told opened now c count reader begins kind opens same calm piece adds = record {
     came = λ t was.
         let taken = taken_by old reader t c was adds in
         let bytes = piece.bytes in
@@ -672,6 +673,7 @@ module _ {F : Type 0} (state_of : F → FolderState) where
         folder = now;
         at = old.at + 1;
         place = places.Target found target;
+        told = 0;
         reader = reader;
       })) (Write found.path 0 []) (Ok tt)
   gives_link old found now target reader begins kind asks adds = record {

@@ -45,10 +45,11 @@ pub record OpensFile (old new : FolderState) (path : Path) : Type 0 where
   pub read : new.read ≡ old.read ++ (path, [], false) ∷ []
   pub targets : new.targets ≡ old.targets
 
-pub record IsOpened (old new : FolderState) (path : Path) (result : Result (Unit {0}) FolderFault) : Type 0 where
+-- nothing is known of what the answer says beside
+pub record IsOpened {T : Type 0} (old new : FolderState) (path : Path) (result : Result T FolderFault) : Type 0 where
   pub observable : new.is_observable ≡ old.is_observable
   pub faults : new.faults ≡ faults_after old.faults result
-  pub opened : IsObservable old → OnOk result (OpensFile old new path)
+  pub opened : IsObservable old → IfOk result (λ _. OpensFile old new path)
 
 -- these bytes came of the file that was opened last, and the flag tells whether its end came
 pub record ReadsFile (old new : FolderState) (bytes : List ℕ) (is_ended : Bool) : Type 0 where

@@ -1,6 +1,7 @@
 -- A folder in memory, as its clauses see it.
 use Rattle.std.specs.Prelude.{◌≡◌, ◌⊎◌, ℕ, Bool, true, not, IsTrue, ◌&&◌, List, [], ◌++◌, length, map, take, drop}
-use Rattle.std.specs.Prelude.{filter, min, max, Contains, Option, Some, None, is_some, option_map, option_to_list}
+use Rattle.std.specs.Prelude.{filter, min, max, ◌-◌, ◌^◌, Contains, Option, Some, None, is_some, option_map}
+use Rattle.std.specs.Prelude.{option_to_list, unwrap_or}
 use Rattle.std.specs.Prelude.{slice_index_or}
 use Rattle.std.specs.List.{find}
 use Rattle.store_model.specs.Paths.{Path, is_root, parent, same_path}
@@ -84,11 +85,16 @@ pub record IsLinkAt (entries : List MemEntry) (path : Path) (place : ℕ) (targe
   pub valid : IsTrue (is_target target)
   pub whole : target_fault target ≡ None
 
--- the first file at the path is open, and none of its bytes came yet
-pub record IsOpenAt (folder : MemFolder) (path : Path) : Type 0 where
+-- how many bytes a file is told to have that gives these: their number, unless another is to be told
+abbrev pub length_told : Option ℕ → List ℕ → ℕ
+length_told told bytes = unwrap_or told (min (length bytes) (2 ^ 32 - 1))
+
+-- the first file at the path is open, none of its bytes came yet, and it was told to have so many
+pub record IsOpenAt (folder : MemFolder) (path : Path) (told : ℕ) : Type 0 where
   pub bytes : List ℕ
   pub is_first : file_bytes folder.entries.items path ≡ Some bytes
   pub left : left_of folder ≡ Some (path, bytes)
+  pub told_is : told ≡ length_told folder.told bytes
 
 -- Of the file that is open so many bytes came into the buffer: as many as it has room for, as the file has left, and
 -- as a read gives at most.
@@ -104,8 +110,9 @@ pub record ReadsLeft (old new : MemFolder) (buffer : List ℕ) (count : ℕ) : T
 abbrev pub IsRefused : MemFolder → Type 0 → Type 0
 IsRefused folder missing = Contains folder.failing.items folder.calls ⊎ missing
 
--- the entries, the most bytes of a read, and the calls that fail stay as they were
+-- the entries, the most bytes of a read, what is told of lengths, and the calls that fail stay as they were
 pub record HasSameEntries (old new : MemFolder) : Type 0 where
   pub entries : new.entries ≡ old.entries
   pub piece : new.piece ≡ old.piece
+  pub told : new.told ≡ old.told
   pub failing : new.failing ≡ old.failing

@@ -22,8 +22,9 @@ pub trait Folder {
         ensures { IsListed (state self.old)
             (state self.new) path.now found.old.items found.new.items result };
 
-    /// Opens the file at a path, in the place of the one that was open.
-    fn open(&mut self, path: &Path) -> Result<(), FolderFault>
+    /// Opens the file at a path, in the place of the one that was open, and answers how many bytes it has. It may give
+    /// more or fewer when it is read, where it changes meanwhile.
+    fn open(&mut self, path: &Path) -> Result<u32, FolderFault>
         ensures { IsOpened (state self.old) (state self.new) path.now result };
 
     /// Reads the next bytes of the file that is open into the buffer, and answers how many came. For a buffer that is

@@ -11,7 +11,7 @@ ghost use Rattle.host_folders.specs.FoundEntries.{is_file, is_link};
 ghost use Rattle.host_folders.specs.declared.fault.FolderFault.TheVariants as faults;
 ghost use Rattle.host_folders.specs.Memory.{HasSameEntries, IsRefused, IsOpenAt, ReadsLeft, bytes_at, children_of};
 ghost use Rattle.host_folders.specs.Memory.{file_bytes, folder_state, is_child, is_file_at, is_link_at, lacks_target};
-ghost use Rattle.host_folders.specs.Memory.{left_of, link_bytes, told_of, IsLinkAt};
+ghost use Rattle.host_folders.specs.Memory.{left_of, length_told, link_bytes, told_of, IsLinkAt};
 
 use crate::fault::FolderFault;
 use crate::folder::Folder;
@@ -61,6 +61,8 @@ struct Asked {
 pub struct MemFolder {
     entries: Vec<MemEntry>,
     piece: usize,
+    /// How many bytes each file is told to have where it is not the truth.
+    told: Option<u32>,
     failing: Vec<u64>,
     calls: u64,
     listed: Vec<Listing>,
@@ -86,6 +88,7 @@ impl MemFolder {
         MemFolder {
             entries,
             piece,
+            told: None,
             failing,
             calls: 0,
             listed: Vec::new(alloc),
@@ -94,6 +97,13 @@ impl MemFolder {
             asked: Vec::new(alloc),
             faults: 0,
         }
+    }
+
+    /// From now on each file is told to have so many bytes when it is opened, however many it gives.
+    pub fn tell(&mut self, bytes: u32)
+        ensures { self.new ≡ record self.old { told = Some bytes } }
+    {
+        self.told = Some(bytes);
     }
 
     /// Counts a call that fails.
@@ -145,6 +155,16 @@ impl MemFolder {
         match self.entries.get(entry) {
             Some(entry) if at <= entry.bytes.len() => &entry.bytes[at..],
             _ => &[],
+        }
+    }
+
+    /// How many bytes an entry is told to have when it is opened.
+    fn told_of_file(&self, entry: usize) -> u32
+        ensures { result ≡ length_told self.now.told (bytes_at self.now.entries.items entry) }
+    {
+        match self.told {
+            Some(told) => told,
+            None => u32::try_from(self.left(entry, 0).len()).unwrap_or(u32::MAX),
         }
     }
 
@@ -214,13 +234,14 @@ impl Folder for MemFolder {
         Ok(())
     }
 
-    /// Opens the first entry that is a file at the path.
+    /// Opens the first entry that is a file at the path, and tells how many bytes it has, up to 4,294,967,295, but for
+    /// where it is to tell another number.
     /// `Unreadable`: the call is to fail, or there is none. After an error the file that was open stays open.
-    fn open(&mut self, path: &Path) -> Result<(), FolderFault>
+    fn open(&mut self, path: &Path) -> Result<u32, FolderFault>
         ensures contract { IsOpened (folder_state self.old)
             (folder_state self.new) path.now result }
         ensures same { HasSameEntries self.old self.new }
-        ensures opened { OnOk result (IsOpenAt self.new path.now) }
+        ensures opened { IfOk result (IsOpenAt self.new path.now) }
         ensures unchanged { OnErr result (left_of self.new ≡ left_of self.old) }
         ensures fails { IsRefused self.old (file_bytes self.old.entries.items path.now ≡ None)
             → IsErr result }
@@ -242,7 +263,7 @@ impl Folder for MemFolder {
             at: 0,
             is_ended: false,
         });
-        Ok(())
+        Ok(self.told_of_file(entry))
     }
 
     /// Reads as many bytes as the buffer has room for, as the file has left, and as a read gives at most.

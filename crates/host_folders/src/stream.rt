@@ -40,6 +40,8 @@ pub struct FolderStream<F: Folder> {
     /// How many of what was found were begun.
     at: usize,
     place: Place,
+    /// How many bytes the file has that was begun last, as the folder told when it was opened; 0 for that of a link.
+    told: u32,
     /// Which step may be the next.
     reader: ListingReader,
     /// The folder before it was asked for the first file or link.
@@ -60,6 +62,7 @@ impl<F: Folder> FolderStream<F> {
             found,
             at: 0,
             place: Place::Start,
+            told: 0,
             reader: ListingReader::new(Version::Two),
         }
     }
@@ -94,6 +97,14 @@ impl<F: Folder> FolderStream<F> {
         self.found.len()
     }
 
+    /// How many bytes the file has that was begun last, as the folder told when it was opened; 0 for the empty file of
+    /// a link, and where none was begun. What comes of a file may be more or less.
+    pub fn told(&self) -> u32
+        ensures { result ≡ self.now.told }
+    {
+        self.told
+    }
+
     /// Gives the folder back.
     pub fn into_folder(self) -> F
         ensures { result ≡ self.folder }
@@ -103,6 +114,7 @@ impl<F: Folder> FolderStream<F> {
             found: _,
             at: _,
             place: _,
+            told: _,
             reader: _,
             first: _,
         } = self;
@@ -160,7 +172,8 @@ impl<F: Folder> FolderStream<F> {
         ensures failed { (t : Tree) → CameOf F.state self.old t → IfErr result (EndsBy F.state self.new t) }
         ensures same { IsOfSame self.old self.new }
     {
-        self.folder.open(&found.path)?;
+        let told = self.folder.open(&found.path)?;
+        self.told = told;
         let count = read_piece(&mut self.folder, &found.path, 0, into)?;
         self.add(into)?;
         self.at += 1;
@@ -184,6 +197,7 @@ impl<F: Folder> FolderStream<F> {
         into.write(found.path, 0, &[]);
         self.add(into)?;
         self.at += 1;
+        self.told = 0;
         self.place = Place::Target(*found, target);
         Ok(())
     }

@@ -22,16 +22,17 @@ returns-clause-gives g c =
       folder = c.read_piece.new.folder;
       at = old.at + 1;
       place = place;
+      told = c.in_ok-told.told;
       reader = c.add.new.self.reader;
     })) step (Ok tt))
     (sym c.place_behind-self.ensures)
-    (gives_file state old found c.requires.kind.0 c.open.new.self c.read_piece.new.folder step
+    (gives_file state old found c.requires.kind.0 c.in_ok-told.told c.open.new.self c.read_piece.new.folder step
     c.in_ok-count.count c.add.new.self.reader (record {
       start = c.requires.start;
       more = c.requires.more;
       here = c.requires.here;
     })
-    c.requires.kind.1 c.in_ok-open.ensures
+    c.requires.kind.1 c.in_ok-told.ensures
     c.read_piece.ensures.observable c.in_ok-count.ensures.faults c.in_ok-count.ensures.piece
     c.in_ok-add.ensures.added))
 
@@ -49,9 +50,9 @@ returns-in_err-add-clause-failed g c t was =
     }) in
     let asks = asks_piece found (attributes_there c.add.new.self.place) step 0 c.in_ok-count.ensures.piece.bytes
     c.in_ok-count.ensures.piece.step_is c.requires.kind in
-    let mid = record old { folder = c.read_piece.new.folder } in
+    let mid = record old { folder = c.read_piece.new.folder; told = c.in_ok-told.told } in
     let calm = calm_behind state mid c.add.new.self c.add.new.self.reader c.add.ensures.same
-    (c.in_ok-count.ensures.faults ∙ c.in_ok-open.ensures.faults ∙ was.faults) in
+    (c.in_ok-count.ensures.faults ∙ c.in_ok-told.ensures.faults ∙ was.faults) in
     err_of c.from_residual-in_err-add.result c.in_err-add.field-0.0 (EndsBy state c.add.new.self t)
     c.from_residual-in_err-add.ensures.1
     (ends_so state old c.add.new.self t found step

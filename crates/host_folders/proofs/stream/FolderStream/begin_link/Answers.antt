@@ -21,13 +21,14 @@ returns-clause-gives g c =
     let step_is : step ≡ Write found.path 0 [] = c.write.ensures in
     subst (λ (stream : FolderStream g.row.F.Denot).
     Gives (CameOf state old)
-    (CameOf state (record stream { at = stream.at + 1; place = places.Target found target })) step (Ok tt))
+    (CameOf state (record stream { at = stream.at + 1; told = 0; place = places.Target found target })) step (Ok tt))
     (sym c.add.ensures.same)
     (subst (λ (d : DumpStep). Gives (CameOf state old)
     (CameOf state (record old {
       folder = c.target.new.self;
       at = old.at + 1;
       place = places.Target found target;
+      told = 0;
       reader = reader;
     })) d (Ok tt))
     (sym step_is)

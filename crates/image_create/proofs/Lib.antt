@@ -1,0 +1,14 @@
+pub mod Causes
+pub mod CountLemmas
+pub mod Empties
+pub mod Ends
+pub mod Finding
+pub mod FoundLemmas
+pub mod KeyLemmas
+pub mod KindLemmas
+pub mod LadderLemmas
+pub mod Making
+pub mod Paths
+pub mod Steps
+pub mod TreeKeys
+pub mod Writers
