@@ -1,0 +1,11 @@
+pub mod StreamAnswers
+pub mod Bridge
+pub mod WordSteps
+pub mod RemovalSteps
+pub mod PathSteps
+pub mod PathWords
+pub mod MoveWords
+pub mod CommandWords
+pub mod WayLemmas
+pub mod ParentSteps
+pub mod ParentWords

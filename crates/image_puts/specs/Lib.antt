@@ -1,0 +1,2 @@
+pub mod PutChanges
+pub mod Puts

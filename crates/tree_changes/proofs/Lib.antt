@@ -1,0 +1,13 @@
+pub mod Folds
+pub mod Standings
+pub mod RemovalLemmas
+pub mod FolderLemmas
+pub mod ParentLemmas
+pub mod MoveLemmas
+pub mod AttributeLemmas
+pub mod PlacedLemmas
+pub mod PutLemmas
+pub mod PutSteps
+pub mod PutFiles
+pub mod PutNames
+pub mod PutMeans
