@@ -9,6 +9,9 @@ pub mod Merging
 pub mod Searching
 pub mod TakenAdditions
 pub mod Written
+pub mod Removing
 pub mod EqualTrees
 pub mod SideSteps
+pub mod KeepingSteps
+pub mod Counting
 mod Causing

@@ -24,12 +24,15 @@ use Rattle.dump_diff.specs.declared.difference.Mark.{Mark}
 use Rattle.dump_diff.specs.declared.difference.Mark.TheVariants.{Removed, Added, Kind, Bytes, Attributes}
 use Rattle.dump_diff.specs.declared.difference.Side.TheVariants.{First, Second, Both}
 use Rattle.dump_diff.specs.declared.difference.Side.{Side}
-use Rattle.dump_diff.specs.Ahead.{IsAhead, IsAfter, HasMerged, IsMerged, IsBetween, AreFound}
+use Rattle.dump_diff.specs.Ahead.{AreMerged, IsAhead, IsAfter, HasMerged, IsMerged, IsBetween, AreFound}
 use Rattle.dump_diff.specs.Differences.{marks_of, AreBoth, AreOfOtherKinds, HaveOtherBytes, HaveOtherAttributes, Tells}
 use Rattle.dump_diff.specs.Places.{place_cmp, writes, sets}
 use Rattle.dump_diff.specs.Shown.{AreShown, AreBefore, AreUpTo, Notes, AreApart, begins, ShowKinds, ShowBytes}
 use Rattle.dump_diff.specs.Shown.{ShowAttributes, Shows, own, places_of}
-use Rattle.dump_diff.specs.Scripts.{AttributePlace, attribute_cmp, sides_of}
+use Rattle.dump_diff.specs.Scripts.{AttributePlace, attribute_cmp, sides_of, AreRising}
+use Rattle.dump_diff.specs.declared.keeping.Keeping.{Keeping}
+use Rattle.dump_diff.specs.Keeping.{KeepsNone, KeepsStep, KeepsAdditions}
+use Rattle.dump_diff.proofs.KeepingSteps.{keeps_none, keeps_noted, keeps_more}
 use Rattle.dump_diff.specs.Sides.{FitsMark, SidesShown, NotesAttribute, IsJudged, set_in}
 use Rattle.dump_diff.proofs.PlaceOrder.{place_total, tied_paths}
 use Rattle.dump_diff.proofs.DumpPlaces.{steps_at, own_dump, entry_some, begins_entry, node_part_entry, write_there}
@@ -124,7 +127,8 @@ pub first_taken : {came whole came' whole' : Tree → Type 0} (merge : Merge) (h
     → Notes First merge.first.step merge.second.step (found_marks merge) (marks_of found.paths.items)
     → NotesAttribute First merge.first.step (marks_of found.paths.items) merge.found.attributes.items
     found.attributes.items → IsAhead came' whole' head (after_step t merge.first.step)
-    → IsMerged (record { first = head; second = merge.second; found = found }) (after_step t merge.first.step) u
+    → IsMerged (record { first = head; second = merge.second; found = found; kept = merge.kept })
+    (after_step t merge.first.step) u
 first_taken merge head found t u ahead there lower merged notes noted later =
     let c : DumpStep = merge.first.step in
     let new : List (Path × Mark) = marks_of found.paths.items in
@@ -133,7 +137,13 @@ first_taken merge head found t u ahead there lower merged notes noted later =
     let adds = adds_noted merge.found.attributes.items found.attributes.items noted.known First c noted.noted_is in
     let one = marks_one (found_marks merge) new (step_path c)
     notes.mark (merged.shown).rising at.behind.marked notes.marked in
-    subst (λ (cs : List DumpStep). HasMerged (record { first = head; second = merge.second; found = found }) cs
+    subst (λ (cs : List DumpStep). HasMerged (record {
+      first = head;
+      second = merge.second;
+      found = found;
+      kept =
+          merge.kept;
+    }) cs
     (dump u)) (sym (ahead.there there).extends.dump_is) (record {
       shown = first_shows (dump t) (dump u) (found_marks merge) new c notes.mark merged.shown at.behind next
           notes.fits notes.marked;
@@ -147,20 +157,25 @@ first_taken merge head found t u ahead there lower merged notes noted later =
           (ahead_before merge.first head t ahead there later more);
       second = λ more. after_other (dump t) (dump u) merge.found found c at one.upto adds merge.second.step
           (merged.second more) (lower more);
+      kept = λ on. keeps_noted merge.found found notes.mark First c merge.kept (dump u) one noted
+          at.behind.second_before (merged.kept on);
     })
 
 -- ---- a step of the second
 
 pub second_taken : {came whole came' whole' : Tree → Type 0} (merge : Merge) (head : Head)
-    (found : Differences) (t u : Tree)
+    (found : Differences) (keeping : Keeping) (t u : Tree)
     → IsAhead came whole merge.second u → merge.second.is_there ≡ true
     → (merge.first.is_there ≡ true → place_cmp merge.second.step merge.first.step ≡ Less)
     → IsMerged merge t u
     → Notes Second merge.first.step merge.second.step (found_marks merge) (marks_of found.paths.items)
     → NotesAttribute Second merge.second.step (marks_of found.paths.items) merge.found.attributes.items
-    found.attributes.items → IsAhead came' whole' head (after_step u merge.second.step)
-    → IsMerged (record { first = merge.first; second = head; found = found }) t (after_step u merge.second.step)
-second_taken merge head found t u ahead there lower merged notes noted later =
+    found.attributes.items → keeping.is_on ≡ merge.kept.is_on
+    → (AreRising found → merge.kept.is_on ≡ true → KeepsStep found merge.second.step merge.kept keeping)
+    → IsAhead came' whole' head (after_step u merge.second.step)
+    → IsMerged (record { first = merge.first; second = head; found = found; kept = keeping }) t
+    (after_step u merge.second.step)
+second_taken merge head found keeping t u ahead there lower merged notes noted same keeps later =
     let d : DumpStep = merge.second.step in
     let new : List (Path × Mark) = marks_of found.paths.items in
     let at = merged.second there in
@@ -169,7 +184,9 @@ second_taken merge head found t u ahead there lower merged notes noted later =
     let adds = adds_noted merge.found.attributes.items found.attributes.items noted.known Second d noted.noted_is in
     let one = marks_one (found_marks merge) new (step_path d)
     notes.mark (merged.shown).rising at.behind.marked notes.marked in
-    subst (HasMerged (record { first = merge.first; second = head; found = found }) (dump t))
+    let rise = places_rise_more merge.found.attributes.items found.attributes.items d adds at.after merged.places_rise
+    in
+    subst (HasMerged (record { first = merge.first; second = head; found = found; kept = keeping }) (dump t))
     (sym (ahead.there there).extends.dump_is) (record {
       shown = second_shows (dump t) (dump u) (found_marks merge) new d notes.mark merged.shown at.behind next
           notes.fits notes.marked;
@@ -177,14 +194,18 @@ second_taken merge head found t u ahead there lower merged notes noted later =
           (sides_marked (dump t) (dump u) (found_marks merge) new (sides_of merge.found.attributes.items)
           (step_path d) notes.mark merged.shown one merged.sides)
           (noted_after (dump t) (dump u) merge.found found Second d at noted);
-      places_rise = places_rise_more merge.found.attributes.items found.attributes.items d adds at.after
-          merged.places_rise;
+      places_rise = rise;
       first = λ more. after_swapped (dump u ++ d ∷ []) (dump t) found merge.first.step
           (after_other (dump u) (dump t) merge.found found d back one.upto adds merge.first.step
           (after_swapped (dump t) (dump u) merge.found merge.first.step (merged.first more)) (lower more));
       second = λ more. after_swapped (dump u ++ d ∷ []) (dump t) found head.step
           (after_next (dump u) (dump t) merge.found found d back one.upto adds head.step
           (ahead_before merge.second head u ahead there later more));
+      kept = λ on. keeps_more found d merge.kept keeping (dump u)
+          (keeps (record { paths = one.rising; attributes = attributes_rise found.attributes.items rise })
+          (sym same ∙ on)) at.behind.second_before
+          (keeps_noted merge.found found notes.mark Second d merge.kept (dump u) one noted at.behind.second_before
+          (merged.kept (sym same ∙ on)));
     })
 
 -- ---- one of each
@@ -195,6 +216,7 @@ record BothShown (cs ds : List DumpStep) (old new : Differences) (c d : DumpStep
   upto : AreUpTo (marks_of new.paths.items) (step_path c)
   sides : SidesShown (cs ++ c ∷ []) (ds ++ d ∷ []) (marks_of new.paths.items) (sides_of new.attributes.items)
   adds : AddsAttribute old.attributes.items new.attributes.items c
+  keeps : (k : Keeping) → KeepsAdditions old k ds → KeepsAdditions new k ds
 
 both_shown : (merge : Merge) (found : Differences) (t u : Tree) → IsMerged merge t u
     → IsJudged merge.first.step merge.second.step merge.found found
@@ -215,6 +237,7 @@ both_shown merge found t u merged (inl (same, is)) there also tied next next' =
           (same_sides (dump t) (dump u) (found_marks merge) merge.found.attributes.items c
           merged.sides (stands (dump t) c at.behind.first_before) (stands (dump u) c at.behind.second_before) at.after);
       adds = Same refl;
+      keeps = λ k is. is;
     })
 both_shown merge found t u merged (inr (other, notes, noted)) there also tied next next' =
     let c : DumpStep = merge.first.step in
@@ -234,21 +257,25 @@ both_shown merge found t u merged (inr (other, notes, noted)) there also tied ne
           (noted_after (dump t) (dump u) merge.found found Both c at noted)
           (stands (dump u) d at'.behind.second_before) tied other;
       adds = adds_noted merge.found.attributes.items found.attributes.items noted.known Both c noted.noted_is;
+      keeps = λ k is. keeps_noted merge.found found notes.mark Both c k (dump u) one noted
+          at.behind.second_before is;
     }
 
 pub both_taken : {came whole came' whole' after done after' done' : Tree → Type 0} (merge : Merge) (head head' : Head)
-    (found : Differences) (t u : Tree) → IsBetween came whole came' whole' merge t u
+    (found : Differences) (keeping : Keeping) (t u : Tree) → IsBetween came whole came' whole' merge t u
+    → keeping.is_on ≡ merge.kept.is_on
+    → (AreRising found → merge.kept.is_on ≡ true → KeepsStep found merge.second.step merge.kept keeping)
     → IsJudged merge.first.step merge.second.step merge.found found
     → merge.first.is_there ≡ true → merge.second.is_there ≡ true
     → place_cmp merge.first.step merge.second.step ≡ Equal
     → IsAhead after done head (after_step t merge.first.step)
     → IsAhead after' done' head' (after_step u merge.second.step)
-    → IsBetween after done after' done' (record { first = head; second = head'; found = found })
+    → IsBetween after done after' done' (record { first = head; second = head'; found = found; kept = keeping })
     (after_step t merge.first.step) (after_step u merge.second.step)
-both_taken merge head head' found t u between judged there also tied later later' =
+both_taken merge head head' found keeping t u between same keeps judged there also tied later later' =
     let c : DumpStep = merge.first.step in
     let d : DumpStep = merge.second.step in
-    let merge' : Merge = record { first = head; second = head'; found = found } in
+    let merge' : Merge = record { first = head; second = head'; found = found; kept = keeping } in
     let merged = between.merged in
     let ahead = between.first in
     let ahead' = between.second in
@@ -256,6 +283,8 @@ both_taken merge head head' found t u between judged there also tied later later
     (ahead_step merge.first t ahead there) (ahead_step merge.second u ahead' also) in
     let at = merged.first there in
     let back = after_swapped (dump t) (dump u) merge.found d (merged.second also) in
+    let rise = places_rise_more merge.found.attributes.items found.attributes.items c shown.adds at.after
+    merged.places_rise in
     record {
       first = later;
       second = later';
@@ -264,8 +293,7 @@ both_taken merge head head' found t u between judged there also tied later later
           (subst (HasMerged merge' (dump t ++ c ∷ [])) (sym (ahead'.there also).extends.dump_is) (record {
             shown = shown.shown;
             sides = shown.sides;
-            places_rise = places_rise_more merge.found.attributes.items found.attributes.items c shown.adds at.after
-                merged.places_rise;
+            places_rise = rise;
             first = λ more. after_both (dump t) (dump u) merge.found found c at shown.upto shown.adds d head.step tied
                 (ahead_before merge.first head t ahead there later more);
             second = λ more. after_swapped (dump u ++ d ∷ []) (dump t ++ c ∷ []) found head'.step
@@ -273,6 +301,12 @@ both_taken merge head head' found t u between judged there also tied later later
                 (subst (AreUpTo (marks_of found.paths.items)) (tied_paths c d tied) shown.upto)
                 (adds_tied merge.found.attributes.items found.attributes.items c d tied shown.adds) c head'.step
                 (tied_back place_total c d tied) (ahead_before merge.second head' u ahead' also later' more));
+            kept = λ on. keeps_more found d merge.kept keeping (dump u)
+                (keeps (record {
+                  paths = (shown.shown).rising;
+                  attributes = attributes_rise found.attributes.items rise;
+                }) (sym same ∙ on)) (merged.second also).behind.second_before
+                (shown.keeps merge.kept (merged.kept (sym same ∙ on)));
           }));
     }
 
@@ -413,11 +447,23 @@ all_found merge t u between none none' = record {
   };
 }
 
+pub all_merged : {came whole came' whole' : Tree → Type 0} (merge : Merge) (t u : Tree)
+    → IsBetween came whole came' whole' merge t u → merge.first.is_there ≡ false → merge.second.is_there ≡ false
+    → AreMerged whole whole' merge
+unfolding all_found
+all_merged merge t u between none none' = record {
+  trees = all_found merge t u between none none';
+  one_is = (between.first).is_tree;
+  other_is = (between.second).is_tree;
+  kept = (between.merged).kept;
+}
+
 -- ---- nothing came yet
 
-pub nothing_merged : (merge : Merge) → found_marks merge ≡ [] → merge.found.attributes.items ≡ [] → IsMerged merge [] []
+pub nothing_merged : (merge : Merge) (is_on : Bool) → found_marks merge ≡ [] → merge.found.attributes.items ≡ []
+    → KeepsNone merge.kept is_on → IsMerged merge [] []
 unfolding dump
-nothing_merged merge none no_attribute =
+nothing_merged merge is_on none no_attribute no_step =
     let after : (s : DumpStep) → IsAfter [] [] merge.found s = λ s. record {
       behind = record {
         first_before = tt;
@@ -437,4 +483,5 @@ nothing_merged merge none no_attribute =
           (sym no_attribute) (rising_nil place_cmp);
       first = λ there. after merge.first.step;
       second = λ there. after merge.second.step;
+      kept = λ on. keeps_none merge.found merge.kept is_on no_step;
     }

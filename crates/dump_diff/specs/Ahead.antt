@@ -10,7 +10,9 @@ use Rattle.dump_diff.specs.declared.heads.Head.{Head}
 use Rattle.dump_diff.specs.declared.comparing.Merge.{Merge}
 use Rattle.dump_diff.specs.declared.differences.Differences.{Differences}
 use Rattle.std.specs.List.Sorted.{IsStrictlySortedBy}
-use Rattle.dump_diff.specs.Scripts.{sides_of}
+use Rattle.std.specs.List.{filter}
+use Rattle.dump_diff.specs.Scripts.{is_addition, sides_of}
+use Rattle.dump_diff.specs.Keeping.{KeepsAdditions}
 use Rattle.dump_diff.specs.declared.difference.Side.{Side}
 use Rattle.dump_diff.specs.declared.difference.Side.TheVariants.{First, Second, Both}
 use Rattle.dump_diff.specs.Differences.{AreDifferences, marks_of}
@@ -41,6 +43,7 @@ pub record HasMerged (merge : Merge) (cs ds : List DumpStep) : Type 0 where
   pub places_rise : IsStrictlySortedBy place_cmp (places_of merge.found.attributes.items)
   pub first : merge.first.is_there ≡ true → IsAfter cs ds merge.found merge.first.step
   pub second : merge.second.is_there ≡ true → IsAfter cs ds merge.found merge.second.step
+  pub kept : merge.kept.is_on ≡ true → KeepsAdditions merge.found merge.kept ds
 
 -- these are the dumps of two trees
 abbrev pub IsMerged : Merge → Tree → Tree → Type 0
@@ -68,6 +71,20 @@ pub record AreFound (whole whole' : Tree → Type 0) (found : Differences) : Typ
   pub second : whole' other
   pub differences : AreDifferences one other (marks_of found.paths.items)
   pub attributes : AreAttributeDifferences one other (marks_of found.paths.items) (sides_of found.attributes.items)
+
+-- and what is kept then, where anything is
+pub record AreMerged (whole whole' : Tree → Type 0) (merge : Merge) : Type 0 where
+  pub trees : AreFound whole whole' merge.found
+  pub one_is : IsTree trees.one
+  pub other_is : IsTree trees.other
+  pub kept : merge.kept.is_on ≡ true → KeepsAdditions merge.found merge.kept (dump trees.other)
+
+-- what two whole dumps differ in, and the steps of the second that are additions
+pub record AreFoundWith (whole whole' : Tree → Type 0) (found : Differences) (additions : List DumpStep) : Type 0 where
+  pub trees : AreFound whole whole' found
+  pub one_is : IsTree trees.one
+  pub other_is : IsTree trees.other
+  pub kept : additions ≡ filter (is_addition found) (dump trees.other)
 
 -- the step whose place is the lower one: that of one stream, or those of both
 abbrev pub IsSideOf : Merge → Option Side → Type 0

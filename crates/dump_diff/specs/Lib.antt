@@ -5,3 +5,6 @@ pub mod Sides
 pub mod Ahead
 pub mod Causes
 pub mod Scripts
+pub mod Kept
+pub mod Keeping
+pub mod Gains

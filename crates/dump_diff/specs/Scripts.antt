@@ -10,8 +10,8 @@ use Rattle.store_model.specs.Commands.{Command, command_text, line}
 use Rattle.store_model.specs.Commands.Command.{Cut, Prune, UnsetAttribute}
 use Rattle.dump_streams.specs.Dumps.{DumpStep, steps_text}
 use Rattle.dump_streams.specs.Dumps.DumpStep.{Make, Write, Set}
-use Rattle.script_lines.specs.declared.command.Command as declared
-use Rattle.script_lines.specs.Parsing.{command_of}
+use Rattle.dump_diff.specs.declared.removal.Removal.{Removal}
+use Rattle.dump_diff.specs.declared.removal.Removal.TheVariants as removals
 use Rattle.script_lines.specs.SinkState.{SinkState, IsObservable, Puts}
 use Rattle.script_lines.specs.declared.fault.SinkFault.{SinkFault}
 use Rattle.dump_diff.specs.declared.difference.Mark.{Mark}
@@ -151,10 +151,16 @@ abbrev pub removal_commands : Differences → List Command
 removal_commands found = flat_map (cut_commands (marks_of found.paths.items)) found.paths.items
     ++ flat_map unset_commands found.attributes.items
 
--- the command that there is, if there is one
-abbrev pub commands_in : Option declared.Command → List Command
+-- what a removal does
+abbrev pub removal_command : Removal → Command
+removal_command (removals.Prune p) = Prune p
+removal_command (removals.Cut p) = Cut p 0
+removal_command (removals.Unset p a) = UnsetAttribute p a
+
+-- the command of the removal that there is, if there is one
+abbrev pub commands_in : Option Removal → List Command
 commands_in None = []
-commands_in (Some c) = command_of c ∷ []
+commands_in (Some r) = removal_command r ∷ []
 
 -- ---- what is printed
 

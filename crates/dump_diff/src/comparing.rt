@@ -8,13 +8,15 @@ ghost use Rattle.dump_streams.specs.Dumps.{after_step};
 ghost use Rattle.dump_diff.specs.Differences.{marks_of};
 ghost use Rattle.dump_diff.specs.Places.{place_cmp};
 ghost use Rattle.dump_diff.specs.Sides.{Judges};
-ghost use Rattle.dump_diff.specs.Ahead.{IsAhead, IsMerged, IsBetweenSome, AreFound, IsSideOf};
+ghost use Rattle.dump_diff.specs.Ahead.{IsAhead, IsMerged, IsBetweenSome, AreFound, AreFoundWith, AreMerged, IsSideOf};
 ghost use Rattle.dump_diff.specs.Causes.{NoneFails, FirstFails, SecondFails, OneFails, IsCause};
 
 use crate::difference::Side;
 use crate::differences::Differences;
 use crate::fault::CompareFault;
 use crate::heads::Head;
+use crate::keeping::Keeping;
+use crate::kept_step::KeptStep;
 use crate::order::{order, same};
 use dump_streams::DumpStream;
 use std::alloc::Global;
@@ -26,6 +28,7 @@ struct Merge {
     first: Head,
     second: Head,
     found: Differences,
+    kept: Keeping,
 }
 
 impl Merge {
@@ -57,6 +60,7 @@ impl Merge {
             → place_cmp self.old.first.step self.old.second.step
             ≡ Less }
         ensures second { self.new.second ≡ self.old.second }
+        ensures on { self.new.kept.is_on ≡ self.old.kept.is_on }
         ensures ahead { (t : Tree) → IsAhead (A.came first.old) (A.whole first.old) self.old.first t
             → OnOk result (IsAhead (A.came first.new)
             (A.whole first.new) self.new.first (after_step t self.old.first.step)) }
@@ -80,6 +84,7 @@ impl Merge {
             → place_cmp self.old.second.step self.old.first.step
             ≡ Less }
         ensures first { self.new.first ≡ self.old.first }
+        ensures on { self.new.kept.is_on ≡ self.old.kept.is_on }
         ensures ahead { (u : Tree)
             → IsAhead (B.came second.old) (B.whole second.old) self.old.second u
             → OnOk result (IsAhead (B.came second.new)
@@ -96,6 +101,7 @@ impl Merge {
     {
         self.found
             .note(Side::Second, &self.first.step, &self.second.step)?;
+        self.kept.keep(&self.found, &self.second.step)?;
         self.second.fetch(second).map_err(CompareFault::Second)
     }
 
@@ -103,6 +109,7 @@ impl Merge {
     fn judge(&mut self) -> Result<(), CompareFault>
         ensures first { self.new.first ≡ self.old.first }
         ensures second { self.new.second ≡ self.old.second }
+        ensures kept { self.new.kept ≡ self.old.kept }
         ensures judged { Judges self.old.first.step
             self.old.second.step self.old.found self.new.found result }
         ensures fault { IfErr result NoneFails }
@@ -125,6 +132,7 @@ impl Merge {
         requires second_there { self.old.second.is_there ≡ true }
         requires tied { place_cmp self.old.first.step
             self.old.second.step ≡ Equal }
+        ensures on { self.new.kept.is_on ≡ self.old.kept.is_on }
         ensures between { (count : ℕ)
             → IsBetweenSome (A.came first.old) (A.whole first.old) (B.came second.old)
             (B.whole second.old) self.old count
@@ -138,6 +146,7 @@ impl Merge {
         ensures keeps_second { (start : B) → B.keeps start second.old → B.keeps start second.new }
     {
         self.judge()?;
+        self.kept.keep(&self.found, &self.second.step)?;
         self.first.fetch(first).map_err(CompareFault::First)?;
         self.second.fetch(second).map_err(CompareFault::Second)
     }
@@ -148,6 +157,7 @@ impl Merge {
         first: &mut A,
         second: &mut B,
     ) -> Result<bool, CompareFault>
+        ensures on { self.new.kept.is_on ≡ self.old.kept.is_on }
         ensures more { (count : ℕ)
             → IsBetweenSome (A.came first.old) (A.whole first.old) (B.came second.old)
             (B.whole second.old) self.old count
@@ -163,7 +173,7 @@ impl Merge {
             → IsBetweenSome (A.came first.old) (A.whole first.old) (B.came second.old)
             (B.whole second.old) self.old count
             → IfOk result (λ more. OnFalse more
-            (AreFound (A.whole first.new) (B.whole second.new) self.new.found)) }
+            (AreMerged (A.whole first.new) (B.whole second.new) self.new)) }
         ensures keeps_first { (start : A) → A.keeps start first.old → A.keeps start first.new }
         ensures keeps_second { (start : B) → B.keeps start second.old → B.keeps start second.new }
     {
@@ -175,6 +185,38 @@ impl Merge {
         }
         Ok(true)
     }
+}
+
+/// Takes two streams to their ends.
+fn merge_all<A: DumpStream, B: DumpStream>(
+    alloc: Global,
+    first: &mut A,
+    second: &mut B,
+    keeps: bool,
+) -> Result<Merge, CompareFault>
+    ensures merged { A.came first.old empty_tree → B.came second.old empty_tree
+        → IfOk result (AreMerged (A.whole first.new) (B.whole second.new)) }
+    ensures on { IfOk result (λ merge. merge.kept.is_on ≡ keeps) }
+    ensures failed { A.came first.old empty_tree → B.came second.old empty_tree
+        → IfErr result (IsCause (A.came first.new) (A.whole first.new) (A.fails first.new)
+        (B.came second.new) (B.whole second.new) (B.fails second.new)) }
+    ensures keeps_first { (start : A) → A.keeps start first.old → A.keeps start first.new }
+    ensures keeps_second { (start : B) → B.keeps start second.old → B.keeps start second.new }
+{
+    let mut merge = Merge {
+        first: Head::new(),
+        second: Head::new(),
+        found: Differences::new(alloc),
+        kept: Keeping::new(alloc, keeps),
+    };
+    merge.first.fetch(first).map_err(CompareFault::First)?;
+    merge.second.fetch(second).map_err(CompareFault::Second)?;
+    for _ in 0..u64::MAX {
+        if !merge.step(first, second)? {
+            return Ok(merge);
+        }
+    }
+    Err(CompareFault::TooLong)
 }
 
 /// Finds the differences between the trees of two dumps. Nothing came yet of either stream.
@@ -194,17 +236,45 @@ pub fn compare<A: DumpStream, B: DumpStream>(
     ensures keeps_first { (start : A) → A.keeps start first.old → A.keeps start first.new }
     ensures keeps_second { (start : B) → B.keeps start second.old → B.keeps start second.new }
 {
-    let mut merge = Merge {
-        first: Head::new(),
-        second: Head::new(),
-        found: Differences::new(alloc),
-    };
-    merge.first.fetch(first).map_err(CompareFault::First)?;
-    merge.second.fetch(second).map_err(CompareFault::Second)?;
-    for _ in 0..u64::MAX {
-        if !merge.step(first, second)? {
-            return Ok(merge.found);
-        }
-    }
-    Err(CompareFault::TooLong)
+    let merge = merge_all(alloc, first, second, false)?;
+    Ok(merge.found)
+}
+
+/// What is found of two trees, and kept of the second.
+#[derive(Drop)]
+pub struct Compared {
+    /// How they differ.
+    pub found: Differences,
+    /// The steps of the second dump that make or write what the first tree has not, or has otherwise.
+    pub additions: Vec<KeptStep>,
+}
+
+/// Finds the differences as `compare` does, and keeps those steps of the second dump that make or write what the first
+/// tree has not, or has otherwise. So one walk over both tells all that leads from the first tree to the second. Beside
+/// the steps that it keeps it holds those of one path of the second tree.
+///
+/// The faults are those of `compare`. `NoMemory`: there was none for the differences or for the steps.
+pub fn compare_keeping<A: DumpStream, B: DumpStream>(
+    alloc: Global,
+    first: &mut A,
+    second: &mut B,
+) -> Result<Compared, CompareFault>
+    ensures found { A.came first.old empty_tree → B.came second.old empty_tree
+        → IfOk result (λ compared. AreFoundWith (A.whole first.new) (B.whole second.new)
+        compared.found compared.additions.items) }
+    ensures failed { A.came first.old empty_tree → B.came second.old empty_tree
+        → IfErr result (IsCause (A.came first.new) (A.whole first.new) (A.fails first.new)
+        (B.came second.new) (B.whole second.new) (B.fails second.new)) }
+    ensures keeps_first { (start : A) → A.keeps start first.old → A.keeps start first.new }
+    ensures keeps_second { (start : B) → B.keeps start second.old → B.keeps start second.new }
+{
+    let merge = merge_all(alloc, first, second, true)?;
+    let Merge {
+        first: _,
+        second: _,
+        found,
+        kept,
+    } = merge;
+    let additions = kept.finish(&found)?;
+    Ok(Compared { found, additions })
 }

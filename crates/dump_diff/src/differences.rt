@@ -2,15 +2,19 @@
 
 ghost use Rattle.std.specs.Prelude.{◌≡◌, ◌↔◌, ◌∷◌, [], IsTrue, OnOk, true, false, length};
 ghost use Rattle.std.specs.FinMap.{find, is_sorted};
+ghost use Rattle.std.specs.List.{filter};
 ghost use Rattle.std.specs.List.Sorted.{IsSearchInRange};
 ghost use Rattle.store_model.specs.Paths.{path_cmp};
 ghost use Rattle.dump_diff.specs.Differences.{marks_of};
 ghost use Rattle.dump_diff.specs.Scripts.{IsAttributePlace, IsPathPlace, attribute_cmp, sides_of};
+ghost use Rattle.dump_diff.specs.Gains as gains;
+ghost use Rattle.dump_diff.specs.Gains.{changes_by, changes_path, has_path};
 ghost use Rattle.dump_diff.specs.Places.{is_first};
 ghost use Rattle.dump_diff.specs.Sides.{IsAttributeNoted, with_attribute};
 ghost use Rattle.dump_diff.specs.Shown.{FitsSide, IsLastMark, IsNoted, Marks, change_of, change_of_two, noted};
 
 use crate::difference::{AttributeDifference, Difference, Mark, Side};
+use crate::losses::Losses;
 use dump_streams::{DumpStep, Step};
 use path_keys::{AttrName, Path};
 use std::alloc::Global;
@@ -79,6 +83,32 @@ impl Differences {
             Ok(at) => Some(self.attributes[at].side),
             Err(_) => None,
         }
+    }
+
+    /// Leaves out what the first tree alone has, its paths and its attributes, but for the losses that count: what is
+    /// left is what changes where the second tree is laid over the first, and these go.
+    pub fn leave_losses(&mut self, losses: &Losses)
+        ensures attributes { sides_of self.new.attributes.items
+            ≡ filter (gains.counts (gains.takes losses.now)) (sides_of self.old.attributes.items) }
+        ensures paths { IsTrue (is_sorted attribute_cmp (sides_of self.old.attributes.items))
+            → marks_of self.new.paths.items ≡ filter
+            (changes_path losses.now.paths (gains.takes losses.now) (sides_of self.old.attributes.items))
+            (marks_of self.old.paths.items) }
+    {
+        self.attributes.retain(
+            |attribute: &AttributeDifference| -> bool
+                ensures { result
+                    ≡ gains.counts_by (gains.takes losses.entry.now attribute.now.name) attribute.now.side }
+            { counts(losses, attribute) },
+        );
+        let attributes = self.attributes.as_slice();
+        self.paths.retain(
+            |difference: &Difference| -> bool
+                ensures { IsTrue (is_sorted attribute_cmp (sides_of attributes.entry.now))
+                    → result ≡ changes_by losses.entry.now.paths difference.now.mark
+                    (has_path attributes.entry.now difference.now.path) }
+            { changes_path_of(losses, attributes, difference) },
+        );
     }
 
     /// Notes that a step stands in one of the dumps alone, or that the dumps have other steps at one place. The
@@ -153,6 +183,46 @@ impl Differences {
         }
         Ok(())
     }
+}
+
+/// Whether an attribute counts that differs.
+fn counts(losses: &Losses, attribute: &AttributeDifference) -> bool
+    ensures { result ≡ gains.counts_by (gains.takes losses.now attribute.now.name) attribute.now.side }
+{
+    match attribute.side {
+        Side::First => losses.takes(&attribute.name),
+        Side::Second | Side::Both => true,
+    }
+}
+
+/// Whether a path counts, where these attributes do.
+fn changes_path_of(
+    losses: &Losses,
+    attributes: &[AttributeDifference],
+    difference: &Difference,
+) -> bool
+    ensures { IsTrue (is_sorted attribute_cmp (sides_of attributes.now))
+        → result ≡ changes_by losses.now.paths difference.now.mark (has_path attributes.now difference.now.path) }
+{
+    match difference.mark {
+        Mark::Removed => losses.paths,
+        Mark::Added | Mark::Kind | Mark::Bytes => true,
+        Mark::Attributes => has_path_of(attributes, &difference.path),
+    }
+}
+
+/// Whether one of these attributes, which rise, is of the path.
+fn has_path_of(attributes: &[AttributeDifference], path: &Path) -> bool
+    ensures { IsTrue (is_sorted attribute_cmp (sides_of attributes.now))
+        → result ≡ has_path attributes.now path.now }
+{
+    attributes
+        .binary_search_by(
+            |attribute: &AttributeDifference| -> Ordering
+                ensures { result ≡ path_cmp attribute.now.path path.entry.now }
+            { attribute.path.cmp(path) },
+        )
+        .is_ok()
 }
 
 /// The place of a path among differences that rise; as the error where it would stand.

@@ -13,9 +13,11 @@ ghost use Rattle.dump_diff.specs.Scripts.{AreRising, TakesAddition, TookAddition
 
 use crate::difference::{AttributeDifference, Difference, Mark, Side};
 use crate::differences::Differences;
+use crate::kept_step::{KeptPart, KeptStep};
+use crate::removal::Removal;
 use dump_streams::{DumpStep, Step, Taker, TakerFault, write_step};
 use path_keys::Path;
-use script_lines::{Command, Sink, SinkFault, write_command};
+use script_lines::{Sink, SinkFault, write_command};
 
 /// Writes the first part of the script: the lines that take away what the second tree has not, and cut what it has
 /// otherwise. These are `prune` for each path that is gone or has another kind, unless its parent is pruned; `cut` to
@@ -52,31 +54,31 @@ fn write_unsets<W: Sink>(attributes: &[AttributeDifference], sink: &mut W) -> Re
     Ok(())
 }
 
-/// Writes the line of a command, if there is one.
-fn write_if<W: Sink>(command: &Option<Command>, sink: &mut W) -> Result<(), SinkFault>
+/// Writes the line of a removal, if there is one.
+fn write_if<W: Sink>(removal: &Option<Removal>, sink: &mut W) -> Result<(), SinkFault>
     ensures { Puts (W.state sink.old) (W.state sink.new)
-        (commands_text (model.commands_in command.now)) result }
+        (commands_text (model.commands_in removal.now)) result }
 {
-    match command {
-        Some(command) => write_command(sink, command),
+    match removal {
+        Some(removal) => write_command(sink, &removal.change().command()),
         None => Ok(()),
     }
 }
 
-/// The command that prunes or cuts what stands at a path, if it is to be pruned or cut.
-fn cut_of(found: &Differences, difference: &Difference) -> Option<Command>
+/// What prunes or cuts what stands at a path, if it is to be pruned or cut.
+pub(crate) fn cut_of(found: &Differences, difference: &Difference) -> Option<Removal>
     ensures { AreRising found.now → model.commands_in result
         ≡ model.cut_commands (marks_of found.now.paths.items) difference.now }
 {
     match difference.mark {
         Mark::Removed | Mark::Kind => prune_of(found, &difference.path),
-        Mark::Bytes => Some(Command::Cut(difference.path, 0)),
+        Mark::Bytes => Some(Removal::Cut(difference.path)),
         Mark::Added | Mark::Attributes => None,
     }
 }
 
-/// The command that prunes a path, unless its parent is pruned.
-fn prune_of(found: &Differences, path: &Path) -> Option<Command>
+/// What prunes a path, unless its parent is pruned.
+fn prune_of(found: &Differences, path: &Path) -> Option<Removal>
     ensures { AreRising found.now → model.commands_in result
         ≡ model.cut_of
         (model.is_pruned (find path_cmp (parent path.now) (marks_of found.now.paths.items)))
@@ -86,7 +88,7 @@ fn prune_of(found: &Differences, path: &Path) -> Option<Command>
     if is_pruned(found.mark_at(&above)) {
         return None;
     }
-    Some(Command::Prune(*path))
+    Some(Removal::Prune(*path))
 }
 
 /// Whether what stands at a path is pruned.
@@ -96,12 +98,12 @@ fn is_pruned(mark: Option<Mark>) -> bool
     matches!(mark, Some(Mark::Removed | Mark::Kind))
 }
 
-/// The command that takes an attribute away, if it is gone or has other bytes.
-fn unset_of(attribute: &AttributeDifference) -> Option<Command>
+/// What takes an attribute away, if it is gone or has other bytes.
+pub(crate) fn unset_of(attribute: &AttributeDifference) -> Option<Removal>
     ensures { model.commands_in result ≡ model.unset_commands attribute.now }
 {
     match attribute.side {
-        Side::First | Side::Both => Some(Command::Unset(attribute.path, attribute.name)),
+        Side::First | Side::Both => Some(Removal::Unset(attribute.path, attribute.name)),
         Side::Second => None,
     }
 }
@@ -169,6 +171,18 @@ fn is_addition(found: &Differences, step: &DumpStep) -> bool
         Step::Write(path, _, _) => is_written(found.mark_at(path)),
         Step::Set(path, name, _) => is_made(found.mark_at(path))
             || is_set(found.side_of(path, name)),
+    }
+}
+
+/// The same for a step that is kept.
+pub(crate) fn is_kept_addition(found: &Differences, step: &KeptStep) -> bool
+    ensures { AreRising found.now → result ≡ model.is_addition found.now step.now }
+{
+    let mark = found.mark_at(step.path());
+    match step.part() {
+        KeptPart::Make => is_made(mark),
+        KeptPart::Write(_, _) => is_written(mark),
+        KeptPart::Set(name, _) => is_made(mark) || is_set(found.side_of(step.path(), name)),
     }
 }
 

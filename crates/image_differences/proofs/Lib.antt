@@ -7,3 +7,4 @@ mod Comparing
 mod TimeSteps
 mod StoreTimes
 mod ViewedSides
+mod PlanSides

@@ -3,3 +3,4 @@ pub mod Images
 pub mod Timing
 pub mod Told
 pub mod Folders
+pub mod Planning

@@ -186,7 +186,7 @@ fn views_fault(
 }
 
 /// Why a folder did not tell its tree whose stream ended so at the entry of this path.
-fn tree_fault(cause: StreamFault, at: Option<Path>) -> FolderReadFault
+pub(crate) fn tree_fault(cause: StreamFault, at: Option<Path>) -> FolderReadFault
     ensures { result ≡ told.tree_fault cause at }
 {
     match cause {

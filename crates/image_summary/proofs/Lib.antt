@@ -1,2 +1,2 @@
 mod Zeros
-mod Sums
+pub mod Sums

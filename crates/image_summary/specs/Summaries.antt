@@ -41,12 +41,16 @@ IsUnread old new faults.Disk = IsObservable old → Rose old.faults new.faults
 
 -- A disk was summed up, and only read, whatever ended it.
 pub record Summarizes (old new : DiskState) (result : Result Summary SummaryFault) : Type 0 where
+  pub size : new.size ≡ old.size
+  pub observable : new.is_observable ≡ old.is_observable
   pub untouched : IsObservable old → IsUntouched old new
   pub found : IfOk result (IsSummary old)
   pub unread : IfErr result (IsUnread old new)
 
 -- The image that recovery would leave was digested, and the disk was only read.
 pub record Digests (p : Parameters) (old new : DiskState) (result : Result (List ℕ) DiskFault) : Type 0 where
+  pub size : new.size ≡ old.size
+  pub observable : new.is_observable ≡ old.is_observable
   pub untouched : IsObservable old → IsUntouched old new
   pub digest : IsObservable old → IfOk result (λ digest. digest ≡ sha256 (recovered p.slots old.bytes))
   pub failed : IsObservable old → IfErr result (λ fault. Rose old.faults new.faults)

@@ -13,7 +13,7 @@ use store_model::BLOCK;
 /// Whether all bytes between the header and the table of an image with these parameters are zero. They are read in
 /// order, block by block, up to the first that is not.
 /// `DiskFault`: a read failed, and no other call was made after it.
-pub(crate) fn has_empty_journal<D: Disk>(disk: &mut D, params: &Params) -> Result<bool, DiskFault>
+pub fn has_empty_journal<D: Disk>(disk: &mut D, params: &Params) -> Result<bool, DiskFault>
     requires { (D.state disk.old).size ≡ image_len params.now.slots }
     ensures calls { AreCalls (D.state disk.old) (D.state disk.new) result }
     ensures reads { IsObservable (D.state disk.old)

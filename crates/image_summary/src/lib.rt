@@ -8,4 +8,5 @@
 mod journal;
 mod summary;
 
+pub use journal::has_empty_journal;
 pub use summary::{Summary, SummaryFault, sum_up};

@@ -1,4 +1,4 @@
-use Rattle.std.proofs.Common.{List, sym, ap, subst}
+use Rattle.std.proofs.Common.{List, [], ◌∷◌, sym, ap, subst, ◌∙◌}
 use Rattle.store_model.specs.Commands.{Command}
 use Rattle.script_lines.specs.Parsing.{command_of}
 use Rattle.script_lines.specs.SinkState.{Puts}
@@ -10,9 +10,10 @@ pub returns-in-Some : goal.returns-in-Some
 returns-in-Some g c =
     let st = g.W.Sink.state in
     subst (λ (cs : List Command). Puts (st c.args.sink.now) (st c.write_command.new.sink)
-    (commands_text cs) c.write_command.result) (sym (ap commands_in c.in-Some.is))
+    (commands_text cs) c.write_command.result)
+    (ap (λ (d : Command). d ∷ []) (c.command.ensures ∙ c.change.ensures) ∙ sym (ap commands_in c.in-Some.is))
     (puts_command (st c.args.sink.now) (st c.write_command.new.sink)
-    (command_of c.in-Some.command) c.write_command.result c.write_command.ensures)
+    (command_of c.command.result) c.write_command.result c.write_command.ensures)
 
 pub returns-in-None : goal.returns-in-None
 returns-in-None g c =

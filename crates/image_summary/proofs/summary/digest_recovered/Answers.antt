@@ -2,6 +2,7 @@ use Rattle.std.proofs.Common.{◌≡◌, ℕ, List, IfOk, IfErr, Result, Ok, Err
 use Rattle.sha2.specs.Sha256.{sha256}
 use Rattle.store_base.specs.Counts.{Rose, raised, raised_by, faults_after}
 use Rattle.store_base.specs.declared.fault.DiskFault.{DiskFault}
+use Rattle.store_model.specs.Parameters.{image_len}
 use Rattle.disk_model.specs.DiskState.{IsObservable}
 use Rattle.gate_journal.specs.ViewState.{viewed}
 use Rattle.recovered_store.specs.SlotsDisks.{disk_state}
@@ -35,6 +36,10 @@ returns g c =
     let seen_new = λ (seen : IsObservable old). ap (λ d. (state d).is_observable) c.into_below.ensures.disk
     ∙ c.digest-digest.ensures.calls.observable ∙ seen_first seen in
     record {
+      size = ap (λ d. (state d).size) c.into_below.ensures.disk ∙ last.slots.sized ∙ ap image_len last.counted
+          ∙ c.digest-digest.ensures.calls.size ∙ c.recovered_disk-recovered.ensures.size;
+      observable = ap (λ d. (state d).is_observable) c.into_below.ensures.disk
+          ∙ c.digest-digest.ensures.calls.observable ∙ c.recovered_disk-recovered.ensures.observable;
       untouched = λ seen. untouched old new now (g.met.D.Disk.sound c.args.disk seen)
           (g.met.D.Disk.sound c.into_below.result (seen_new seen)) (c.into_below.ensures.over (seen_new seen))
           (λ none. none (over_reads old was now (c.recovered_disk-recovered.ensures.over seen)

@@ -23,6 +23,10 @@ returns-in-Ok-digest g c =
     let first = λ (seen : IsObservable old). c.find_image-disk.ensures.reads.reads seen in
     let second = λ (seen : IsObservable old). c.has_empty_journal.ensures.reads (seen_mid seen) in
     record {
+      size = c.digest_recovered-disk.ensures.size ∙ c.has_empty_journal.ensures.calls.size
+          ∙ c.find_image-disk.ensures.reads.size;
+      observable = c.digest_recovered-disk.ensures.observable ∙ c.has_empty_journal.ensures.calls.observable
+          ∙ c.find_image-disk.ensures.reads.observable;
       untouched = λ seen. untouched_then old then new
           (untouched_by_reads old then (ReadsOnly-trans old mid then (first seen) (second seen)))
           (c.digest_recovered-disk.ensures.untouched (seen_then seen));

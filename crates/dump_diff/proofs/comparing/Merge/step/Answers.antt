@@ -4,12 +4,12 @@ use Rattle.dump_diff.specs.declared.heads.Head.{Head}
 use Rattle.dump_diff.specs.Ahead.{IsAhead}
 use Rattle.dump_diff.specs.Causes.{OneFails}
 use Rattle.dump_diff.proofs.Causing.{one_more, blamed, err_so}
-use Rattle.dump_diff.proofs.Merging.{all_found}
+use Rattle.dump_diff.proofs.Merging.{all_merged}
 use Rattle.dump_diff.proofs.comparing.Merge.step.Goals as goal
 
 pub returns-in-None-clause-whole : goal.returns-in-None-clause-whole
 returns-in-None-clause-whole g c count some = let none = c.in-None.ensures
-    in all_found c.args.self.now some.one some.other some.between none.0 none.1
+    in all_merged c.args.self.now some.one some.other some.between none.0 none.1
 
 pub returns-in_ok-take_first-in-Some-First-clause-more : goal.returns-in_ok-take_first-in-Some-First-clause-more
 returns-in_ok-take_first-in-Some-First-clause-more g c count some =

@@ -1,6 +1,9 @@
-use Rattle.std.proofs.Common.{arith}
+use Rattle.std.proofs.Common.{◌≡◌, arith, ap, ◌∙◌, subst}
+use Rattle.dump_diff.specs.declared.heads.Head.{Head}
+use Rattle.dump_diff.specs.declared.keeping.Keeping.{Keeping}
 use Rattle.std.proofs.lemmas.Result.{IfOk-at_ok, on_ok_weaker}
 use Rattle.dump_streams.specs.Dumps.{after_step}
+use Rattle.dump_diff.specs.Keeping.{KeepsStep}
 use Rattle.dump_diff.specs.Causes.{OneFails}
 use Rattle.dump_diff.proofs.Causing.{one_more, blamed, err_so}
 use Rattle.dump_diff.proofs.Merging.{on_ok_like, both_taken}
@@ -15,6 +18,8 @@ returns-clause-between g c count some =
     let at' = (between.second).there c.requires.second_there in
     let behind = ((between.merged).first c.requires.first_there).behind in
     let judged = c.in_ok-judge.ensures.judged ((between.merged).shown).rising behind.marked in
+    let kept : c.judge.new.self.kept ≡ c.args.self.now.kept = c.judge.ensures.kept in
+    let same = c.keep.ensures.on ∙ ap (λ (k : Keeping). k.is_on) kept in
     let fetched = c.fetch.ensures.ahead (after_step some.one one) (at.extends).is_tree at.came_now in
     let later = IfOk-at_ok _ c.in_ok-map_err.was
     (on_ok_like _ c.fetch.result c.map_err.result c.map_err.ensures.variant fetched) in
@@ -23,8 +28,14 @@ returns-clause-between g c count some =
     (λ later'. record {
       one = after_step some.one one;
       other = after_step some.other other;
-      between = both_taken c.args.self.now c.fetch.new.self c.fetch-2.new.self c.judge.new.self.found some.one
-          some.other between judged c.requires.first_there c.requires.second_there c.requires.tied later later';
+      between = both_taken c.args.self.now c.fetch.new.self c.fetch-2.new.self c.judge.new.self.found c.keep.new.self
+          some.one
+          some.other between same
+          (λ rising on. subst (λ (h : Head). KeepsStep c.judge.new.self.found h.step c.args.self.now.kept
+          c.keep.new.self) c.judge.ensures.second
+          (subst (λ (k : Keeping). KeepsStep c.judge.new.self.found c.judge.new.self.second.step k c.keep.new.self) kept
+          (c.in_ok-keep.ensures.kept rising (ap (λ (k : Keeping). k.is_on) kept
+          ∙ on)))) judged c.requires.first_there c.requires.second_there c.requires.tied later later';
       many =
           let more = one_more some.one one (at.extends).dump_is in
           let more' = one_more some.other other (at'.extends).dump_is in

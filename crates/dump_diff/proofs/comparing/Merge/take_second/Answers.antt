@@ -13,8 +13,9 @@ returns-clause-merged g c t u ahead merged =
     let notes = c.in_ok-note.ensures.marks (merged.shown).rising behind.marked in
     let noted = c.in_ok-note.ensures.attributes (merged.shown).rising behind.marked in
     on_ok_like _ c.fetch.result c.map_err.result c.map_err.ensures.variant
-    (on_ok_weaker c.fetch.result (λ later. second_taken c.args.self.now c.fetch.new.self c.note.new.self t u ahead
-    c.requires.there c.requires.lower merged notes noted later)
+    (on_ok_weaker c.fetch.result (λ later. second_taken c.args.self.now c.fetch.new.self c.note.new.self
+    c.keep.new.self t u ahead c.requires.there c.requires.lower merged notes noted c.keep.ensures.on
+    (λ rising on. c.in_ok-keep.ensures.kept rising on) later)
     (c.fetch.ensures.ahead (after_step u c.args.self.now.second.step) (at.extends).is_tree at.came_now))
 
 pub returns-in_err-note-clause-failed : goal.returns-in_err-note-clause-failed

@@ -1,0 +1,2 @@
+pub mod PlannedChanges
+pub mod Carrying

@@ -1,0 +1,4 @@
+pub mod Leading
+pub mod Syncing
+pub mod Taken
+pub mod Plans
