@@ -1,7 +1,6 @@
 pub mod LineLemmas
 pub mod PairLemmas
 pub mod RequestLemmas
-pub mod SeedLemmas
 pub mod SingleWords
 pub mod Subcommands
 pub mod TakenLines

@@ -1,16 +1,16 @@
 //! What a command line asks for, by the texts of its words.
 
-ghost use Rattle.std.specs.Prelude.{◌≡◌, ◌≤◌, ◌∷◌, [], IfSome, map};
+ghost use Rattle.std.specs.Prelude.{◌≡◌, ◌∷◌, [], map};
 ghost use Rattle.std.specs.Option.{option_map};
 ghost use Rattle.std.specs.String.{string_bytes};
-ghost use Rattle.store_model.specs.Words.{kind_of_word, number_in, request_of, seed_of_word, version_of_word};
+ghost use Rattle.store_model.specs.Words.{request_of, version_of_word};
 ghost use Rattle.command_line.specs.Requests.{request_seen};
 
 use crate::line::{MAX_COMMANDS, single_request};
-use hex::FromHex;
 use script_lines::parse_number;
 use store_base::{MAX_HEIGHT, MAX_SLOTS, Params};
-use store_model::{DrawKind, Version};
+use store_model::Version;
+use word_values::{draw_kind, number_in, seed_of};
 
 /// What a command line asks for.
 #[derive(Clone, Copy, Debug)]
@@ -95,37 +95,4 @@ fn version_of(word: &str) -> Option<Version>
         "format2" => Some(Version::Two),
         _ => None,
     }
-}
-
-/// The number that a word spells, where it lies in the range.
-#[tactic(auto, unfolding(store_model::specs::Words::number_in))]
-fn number_in(low: u32, high: u32, word: &str) -> Option<u32>
-    ensures value { result ≡ number_in low high word.now }
-    ensures range { IfSome result (λ number. (low ≤ number) × (number ≤ high)) }
-{
-    let number = parse_number(word.as_bytes())?;
-    if low <= number && number <= high {
-        Some(number)
-    } else {
-        None
-    }
-}
-
-/// The draw that a word names.
-#[tactic(auto, unfolding(store_model::specs::Words::kind_of_word))]
-fn draw_kind(word: &str) -> Option<DrawKind>
-    ensures { result ≡ kind_of_word word.now }
-{
-    match word {
-        "ruler" => Some(DrawKind::Ruler),
-        "sha256" => Some(DrawKind::Sha256),
-        _ => None,
-    }
-}
-
-/// The 32 bytes that 64 hexadecimal digits of either case spell.
-fn seed_of(word: &str) -> Option<[u8; 32]>
-    ensures { result ≡ seed_of_word word.now }
-{
-    <[u8; 32] as FromHex>::from_hex(word).ok()
 }
