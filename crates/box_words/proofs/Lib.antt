@@ -1,4 +1,5 @@
 mod CutNames
 mod PathWords
 mod ShownNames
+mod Values
 mod VisibleText

@@ -11,7 +11,7 @@ use Rattle.store_model.specs.Grammar.{path_of}
 use Rattle.store_model.proofs.ListsLemmas.{all_append, all_front, all_back}
 use Rattle.path_keys.proofs.NameBytes.{field_len-split, name_bytes-append}
 use Rattle.host_names.specs.HostNames.{escaped, is_host_name}
-use Rattle.box_words.specs.Shown.{AllHost, IsOfHost, name_in, names_between, with_slash}
+use Rattle.box_words.specs.Shown.{AllHost, IsOfHost, name_in, names_between, parts_between, with_slash}
 
 -- ---- the parts
 
@@ -19,16 +19,18 @@ cond_front : (b : Bool) (n : List ℕ) (names : List (List ℕ)) → cond b (n �
 cond_front true n names = refl
 cond_front false n names = refl
 
-pub between_more : (text n rest : List ℕ) → slice_split (λ b. b == 0x2f) text ≡ n ∷ slice_split (λ b. b == 0x2f) rest
-    → names_between text ≡ name_in n ++ names_between rest
-unfolding names_between
-between_more text n rest e =
+pub between_more : (c : ℕ) (text n rest : List ℕ)
+    → slice_split (λ b. b == c) text ≡ n ∷ slice_split (λ b. b == c) rest
+    → parts_between c text ≡ name_in n ++ parts_between c rest
+unfolding parts_between
+between_more c text n rest e =
     ap (filter (λ m. not (length m == 0))) e
-    ∙ cond_front (not (length n == 0)) n (filter (λ m. not (length m == 0)) (slice_split (λ b. b == 0x2f) rest))
+    ∙ cond_front (not (length n == 0)) n (filter (λ m. not (length m == 0)) (slice_split (λ b. b == c) rest))
 
-pub between_last : (text : List ℕ) → slice_split (λ b. b == 0x2f) text ≡ text ∷ [] → names_between text ≡ name_in text
-unfolding names_between
-between_last text e = ap (filter (λ m. not (length m == 0))) e
+pub between_last : (c : ℕ) (text : List ℕ) → slice_split (λ b. b == c) text ≡ text ∷ []
+    → parts_between c text ≡ name_in text
+unfolding parts_between
+between_last c text e = ap (filter (λ m. not (length m == 0))) e
 
 -- ---- a text that is read
 

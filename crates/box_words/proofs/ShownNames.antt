@@ -23,7 +23,7 @@ use Rattle.box_words.specs.declared.paths.Spelling.TheVariants.{Host, Escaped}
 use Rattle.box_words.specs.declared.paths.PathWordFault.{PathWordFault}
 use Rattle.box_words.specs.declared.paths.PathWordFault.TheVariants.{NoPath, TooLong}
 use Rattle.box_words.specs.Shown.{Spells, IsOfHost, AllHost, is_spelling, shown_name, shown_text, reads_back}
-use Rattle.box_words.specs.Shown.{names_between, with_slash}
+use Rattle.box_words.specs.Shown.{names_between, parts_between, with_slash}
 
 -- ---- a name
 
@@ -124,7 +124,7 @@ all_stay (n ∷ names) all = cond-true (not (length n == 0)) _ _ (some_name n al
     ∙ ap (λ parts. n ∷ parts) (all_stay names all.1)
 
 between : (names : List (List ℕ)) → AllHost names → names_between (path_text names) ≡ names
-unfolding path_text names_between
+unfolding path_text parts_between
 between [] all = refl
 between (n ∷ names) all =
     ap (filter (λ n. not (length n == 0)))

@@ -1,2 +1,10 @@
+pub mod Attributes
+pub mod Calls
+pub mod Given
+pub mod Kinds
+pub mod Lists
+pub mod Ranges
+pub mod Said
 pub mod Shown
+pub mod Sources
 pub mod Statuses

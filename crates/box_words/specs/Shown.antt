@@ -21,9 +21,13 @@ is_visible c = nat_le 0x20 c && not (nat_le 0x7f c && nat_le c 0x9f)
 abbrev pub name_in : List ℕ → List (List ℕ)
 name_in n = filter (λ m. not (length m == 0)) (n ∷ [])
 
+-- the parts that stand between a separator in a text, where they have bytes
+unfoldable pub parts_between : ℕ → List ℕ → List (List ℕ)
+parts_between separator text = filter (λ n. not (length n == 0)) (slice_split (λ b. b == separator) text)
+
 -- the names that stand between the `/` of a text
-unfoldable pub names_between : List ℕ → List (List ℕ)
-names_between text = filter (λ n. not (length n == 0)) (slice_split (λ b. b == 0x2f) text)
+abbrev pub names_between : List ℕ → List (List ℕ)
+names_between = parts_between 0x2f
 
 -- the text with a `/` in front, where it has bytes and none is there
 abbrev pub with_slash : List ℕ → List ℕ

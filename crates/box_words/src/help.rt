@@ -1,12 +1,12 @@
 //! What the help prints.
 
 use crate::subcommands::write_list;
-use crate::texts::TEXTS;
 use std::fmt::{self, Display, Formatter};
 
-/// The part of the texts with this name, without the line of its name; the empty text where there is none.
-fn part_of(name: &str) -> &'static str {
-    for part in TEXTS.split("\n== ") {
+/// The part of texts with this name, without the line of its name; the empty text where there is none. A line `== NAME`
+/// stands before each.
+fn part_of<'a>(texts: &'a str, name: &str) -> &'a str {
+    for part in texts.split("\n== ") {
         if let Some((head, text)) = part.split_once("\n")
             && head == name
         {
@@ -16,33 +16,34 @@ fn part_of(name: &str) -> &'static str {
     ""
 }
 
-/// The line of the version.
-pub fn version_line() -> &'static str {
-    part_of("version")
+/// The line of the version in texts.
+pub fn version_line(texts: &str) -> &str {
+    part_of(texts, "version")
 }
 
-/// The help, for `format!` and its like: of the subcommand with this word, or of the program.
+/// The help, for `format!` and its like.
 #[derive(Clone, Copy, Debug)]
-pub struct Help(pub Option<&'static str>);
+pub struct Help<'a> {
+    /// The texts of all subcommands and of the program.
+    pub texts: &'a str,
+    /// The word of the subcommand; nothing for the help of the program.
+    pub topic: Option<&'static str>,
+}
 
-impl Display for Help {
+impl Display for Help<'_> {
     fn fmt<W: fmt::Write>(&self, f: &mut Formatter<W>) -> fmt::Result {
-        match self.0 {
-            Some(name) => f.write_str(part_of(name)),
-            None => write_page(f),
+        match self.topic {
+            Some(name) => f.write_str(part_of(self.texts, name)),
+            None => write_page(f, self.texts),
         }
     }
 }
 
 /// Writes the help of the program.
-fn write_page<W: fmt::Write>(f: &mut Formatter<W>) -> fmt::Result {
-    write!(
-        f,
-        "{}\n\nUsage:\n{}\n\n",
-        part_of("about"),
-        part_of("calls")
-    )?;
-    f.write_str("Subcommands:\n\n")?;
+fn write_page<W: fmt::Write>(f: &mut Formatter<W>, texts: &str) -> fmt::Result {
+    let (about, calls) = (part_of(texts, "about"), part_of(texts, "calls"));
+    write!(f, "{about}\n\nUsage:\n{calls}\n\nSubcommands:\n\n")?;
     write_list(f)?;
-    write!(f, "\n{}\n\n{}", part_of("words"), part_of("statuses"))
+    let (words, statuses) = (part_of(texts, "words"), part_of(texts, "statuses"));
+    write!(f, "\n{words}\n\n{statuses}")
 }

@@ -1,10 +1,10 @@
 //! What a line of words asks for.
 
 use crate::call::{Call, call_of};
+use crate::fault::CallFault;
 use crate::options::{Common, common_of};
-use crate::subcommands::{Subcommand, command, subcommand_of};
+use crate::subcommands::{Subcommand, command, subcommand_of, summary_of};
 use crate::visible::Visible;
-use clap::ArgMatches;
 use clap::error::ErrorKind;
 use std::alloc::{AllocError, AllocFailed, Global};
 use thiserror::Error;
@@ -114,6 +114,42 @@ fn advice_of(alloc: Global, text: &str, topic: Option<&'static str>) -> Result<S
     Ok(line)
 }
 
+/// Words of other programs, each with the subcommand that does what they do.
+static FOREIGN: [(&str, &str); 20] = [
+    ("cat", "get"),
+    ("delete", "rm"),
+    ("diff", "compare"),
+    ("dir", "ls"),
+    ("dump", "pack"),
+    ("export", "extract"),
+    ("find", "ls"),
+    ("init", "create"),
+    ("md", "mkdir"),
+    ("move", "mv"),
+    ("new", "create"),
+    ("remove", "rm"),
+    ("rename", "mv"),
+    ("show", "get"),
+    ("stat", "info"),
+    ("tree", "ls"),
+    ("unlink", "rm"),
+    ("unzip", "extract"),
+    ("verify", "check"),
+    ("xattr", "attr"),
+];
+
+/// What to do where a word that is no subcommand is one of another program.
+fn translated(alloc: Global, word: &str) -> Result<Option<String>, AllocError> {
+    for (foreign, name) in &FOREIGN {
+        if word == *foreign
+            && let Some(summary) = summary_of(name)
+        {
+            return Ok(Some(format!(in alloc; "hbox {name} {summary}")?));
+        }
+    }
+    Ok(None)
+}
+
 /// What to do where the first word is no subcommand, and the second is: the words stand in the order of `hstore`.
 fn turned_round(alloc: Global, words: &[String]) -> Result<Option<String>, AllocError> {
     let [image, word, ..] = words else {
@@ -126,12 +162,22 @@ fn turned_round(alloc: Global, words: &[String]) -> Result<Option<String>, Alloc
     Ok(Some(format!(in alloc; "the subcommand stands first: hbox {name} {image}")?))
 }
 
+/// What to do where the first word is no subcommand.
+fn first_advice(alloc: Global, words: &[String], text: &str) -> Result<String, AllocError> {
+    if let Some(advice) = turned_round(alloc, words)? {
+        return Ok(advice);
+    }
+    if let Some(word) = words.first()
+        && let Some(advice) = translated(alloc, word.as_str())?
+    {
+        return Ok(advice);
+    }
+    advice_of(alloc, text, None)
+}
+
 /// The fault of a first word that is no subcommand.
 fn no_subcommand(alloc: Global, words: &[String], text: &str) -> Result<WordsFault, AllocError> {
-    let advice = match turned_round(alloc, words)? {
-        Some(advice) => advice,
-        None => advice_of(alloc, text, None)?,
-    };
+    let advice = first_advice(alloc, words, text)?;
     let (thing, wrong) = match words.first() {
         Some(word) => (word.as_str(), "no subcommand has this name"),
         None => ("", "no subcommand is given"),
@@ -180,22 +226,6 @@ fn refused(alloc: Global, words: &[String], error: &clap::Error) -> Result<Words
     }
 }
 
-/// The fault of words that `clap` took, and that ask for nothing.
-fn nothing_asked(
-    alloc: Global,
-    topic: &'static str,
-    given: &ArgMatches<'_>,
-) -> Result<WordsFault, AllocError> {
-    let wrong = match given.get_str("digest") {
-        Some(word) => {
-            let word = Visible(word);
-            format!(in alloc; "--digest '{word}' is not 64 hexadecimal digits")?
-        }
-        None => String::from_str(alloc, "an argument is missing")?,
-    };
-    bad_words(alloc, topic, "", wrong)
-}
-
 /// Reads what the words behind the name of the program ask for. Options stand anywhere behind the subcommand, and `--`
 /// ends them.
 /// `Words`: the words are not well formed, and how. `NoMemory`: it was not found out.
@@ -213,8 +243,12 @@ pub fn read<'a>(alloc: Global, words: &'a [String]) -> Result<Asked<'a>, WordsFa
     let Some(subcommand) = subcommand_of(name) else {
         return Err(no_subcommand(alloc, words, "")?);
     };
-    match call_of(alloc, subcommand.kind, given)? {
-        Some(call) => Ok(Asked::Call(call, common_of(given))),
-        None => Err(nothing_asked(alloc, subcommand.name, given)?),
+    match call_of(alloc, subcommand.kind, given) {
+        Ok(call) => Ok(Asked::Call(call, common_of(given))),
+        Err(CallFault::NoMemory) => Err(WordsFault::NoMemory),
+        Err(fault) => {
+            let wrong = format!(in alloc; "{fault}")?;
+            Err(bad_words(alloc, subcommand.name, "", wrong)?)
+        }
     }
 }

@@ -1,5 +1,8 @@
 //! Options that several subcommands share.
 
+ghost use Rattle.std.specs.Prelude.{◌≡◌};
+ghost use Rattle.box_words.specs.Given.{IsTaken, times_said};
+
 use clap::ArgMatches;
 
 /// How many seconds `--wait` waits where it is given no number.
@@ -47,20 +50,24 @@ pub struct Common {
 }
 
 /// What is taken of a folder.
-pub(crate) fn taken_of(given: &ArgMatches<'_>) -> Taken {
+pub(crate) fn taken_of(given: &ArgMatches<'_>) -> Taken
+    ensures { IsTaken given.now result }
+{
     Taken {
         skip: given.get_flag("skip"),
         no_mode: given.get_flag("no-mode"),
         no_links: given.get_flag("no-links"),
-        times: times_of(given),
+        times: times_of(given.get_flag("mtime"), given.get_flag("no-mtime")),
     }
 }
 
-/// Whether times travel. The two options are not given together.
-fn times_of(given: &ArgMatches<'_>) -> Times {
-    if given.get_flag("mtime") {
+/// Whether times travel, where `--mtime` is given, and `--no-mtime`. The two are not given together.
+fn times_of(kept: bool, left_out: bool) -> Times
+    ensures { result ≡ times_said kept left_out }
+{
+    if kept {
         Times::Kept
-    } else if given.get_flag("no-mtime") {
+    } else if left_out {
         Times::LeftOut
     } else {
         Times::AsImage

@@ -1,17 +1,16 @@
 //! Paths of an image, as people give them and as they are shown.
 
-ghost use Rattle.std.specs.Prelude.{◌≡◌, ◌≤◌, ◌<◌, ◌++◌, ◌∷◌, length, map, false, Some, None, Ok, IfOk, IfSome, OnOk};
+ghost use Rattle.std.specs.Prelude.{◌≡◌, ◌≤◌, ◌++◌, ◌∷◌, length, map, false, Some, None, Ok, IfOk, IfSome, OnOk};
 ghost use Rattle.std.specs.Prelude.{IsErrOf, IsTrue};
-ghost use Rattle.std.specs.Option.{MatchOption};
 ghost use Rattle.std.specs.List.{list_all, flat_map};
 ghost use Rattle.store_model.specs.Grammar.{path_of};
 ghost use Rattle.store_model.specs.Paths as model;
 ghost use Rattle.host_names.specs.HostNames.{escaped};
-ghost use Rattle.box_words.specs.Shown.{Spells, AllHost, shown_name, shown_text, reads_back, name_in, names_between};
+ghost use Rattle.box_words.specs.Shown.{Spells, AllHost, shown_name, shown_text, reads_back, name_in};
 
+use crate::cutting::cut_part;
 use arrayvec::ArrayVec;
 use host_names::{ImagePathFault, MAX_NAME, unescape};
-use memchr::memchr;
 use path_keys::{Path, PathFault};
 use std::alloc::Global;
 use store_base::NoMemory;
@@ -75,24 +74,12 @@ fn host_path(text: &[u8]) -> Result<Path, PathWordFault>
     let mut path = Path::root();
     let mut rest = text;
     loop {
-        let (name, behind) = cut_name(rest);
+        let (name, behind) = cut_part(b'/', rest);
         path = path_with(&path, name)?;
         match behind {
             Some(behind) => rest = behind,
             None => return Ok(path),
         }
-    }
-}
-
-/// What stands in front of the first `/`, and what stands behind it, where there is one.
-fn cut_name(text: &[u8]) -> (&[u8], Option<&[u8]>)
-    ensures parts { MatchOption result.1 (names_between text.now ≡ name_in result.0.now)
-        (λ rest. names_between text.now ≡ name_in result.0.now ++ names_between rest.now) }
-    ensures shorter { IfSome result.1 (λ rest. length rest.now < length text.now) }
-{
-    match memchr(b'/', text) {
-        Some(place) => (&text[..place], Some(&text[place + 1..])),
-        None => (text, None),
     }
 }
 

@@ -11,7 +11,7 @@ pub enum Status {
     Done = 0,
     /// What was compared differs, or something was left out.
     Differs = 1,
-    /// The words are not well formed. Nothing was opened.
+    /// The words are not well formed, or the seed on standard input is not. No image was opened.
     Words = 2,
     /// Standard input could not be read.
     Input = 3,

@@ -15,6 +15,8 @@ enum Part {
     Optional(&'static str),
     /// Any number of arguments, the last ones.
     Rest(&'static str),
+    /// The same, and at least one.
+    Some(&'static str),
     /// An option of a single letter, which stands alone.
     Letter(&'static str, char),
     /// An option that stands alone: its word, and its letter.
@@ -25,6 +27,8 @@ enum Part {
     Against(&'static str, &'static str),
     /// An option with a value: its word, and what the value is called.
     Value(&'static str, &'static str),
+    /// An option of a single letter with a value: its name, the letter, and what the value is called.
+    LetterValue(&'static str, char, &'static str),
     /// `--wait` and `--wait=SECONDS`.
     Wait,
 }
@@ -32,13 +36,19 @@ enum Part {
 /// Which subcommand it is.
 #[derive(Clone, Copy)]
 pub(crate) enum Kind {
+    Create,
     Extract,
     Ls,
     Get,
+    Rm,
+    Mv,
+    Mkdir,
+    Attr,
     Compare,
     Check,
     Info,
     Map,
+    Pack,
     Unpack,
 }
 
@@ -75,6 +85,17 @@ static TAKEN: [Part; 5] = [
 
 const IMAGE: &[Part] = &[Part::Argument("IMAGE")];
 
+const CREATE: &[Part] = &[
+    Part::Argument("IMAGE"),
+    Part::Optional("DIR"),
+    Part::Value("slots", "N"),
+    Part::Value("height", "H"),
+    Part::Value("draw", "D"),
+    Part::Value("seed", "HEX"),
+    Part::Flag("empty"),
+    Part::Flag("dry-run"),
+];
+
 const EXTRACT: &[Part] = &[
     Part::Argument("IMAGE"),
     Part::Argument("DIR"),
@@ -91,8 +112,39 @@ const LS: &[Part] = &[
 
 const GET: &[Part] = &[
     Part::Argument("IMAGE"),
-    Part::Argument("PATH"),
+    Part::Optional("PATH"),
     Part::Optional("FILE"),
+    Part::Value("paths0-from", "LIST"),
+];
+
+const RM: &[Part] = &[
+    Part::Argument("IMAGE"),
+    Part::Rest("PATH"),
+    Part::Value("paths0-from", "LIST"),
+    Part::Letter("below", 'r'),
+    Part::Letter("forced", 'f'),
+];
+
+const MV: &[Part] = &[
+    Part::Argument("IMAGE"),
+    Part::Argument("FROM"),
+    Part::Argument("TO"),
+    Part::Letter("forced", 'f'),
+];
+
+const MKDIR: &[Part] = &[
+    Part::Argument("IMAGE"),
+    Part::Some("PATH"),
+    Part::Letter("parents", 'p'),
+];
+
+const ATTR: &[Part] = &[
+    Part::Argument("IMAGE"),
+    Part::Argument("PATH"),
+    Part::Optional("NAME"),
+    Part::Optional("VALUE"),
+    Part::LetterValue("remove", 'd', "NAME"),
+    Part::Flag("hex"),
 ];
 
 const COMPARE: &[Part] = &[
@@ -106,7 +158,14 @@ const CHECK: &[Part] = &[Part::Argument("IMAGE"), Part::Value("digest", "HEX")];
 const DIR: &[Part] = &[Part::Argument("DIR")];
 
 /// The subcommands, in the order of the help.
-static SUBCOMMANDS: [Subcommand; 8] = [
+static SUBCOMMANDS: [Subcommand; 14] = [
+    Subcommand {
+        name: "create",
+        kind: Kind::Create,
+        summary: "makes an image of a folder",
+        parts: CREATE,
+        has_taken: true,
+    },
     Subcommand {
         name: "extract",
         kind: Kind::Extract,
@@ -126,6 +185,34 @@ static SUBCOMMANDS: [Subcommand; 8] = [
         kind: Kind::Get,
         summary: "prints a file of an image, or copies it to a file",
         parts: GET,
+        has_taken: false,
+    },
+    Subcommand {
+        name: "rm",
+        kind: Kind::Rm,
+        summary: "removes files and folders from an image",
+        parts: RM,
+        has_taken: false,
+    },
+    Subcommand {
+        name: "mv",
+        kind: Kind::Mv,
+        summary: "moves a file or folder in an image",
+        parts: MV,
+        has_taken: false,
+    },
+    Subcommand {
+        name: "mkdir",
+        kind: Kind::Mkdir,
+        summary: "makes folders in an image",
+        parts: MKDIR,
+        has_taken: false,
+    },
+    Subcommand {
+        name: "attr",
+        kind: Kind::Attr,
+        summary: "lists, prints, sets or removes attributes of a path",
+        parts: ATTR,
         has_taken: false,
     },
     Subcommand {
@@ -155,6 +242,13 @@ static SUBCOMMANDS: [Subcommand; 8] = [
         summary: "draws the slots of an image",
         parts: IMAGE,
         has_taken: false,
+    },
+    Subcommand {
+        name: "pack",
+        kind: Kind::Pack,
+        summary: "prints the listing of a folder",
+        parts: DIR,
+        has_taken: true,
     },
     Subcommand {
         name: "unpack",
@@ -215,11 +309,20 @@ fn arg_of<'a>(alloc: Global, part: Part) -> Result<Arg<'a>, AllocError> {
                 .num_args(0..)
                 .action(ArgAction::Append),
         ),
+        Part::Some(name) => Ok(
+            Arg::new(alloc, name)
+                .required(true)
+                .num_args(1..)
+                .action(ArgAction::Append),
+        ),
         Part::Letter(name, letter) => Ok(flag(alloc, name).short(letter)),
         Part::Both(name, letter) => Ok(flag(alloc, name).long(name).short(letter)),
         Part::Flag(name) => Ok(flag(alloc, name).long(name)),
         Part::Against(name, other) => flag(alloc, name).long(name).conflicts_with(other),
         Part::Value(name, value) => Ok(Arg::new(alloc, name).long(name).value_name(value)),
+        Part::LetterValue(name, letter, value) => {
+            Ok(Arg::new(alloc, name).short(letter).value_name(value))
+        }
         Part::Wait => Ok(wait(alloc)),
     }
 }

@@ -1,7 +1,6 @@
 //! Pairs of listings written by hand, with their differences and the very script from one to the other; and streams and
 //! a sink that fail.
 
-use super::support::stream_of;
 use dump_diff::{
     AdditionTaker, CompareFault, Differences, compare, write_differences, write_removals,
 };
@@ -9,7 +8,7 @@ use dump_streams::{DrainFault, StreamFault, TakerFault, drain};
 use script_lines::{MemSink, SinkFault};
 use std::alloc::Global;
 use std::process::Abort;
-use tests_tools::{NEVER, fields, sink_of};
+use tests_tools::{NEVER, fields, listing_of, sink_of};
 
 /// How many bytes a source gives at a time.
 const PIECE: usize = 10;
@@ -20,8 +19,8 @@ static FIRST: &[u8] =
 
 /// The differences of two listings.
 fn found_in(rt: &impl Abort, alloc: Global, first: &[u8], second: &[u8]) -> Differences {
-    let mut first = stream_of(rt, alloc, first, PIECE, NEVER);
-    let mut second = stream_of(rt, alloc, second, PIECE, NEVER);
+    let mut first = listing_of(alloc, first, PIECE, NEVER).expect(rt, "memory");
+    let mut second = listing_of(alloc, second, PIECE, NEVER).expect(rt, "memory");
     compare(alloc, &mut first, &mut second)
         .ok()
         .expect(rt, "two listings")
@@ -51,7 +50,10 @@ fn is_script(
 ) -> bool {
     let sink = removed(rt, alloc, &found);
     let mut taker = AdditionTaker::new(found, sink);
-    let drained = drain(&mut stream_of(rt, alloc, second, PIECE, NEVER), &mut taker);
+    let drained = drain(
+        &mut listing_of(alloc, second, PIECE, NEVER).expect(rt, "memory"),
+        &mut taker,
+    );
     drained.is_ok() & (taker.into_sink().written() == script)
 }
 
@@ -110,8 +112,8 @@ fn listings_differ_so(rt: HostRuntime) {
 
 /// How the comparison of two listings ends whose sources fail at these takes.
 fn fault_of(rt: &impl Abort, alloc: Global, first: u64, second: u64) -> Option<CompareFault> {
-    let mut one = stream_of(rt, alloc, FIRST, PIECE, first);
-    let mut other = stream_of(rt, alloc, FIRST, PIECE, second);
+    let mut one = listing_of(alloc, FIRST, PIECE, first).expect(rt, "memory");
+    let mut other = listing_of(alloc, FIRST, PIECE, second).expect(rt, "memory");
     compare(alloc, &mut one, &mut other).err()
 }
 
@@ -133,7 +135,7 @@ fn fail_to_be_written(rt: &impl Abort, alloc: Global, found: &Differences) -> bo
 /// How additions end where the first put fails.
 fn additions_end(rt: &impl Abort, alloc: Global, found: Differences) -> Result<(), DrainFault> {
     let mut taker = AdditionTaker::new(found, sink_of(alloc, &[0]).expect(rt, "memory"));
-    let mut stream = stream_of(rt, alloc, b"make /z\n", PIECE, NEVER);
+    let mut stream = listing_of(alloc, b"make /z\n", PIECE, NEVER).expect(rt, "memory");
     drain(&mut stream, &mut taker)
 }
 

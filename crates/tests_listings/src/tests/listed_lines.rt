@@ -1,6 +1,5 @@
 //! What is listed of small trees, by lines that were written by hand, and a sink that fails.
 
-use super::support::{long_listing, stream_of};
 use box_words::Spelling;
 use dump_streams::{DrainFault, TakerFault};
 use dump_views::Standing;
@@ -8,7 +7,7 @@ use entry_lines::{ListForm, write_entries};
 use script_lines::MemSink;
 use std::alloc::Global;
 use std::process::Abort;
-use tests_tools::{NEVER, path_of, sink_of};
+use tests_tools::{NEVER, listing_of, long_listing, path_of, sink_of};
 
 /// A folder with a time, and in it a file that may be executed, a folder with a file, and a link; behind it a file
 /// whose name is no spelling of a name of the host, and one whose name has a control byte.
@@ -55,7 +54,7 @@ fn listed(
     form: ListForm,
     failing: &[u64],
 ) -> (MemSink, Result<Standing, DrainFault>) {
-    let mut stream = stream_of(rt, alloc, dump, 4096, NEVER);
+    let mut stream = listing_of(alloc, dump, 4096, NEVER).expect(rt, "memory");
     let sink = sink_of(alloc, failing).expect(rt, "memory");
     write_entries(alloc, &mut stream, &path_of(path), form, sink)
 }
@@ -107,7 +106,7 @@ fn times_are_told_up_to_the_year_9999(rt: HostRuntime) {
 
 #[test]
 fn a_file_of_two_pieces_has_its_size(rt: HostRuntime) {
-    let dump = long_listing(&rt, rt.alloc());
+    let dump = long_listing(rt.alloc()).expect(&rt, "memory");
     let (sink, found) = listed(&rt, rt.alloc(), &dump, "/", form_of("l"), &[]);
     assert!(rt; found == Ok(Standing::Directory));
     assert!(rt; sink.written() == b"f     2049 -                    f\n".as_slice());

@@ -1,6 +1,5 @@
 //! Listings written by hand, in pieces of several sizes, good and bad, and sources and sinks that fail.
 
-use super::support::{long_listing, stream_of};
 use dump_streams::{
     DrainFault, DumpStep, DumpStream, GatheredSink, LineTaker, ListingSource, ListingStream,
     NoTaker, StreamFault, TakerFault, drain,
@@ -8,7 +7,7 @@ use dump_streams::{
 use script_lines::{MemSink, MemSource, Sink, Source};
 use std::alloc::Global;
 use std::process::Abort;
-use tests_tools::{NEVER, number, sink_of};
+use tests_tools::{NEVER, listing_of, long_listing, number, sink_of};
 
 /// A listing with attributes, as `dump` writes it.
 static LISTING: &[u8] =
@@ -20,7 +19,7 @@ static LOOSE: &[u8] =
 
 /// Whether the steps of the text are those of a dump, which is written so.
 fn is_written(rt: &impl Abort, alloc: Global, text: &[u8], piece: usize, written: &[u8]) -> bool {
-    let mut stream = stream_of(rt, alloc, text, piece, NEVER);
+    let mut stream = listing_of(alloc, text, piece, NEVER).expect(rt, "memory");
     let mut taker = LineTaker::new(sink_of(alloc, &[]).expect(rt, "memory"));
     let drained = drain(&mut stream, &mut taker);
     drained == Ok(()) && taker.into_sink().written() == written
@@ -28,7 +27,7 @@ fn is_written(rt: &impl Abort, alloc: Global, text: &[u8], piece: usize, written
 
 /// The number of the line that is refused, told after the lines behind it were read; 0 where none is.
 fn refused_line(rt: &impl Abort, alloc: Global, text: &[u8]) -> u64 {
-    let mut stream = stream_of(rt, alloc, text, 5, NEVER);
+    let mut stream = listing_of(alloc, text, 5, NEVER).expect(rt, "memory");
     let drained = drain(&mut stream, &mut NoTaker);
     let is_refused = drained == Err(DrainFault::Stream(StreamFault::NoDump));
     if is_refused && stream.read_to_end() == Ok(()) {
@@ -46,7 +45,7 @@ fn listings_in_pieces_are_written_again(rt: HostRuntime) {
     for piece in &PIECES {
         assert!(rt; is_written(&rt, rt.alloc(), LOOSE, *piece, LISTING));
     }
-    let long = long_listing(&rt, rt.alloc());
+    let long = long_listing(rt.alloc()).expect(&rt, "memory");
     assert!(rt; is_written(&rt, rt.alloc(), &long, 1000, &long));
 }
 
@@ -89,7 +88,7 @@ fn taken_of<R: Source>(source: &mut R) -> Option<usize> {
 
 #[test]
 fn a_source_that_fails_ends_the_stream(rt: HostRuntime) {
-    let mut stream = stream_of(&rt, rt.alloc(), LISTING, 10, 1);
+    let mut stream = listing_of(rt.alloc(), LISTING, 10, 1).expect(&rt, "memory");
     assert!(rt; next_of(&mut stream) == Ok(true));
     assert!(rt; next_of(&mut stream) == Err(StreamFault::Unreadable));
     assert!(rt; next_of(&mut stream) == Err(StreamFault::Unreadable));
@@ -99,7 +98,7 @@ fn a_source_that_fails_ends_the_stream(rt: HostRuntime) {
 
 #[test]
 fn a_taker_that_fails_ends_the_draining(rt: HostRuntime) {
-    let mut stream = stream_of(&rt, rt.alloc(), LISTING, 4096, NEVER);
+    let mut stream = listing_of(rt.alloc(), LISTING, 4096, NEVER).expect(&rt, "memory");
     let mut taker = LineTaker::new(sink_of(rt.alloc(), &[2]).expect(&rt, "memory"));
     let drained = drain(&mut stream, &mut taker);
     assert!(rt; drained == Err(DrainFault::Taker(TakerFault::Failed)));
@@ -175,9 +174,12 @@ fn lines_of(
     alloc: Global,
     text: &[u8],
 ) -> ListingSource<ListingStream<MemSource>> {
-    ListingSource::new(alloc, stream_of(rt, alloc, text, 3, NEVER))
-        .ok()
-        .expect(rt, "memory")
+    ListingSource::new(
+        alloc,
+        listing_of(alloc, text, 3, NEVER).expect(rt, "memory"),
+    )
+    .ok()
+    .expect(rt, "memory")
 }
 
 #[test]
