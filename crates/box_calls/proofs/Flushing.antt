@@ -29,6 +29,13 @@ never_done troubles.Moving e = absurd cc
 never_done troubles.Input e = absurd cc
 never_done troubles.NoListing e = absurd cc
 never_done troubles.LongListing e = absurd cc
+never_done troubles.Unwritten e = absurd cc
+never_done troubles.Full e = absurd cc
+never_done troubles.TooMuch e = absurd cc
+never_done (troubles.Refused reason) e = absurd cc
+never_done troubles.Crowded e = absurd cc
+never_done troubles.LongSource e = absurd cc
+never_done troubles.Failed e = absurd cc
 
 -- so the last bytes of a call that ends well were put
 module _ {A : Type 0} where

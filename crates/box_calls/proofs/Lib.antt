@@ -1,4 +1,5 @@
 mod Printing
 mod Counting
-mod Flushing
+pub mod Flushing
 mod ReadFlushing
+mod Storing

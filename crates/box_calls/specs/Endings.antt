@@ -29,6 +29,13 @@ status_of troubles.Moving = statuses.Host
 status_of troubles.Input = statuses.Input
 status_of troubles.NoListing = statuses.BadListing
 status_of troubles.LongListing = statuses.BadListing
+status_of troubles.Unwritten = statuses.Disk
+status_of troubles.Full = statuses.Full
+status_of troubles.TooMuch = statuses.Full
+status_of (troubles.Refused reason) = statuses.Path
+status_of troubles.Crowded = statuses.Full
+status_of troubles.LongSource = statuses.Host
+status_of troubles.Failed = statuses.Disk
 
 -- whether what failed has said so already
 abbrev pub is_said : Trouble → Bool
@@ -50,6 +57,13 @@ is_said troubles.Moving = false
 is_said troubles.Input = false
 is_said troubles.NoListing = false
 is_said troubles.LongListing = false
+is_said troubles.Unwritten = false
+is_said troubles.Full = false
+is_said troubles.TooMuch = false
+is_said (troubles.Refused reason) = false
+is_said troubles.Crowded = false
+is_said troubles.LongSource = false
+is_said troubles.Failed = false
 
 -- the trouble that it is that an image has no summary
 abbrev pub summary_trouble : SummaryFault → Trouble

@@ -1,6 +1,7 @@
 pub mod Checks
 pub mod Comparisons
 pub mod Counted
+pub mod Creations
 pub mod Endings
 pub mod Extractions
 pub mod Gets
@@ -8,5 +9,7 @@ pub mod Listings
 pub mod Makings
 pub mod Maps
 pub mod Marks
+pub mod Packings
+pub mod Plans
 pub mod Readings
 pub mod Texts

@@ -47,6 +47,16 @@ wanted_of taken = record {
   skips = taken.skip;
 }
 
+-- whether times are stored: only where the words ask for them
+abbrev pub stores_times : Times → Bool
+stores_times times.AsImage = false
+stores_times times.Kept = true
+stores_times times.LeftOut = false
+
+-- what is stored of a folder, as the options of the words say
+abbrev pub stored_of : Taken → Wanted
+stored_of taken = record (wanted_of taken) { mtime = stores_times taken.times }
+
 -- ---- the troubles
 
 -- the trouble of a listing whose steps ended so

@@ -50,7 +50,7 @@ fn check_found(
 }
 
 /// What a call came to that comes to this where all is printed, and whose text was put so, and whose last bytes.
-pub(crate) fn printed(
+pub fn printed(
     found: Result<(), Trouble>,
     put: Result<(), SinkFault>,
     flushed: Result<(), SinkFault>,

@@ -105,7 +105,7 @@ fn about_of(fault: &FolderCompareFault) -> About<'_> {
 }
 
 /// Whether so many obstacles in a folder keep it from being compared.
-fn is_refused(skips: bool, obstacles: u64) -> bool
+pub fn is_refused(skips: bool, obstacles: u64) -> bool
     ensures { result ≡ is_refused skips obstacles }
 {
     !skips && obstacles != 0

@@ -1,6 +1,6 @@
 //! How a call ends that makes a folder of the host, and what it says of it.
 
-ghost use Rattle.std.specs.Prelude.{◌≡◌};
+ghost use Rattle.std.specs.Prelude.{◌≡◌, false};
 ghost use Rattle.box_calls.specs.Endings.{Says};
 ghost use Rattle.box_calls.specs.Makings.{left_out_status, EndsMade};
 
@@ -14,7 +14,7 @@ use script_lines::Sink;
 use std::alloc::{AllocError, Global};
 
 /// How a call ends that made what was asked for, but for so many entries.
-fn left_out_status(left_out: u64) -> Status
+pub fn left_out_status(left_out: u64) -> Status
     ensures { result ≡ left_out_status left_out }
 {
     if left_out == 0 {
@@ -78,6 +78,22 @@ pub(crate) fn end_made<E: Sink>(
             }
             left_out_status(counts.left_out)
         }
+        Err(trouble) => ended(place, Err(trouble), about, sink),
+    }
+}
+
+/// How a call ends that did what was asked for, but for so many entries, if it came to no trouble, which is said.
+pub fn end_part<E: Sink>(
+    place: &Place<'_>,
+    done: Result<(), Trouble>,
+    left_out: u64,
+    about: About<'_>,
+    sink: &mut E,
+) -> Status
+    ensures { EndsMade false done left_out result (E.state sink.old) (E.state sink.new) }
+{
+    match done {
+        Ok(()) => left_out_status(left_out),
         Err(trouble) => ended(place, Err(trouble), about, sink),
     }
 }

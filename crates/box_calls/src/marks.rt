@@ -129,7 +129,7 @@ fn put_lines<W: Sink>(
 }
 
 /// Puts the lines of differences, to the last byte.
-fn put_all<W: Sink>(
+pub fn put_all<W: Sink>(
     alloc: Global,
     form: MarkForm,
     found: &[Difference],
@@ -147,7 +147,7 @@ fn put_all<W: Sink>(
 }
 
 /// The trouble where lines were not put.
-fn line_trouble(fault: TakerFault) -> Trouble
+pub fn line_trouble(fault: TakerFault) -> Trouble
     ensures { result ≡ line_trouble fault }
 {
     match fault {

@@ -44,6 +44,43 @@ pub struct Made<F, B, E> {
     pub say: E,
 }
 
+/// What a call hands back that makes an image, and how it ended.
+#[derive(Drop)]
+pub struct Stored<D, F, E> {
+    /// How it ended.
+    pub status: Status,
+    /// The disk of the image.
+    pub disk: D,
+    /// The folder; nothing for the image of an empty tree.
+    pub folder: F,
+    /// The sink of what is said.
+    pub say: E,
+}
+
+/// What a call hands back that only prints, and how it ended.
+#[derive(Drop)]
+pub struct Printed<W, E> {
+    /// How it ended.
+    pub status: Status,
+    /// The sink of the data.
+    pub out: W,
+    /// The sink of what is said.
+    pub say: E,
+}
+
+/// What a call hands back that prints the listing of a folder, and how it ended.
+#[derive(Drop)]
+pub struct Listed<S, W, E> {
+    /// How it ended.
+    pub status: Status,
+    /// The stream of the folder, which tells where it ended.
+    pub stream: S,
+    /// The sink of the listing.
+    pub out: W,
+    /// The sink of what is said.
+    pub say: E,
+}
+
 /// What a comparison hands back, and how it ended.
 #[derive(Drop)]
 pub struct Compared<D, F, W, E> {

@@ -7,7 +7,7 @@ use crate::trouble::Trouble;
 use image_reads::ReadFault;
 
 /// The trouble that a fault of reading is, where the data go to standard output.
-pub(crate) fn unread(fault: ReadFault) -> Trouble
+pub fn unread(fault: ReadFault) -> Trouble
     ensures { result ≡ read_trouble fault }
 {
     match fault {

@@ -33,7 +33,7 @@ pub fn say<E: Sink>(alloc: Global, message: &Message<'_>, sink: &mut E)
 }
 
 /// Says that memory ran out, without any.
-pub(crate) fn say_no_memory<E: Sink>(sink: &mut E)
+pub fn say_no_memory<E: Sink>(sink: &mut E)
     ensures { Says (E.state sink.old) (E.state sink.new) }
 {
     let _ = sink.put(NO_MEMORY);

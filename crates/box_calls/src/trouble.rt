@@ -4,6 +4,7 @@ ghost use Rattle.std.specs.Prelude.{◌≡◌};
 ghost use Rattle.box_calls.specs.Endings as model;
 ghost use Rattle.box_calls.specs.Endings.{status_of, summary_trouble};
 
+use crate::reason::Reason;
 use box_words::Status;
 use image_summary::SummaryFault;
 
@@ -46,6 +47,20 @@ pub enum Trouble {
     NoListing,
     /// The listing has more bytes than one may have.
     LongListing,
+    /// The image that is made could not be written.
+    Unwritten,
+    /// A tree needs more slots than its image has.
+    Full,
+    /// A tree has more than is counted, and so more than any image.
+    TooMuch,
+    /// A change is refused at a path, for this reason.
+    Refused(Reason),
+    /// The tree that an image is to hold needs more slots than it has.
+    Crowded,
+    /// The path in the image would be too long for what is put there.
+    LongSource,
+    /// The disk failed while the image was changed.
+    Failed,
 }
 
 impl Trouble {
@@ -56,18 +71,24 @@ impl Trouble {
         match self {
             Trouble::NotImage => Status::NotImage,
             Trouble::Damaged => Status::Damaged,
-            Trouble::Disk | Trouble::Changed => Status::Disk,
+            Trouble::Disk | Trouble::Changed | Trouble::Unwritten | Trouble::Failed => {
+                Status::Disk
+            }
             Trouble::NoMemory => Status::NoMemory,
             Trouble::Output => Status::Output,
-            Trouble::Nothing | Trouble::Folder | Trouble::Link => Status::Path,
+            Trouble::Nothing | Trouble::Folder | Trouble::Link | Trouble::Refused(_) => {
+                Status::Path
+            }
             Trouble::Digest => Status::Differs,
             Trouble::File
             | Trouble::Host
             | Trouble::Obstacles
             | Trouble::TooMany
-            | Trouble::Moving => Status::Host,
+            | Trouble::Moving
+            | Trouble::LongSource => Status::Host,
             Trouble::Input => Status::Input,
             Trouble::NoListing | Trouble::LongListing => Status::BadListing,
+            Trouble::Full | Trouble::TooMuch | Trouble::Crowded => Status::Full,
         }
     }
 

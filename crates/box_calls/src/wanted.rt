@@ -1,4 +1,4 @@
-//! What is taken of a tree where a folder of the host is made or compared.
+//! What is taken of a tree where a folder of the host is made, compared or stored.
 
 ghost use Rattle.std.specs.Prelude.{◌≡◌};
 ghost use Rattle.box_calls.specs.Makings as model;
@@ -20,5 +20,16 @@ pub fn wanted_of(taken: Taken) -> Wanted
             Links::Made
         },
         skips: taken.skip,
+    }
+}
+
+/// What is stored of a folder, as the options of the words say: times only where these ask for them, since times are
+/// history.
+pub fn stored_of(taken: Taken) -> Wanted
+    ensures { result ≡ model.stored_of taken }
+{
+    Wanted {
+        mtime: taken.times == Times::Kept,
+        ..wanted_of(taken)
     }
 }

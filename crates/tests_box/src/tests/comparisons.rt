@@ -1,12 +1,9 @@
 //! `compare`.
 
-use super::support::{TREE, image_of, out_of, place_in, say_of};
-use box_calls::{MarkForm, PackFault, Packed, compare_with_folder, compare_with_image, unpacked};
-use box_words::{Spelling, Taken, Times};
-use host_folders::{Found, FoundKind, MemEntry, MemFolder, find_all};
-use std::alloc::Global;
-use std::process::Abort;
-use tests_tools::{NEVER, fields, number, path_of};
+use super::support::{TREE, folder_of, image_of, out_of, packed_of, place_in, say_of};
+use box_calls::{MarkForm, PackFault, compare_with_folder, compare_with_image, unpacked};
+use box_words::Spelling;
+use tests_tools::{NEVER, fields, number};
 
 /// Lines as they stand.
 const FORM: MarkForm = MarkForm {
@@ -36,35 +33,6 @@ fn images_are_compared(rt: HostRuntime) {
     }
 }
 
-/// Adds what stands at a path.
-fn add(
-    rt: &impl Abort,
-    alloc: Global,
-    entries: &mut Vec<MemEntry>,
-    path: &str,
-    kind: FoundKind,
-    bytes: &str,
-) {
-    let found = Found {
-        path: path_of(path),
-        kind,
-        is_executable: false,
-        seconds: None,
-    };
-    let bytes = bytes.as_bytes().to_vec(alloc).expect(rt, "memory");
-    entries.push(MemEntry { found, bytes }).expect(rt, "memory");
-}
-
-/// The folder of the tree, with these two bytes in its file.
-fn folder_of(rt: &impl Abort, alloc: Global, bytes: &str) -> MemFolder {
-    let mut entries = Vec::new(alloc);
-    add(rt, alloc, &mut entries, "/d", FoundKind::Folder, "");
-    let file = FoundKind::File(2);
-    add(rt, alloc, &mut entries, "/d/a.txt", file, bytes);
-    add(rt, alloc, &mut entries, "/l", FoundKind::Link, "d/a.txt");
-    MemFolder::new(entries, 4096, Vec::new(alloc))
-}
-
 /// The folders: the bytes of the file, how many obstacles were met, whether they are skipped, the status, the lines,
 /// and what is said.
 static FOLDERS: &str = "hi|0|no|0||#ho|0|no|1|M /d/a.txt\n|#hi|1|yes|1||#\
@@ -75,19 +43,8 @@ fn folders_are_compared(rt: HostRuntime) {
     let alloc = rt.alloc();
     for row in FOLDERS.split('#') {
         let [bytes, obstacles, skip, status, lines, said, ..] = fields(row);
-        let mut folder = folder_of(&rt, alloc, bytes);
-        let found = find_all(alloc, &mut folder).ok().expect(&rt, "a folder");
-        let packed = Packed {
-            folder,
-            found,
-            left_out: number(obstacles),
-            taken: Taken {
-                skip: skip == "yes",
-                no_mode: false,
-                no_links: false,
-                times: Times::AsImage,
-            },
-        };
+        let folder = folder_of(&rt, alloc, bytes, NEVER);
+        let packed = packed_of(&rt, alloc, folder, number(obstacles), skip == "yes");
         let disk = image_of(&rt, alloc, 7, TREE);
         let (sink, say) = (out_of(&rt, alloc, NEVER), say_of(&rt, alloc));
         let came = compare_with_folder(&place_in(alloc, false), FORM, disk, packed, sink, say);

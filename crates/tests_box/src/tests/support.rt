@@ -1,17 +1,20 @@
-//! What the tests share: images in memory, and what a call on one is told.
+//! What the tests share: images and a folder in memory, and what a call on them is told.
 
-use box_calls::Place;
-use box_words::Spelling;
+ghost use Rattle.std.specs.Prelude.{◌≤◌, vec_len};
+
+use box_calls::{Packed, Place};
+use box_words::{Spelling, Taken, Times};
 use disk_model::MemDisk;
 use dump_streams::GatheredSink;
 use gate_journal::Journal;
+use host_folders::{Found, FoundKind, MAX_FOUND, MemEntry, MemFolder, find_all};
 use script_lines::MemSink;
 use std::alloc::Global;
 use std::process::Abort;
-use store_base::{DrawKind, Params};
+use store_base::{DrawKind, Params, image_len};
 use store_core::Store;
 use store_model::Version;
-use tests_tools::{command_of, sink_of};
+use tests_tools::{command_of, path_of, sink_of};
 
 /// The slots of an image, and its bytes: 2 blocks, one of marks, and two for each slot.
 pub const SLOTS: u32 = 64;
@@ -24,10 +27,10 @@ const ROOM: usize = 1_048_576;
 /// The tree of most tests: a folder, a file of two bytes in it, and a link to the file.
 pub static TREE: &str = "make /d\nwrite /d/a.txt 0 6869\nwrite /l 0 -\nset /l link 642f612e747874";
 
-/// An image of the empty tree, with this seed.
-fn formatted(rt: &impl Abort, alloc: Global, seed: u8) -> MemDisk {
-    let params = Params::new(SLOTS, 2, DrawKind::Sha256, [seed; 32]).expect(rt, "parameters");
-    let zeros = vec![in alloc; 0; LEN].expect(rt, "memory");
+/// An image of the empty tree, of so many slots, with this draw and seed.
+pub fn image_with(rt: &impl Abort, alloc: Global, slots: u32, draw: DrawKind, seed: u8) -> MemDisk {
+    let params = Params::new(slots, 2, draw, [seed; 32]).expect(rt, "parameters");
+    let zeros = vec![in alloc; 0; image_len(slots) as usize].expect(rt, "memory");
     let mut disk = MemDisk::new(alloc, &zeros, ROOM).expect(rt, "memory");
     Journal::format(&mut disk, &params.with_version(Version::Two)).expect(rt, "an image");
     disk
@@ -35,7 +38,7 @@ fn formatted(rt: &impl Abort, alloc: Global, seed: u8) -> MemDisk {
 
 /// The image with this seed that these commands leave, one in a line.
 pub fn image_of(rt: &impl Abort, alloc: Global, seed: u8, script: &str) -> MemDisk {
-    let disk = formatted(rt, alloc, seed);
+    let disk = image_with(rt, alloc, SLOTS, DrawKind::Sha256, seed);
     let mut store = Store::attach(alloc, disk).ok().expect(rt, "a store");
     for line in script.lines() {
         let _ = store.apply(&command_of(line)).expect(rt, "a reply");
@@ -69,4 +72,59 @@ pub fn say_of(rt: &impl Abort, alloc: Global) -> MemSink {
 pub fn out_of(rt: &impl Abort, alloc: Global, failing: u64) -> GatheredSink<MemSink> {
     let sink = sink_of(alloc, &[failing]).expect(rt, "memory");
     GatheredSink::new(alloc, sink).ok().expect(rt, "memory")
+}
+
+/// Adds what stands at a path.
+fn add(
+    rt: &impl Abort,
+    alloc: Global,
+    entries: &mut Vec<MemEntry>,
+    path: &str,
+    kind: FoundKind,
+    bytes: &str,
+) {
+    let found = Found {
+        path: path_of(path),
+        kind,
+        is_executable: false,
+        seconds: None,
+    };
+    let bytes = bytes.as_bytes().to_vec(alloc).expect(rt, "memory");
+    entries.push(MemEntry { found, bytes }).expect(rt, "memory");
+}
+
+/// The folder of the tree, with these two bytes in its file. This call of it fails: behind the lists of the root and of
+/// `/d` the file is opened, read, and read once more for its end, and the link is asked.
+pub fn folder_of(rt: &impl Abort, alloc: Global, bytes: &str, failing: u64) -> MemFolder {
+    let mut entries = Vec::new(alloc);
+    add(rt, alloc, &mut entries, "/d", FoundKind::Folder, "");
+    let file = FoundKind::File(2);
+    add(rt, alloc, &mut entries, "/d/a.txt", file, bytes);
+    add(rt, alloc, &mut entries, "/l", FoundKind::Link, "d/a.txt");
+    MemFolder::new(entries, 4096, [failing].to_vec(alloc).expect(rt, "memory"))
+}
+
+/// The folder as a call takes it, where so many obstacles were met, which are skipped or not.
+pub fn packed_of(
+    rt: &impl Abort,
+    alloc: Global,
+    folder: MemFolder,
+    obstacles: u64,
+    skip: bool,
+) -> Packed<MemFolder>
+    ensures { vec_len result.found ≤ MAX_FOUND }
+{
+    let mut folder = folder;
+    let found = find_all(alloc, &mut folder).ok().expect(rt, "a folder");
+    Packed {
+        folder,
+        found,
+        left_out: obstacles,
+        taken: Taken {
+            skip,
+            no_mode: false,
+            no_links: false,
+            times: Times::AsImage,
+        },
+    }
 }

@@ -1,0 +1,4 @@
+mod Asked
+mod Opened
+mod Statuses
+mod Told

@@ -1,0 +1,5 @@
+pub mod Asking
+pub mod Changing
+pub mod Endings
+pub mod Meanings
+pub mod Telling
