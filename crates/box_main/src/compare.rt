@@ -1,69 +1,30 @@
 //! `compare`: what an image is compared with.
 
-ghost use Rattle.std.specs.Prelude.{◌≤◌, vec_len, IfOk};
-
-use crate::image::{Image, open};
-use crate::output::{Output, output, output_file, say};
-use crate::report::Reports;
+use crate::folder::{HostFolder, go_through, host_folder, look_in};
+use crate::image::{Image, look_at_image, open};
+use crate::output::{Output, output, say};
 use crate::trouble::{Thing, cause, no_memory, unopened};
-use box_calls::{
-    MarkForm, PackFault, Packed, Place, compare_with_folder, compare_with_image, unpacked,
-    wanted_of,
-};
+use box_calls::{MarkForm, Place, compare_with_folder, compare_with_image, wanted_of};
 use box_words::{Common, Status, Taken, Times};
-use host_files::{FileId, StdFolder};
-use host_folders::{FindFault, Found, MAX_FOUND, find_all};
+use host_files::FileId;
 use std::fs;
-
-/// A folder that is compared.
-type Folder<'a> = StdFolder<Reports<'a>>;
 
 /// What to do where there is nothing to compare with.
 const ADVICE: &str = "give a folder or an image that you may read";
 
-/// The files that the program itself works on: the image, and the file to which standard output leads.
-fn own_files(rt: HostRuntime, image: &FileId) -> Option<Vec<FileId>> {
-    let mut own = Vec::new(rt.alloc());
-    own.push(*image).ok()?;
-    if let Some(file) = output_file(rt) {
-        own.push(file).ok()?;
-    }
-    Some(own)
-}
-
-/// A folder of the host that is compared with an image.
+/// A folder of the host that is compared with an image. `None`: memory ran out.
 fn folder_of<'a>(
     rt: HostRuntime,
     place: &Place<'a>,
     common: &Common,
     taken: Taken,
     image: &FileId,
-) -> Option<Folder<'a>> {
-    let name = String::from_str(rt.alloc(), place.file).ok()?;
-    let own = own_files(rt, image)?;
-    let reports = Reports::new(rt, place, taken, common);
-    let mut folder = StdFolder::new(rt, name, wanted_of(taken), own, reports);
+) -> Option<HostFolder<'a>> {
+    let mut folder = host_folder(rt, place, common, taken, wanted_of(taken), Some(*image))?;
     if taken.times == Times::AsImage {
         folder.pass_over_old_times();
     }
     Some(folder)
-}
-
-/// All that stands in a folder. Without `--skip` it is a fault that something has no place in an image.
-fn found_in(rt: HostRuntime, folder: &mut Folder<'_>, taken: Taken) -> Result<Vec<Found>, PackFault>
-    ensures few { IfOk result (λ found. vec_len found ≤ MAX_FOUND) }
-{
-    let found = match find_all(rt.alloc(), folder) {
-        Ok(found) => found,
-        Err(FindFault::NoMemory) => return Err(PackFault::NoMemory),
-        Err(FindFault::Unreadable) => return Err(PackFault::Unreadable),
-        Err(FindFault::TooMany) => return Err(PackFault::TooMany),
-    };
-    let left_out = folder.left_out();
-    if left_out > 0 && !taken.skip {
-        return Err(PackFault::Obstacles(left_out));
-    }
-    Ok(found)
 }
 
 /// Compares an image with a folder.
@@ -76,23 +37,11 @@ fn with_folder(
     image: Image,
     out: Output,
 ) -> Result<Status, Status> {
-    if let Err(error) = fs::read_dir(&rt, place.file) {
-        return Err(unopened(rt, place.file, cause(&error), ADVICE));
-    }
-    let Some(mut folder) = folder_of(rt, place, common, taken, &image.file) else {
+    look_in(rt, place.file, ADVICE)?;
+    let Some(folder) = folder_of(rt, place, common, taken, &image.file) else {
         return Err(no_memory(rt, &Thing::File(place.file)));
     };
-    let found = match found_in(rt, &mut folder, taken) {
-        Ok(found) => found,
-        Err(why) => return Err(unpacked(place, why, &mut say(rt))),
-    };
-    let left_out = folder.left_out();
-    let packed = Packed {
-        folder,
-        found,
-        left_out,
-        taken,
-    };
+    let packed = go_through(rt, place, common, taken, folder)?;
     let mut compared = compare_with_folder(place, form, image.disk, packed, out, say(rt));
     compared.first.finish();
     Ok(compared.status)
@@ -123,10 +72,11 @@ pub fn compare(
     taken: Taken,
     form: MarkForm,
 ) -> Result<Status, Status> {
-    if fs::metadata(&rt, place.image).is_ok_and(|found| found.is_dir()) {
-        let advice = "the image stands first: hbox compare IMAGE DIR";
-        return Err(unopened(rt, place.image, "it is a folder", advice));
-    }
+    look_at_image(
+        rt,
+        place.image,
+        "the image stands first: hbox compare IMAGE DIR",
+    )?;
     let image = open(rt, place.image, common, 2)?;
     let is_folder = match fs::metadata(&rt, place.file) {
         Ok(found) => found.is_dir(),

@@ -22,7 +22,7 @@ use store_base::Version;
 type Folder<'a> = HostBuilder<Reports<'a>>;
 
 /// The paths of an image that words are.
-fn paths_of(rt: HostRuntime, place: &Place<'_>, words: &[&str]) -> Result<Vec<Path>, Status> {
+pub fn paths_of(rt: HostRuntime, place: &Place<'_>, words: &[&str]) -> Result<Vec<Path>, Status> {
     let mut paths = Vec::new(rt.alloc());
     for word in words {
         let path = path_of(rt, place.image, word, place.spelling)?;

@@ -1,12 +1,13 @@
 //! `get`: where the bytes of a file go.
 
+use crate::given::{given_list, name_of, names_in};
 use crate::image::{Image, open};
 use crate::output::{output, say};
 use crate::subcommands::path_of;
 use crate::target::{Written, open_target};
-use crate::trouble::{Thing, no_memory};
+use crate::trouble::{Thing, no_memory, tell};
 use box_calls::{Place, Target, get_file};
-use box_words::{Common, Status};
+use box_words::{Common, Named, Status};
 use dump_streams::GatheredSink;
 use path_keys::Path;
 use script_lines::StdSink;
@@ -40,15 +41,43 @@ fn copy(
     Ok(written.finish(rt, name, ended.status))
 }
 
+/// The path that a call names.
+fn path_named(rt: HostRuntime, place: &Place<'_>, named: Named<'_>) -> Result<Path, Status> {
+    let origin = match named {
+        Named::Word(word) => return path_of(rt, place.image, word, place.spelling),
+        Named::List(origin) => origin,
+    };
+    let list = given_list(rt, origin)?;
+    let names = names_in(rt, origin, list.as_slice())?;
+    match names.as_slice() {
+        [name] => path_of(rt, place.image, name, place.spelling),
+        names => {
+            let thing = Thing::File(name_of(origin));
+            let wrong = if names.is_empty() {
+                "it has no name"
+            } else {
+                "it has more than one name"
+            };
+            Err(tell(
+                rt,
+                Status::Words,
+                &thing,
+                wrong,
+                "give the path of one file",
+            ))
+        }
+    }
+}
+
 /// Copies a file of an image, to standard output, which is also called `-`, or to a file.
 pub fn get(
     rt: HostRuntime,
     place: &Place<'_>,
     common: &Common,
-    path: &str,
+    path: Named<'_>,
     file: Option<&str>,
 ) -> Result<Status, Status> {
-    let path = path_of(rt, place.image, path, place.spelling)?;
+    let path = path_named(rt, place, path)?;
     let image = open(rt, place.image, common, 1)?;
     match file {
         None | Some("-") => {

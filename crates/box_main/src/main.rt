@@ -1,22 +1,33 @@
-//! The program `hbox SUBCOMMAND IMAGE WORDS..`: gets folders and files out of images.
+//! The program `hbox SUBCOMMAND IMAGE WORDS..`: gets files and folders into images and out of them.
 //!
 //! This crate reads words, opens files and shows progress. It assumes that files, locks and the standard streams do
 //! what is asked of them. What a subcommand does and says is the libraries'.
 #![tactic(auto)]
 
+mod attr;
+mod changes;
 mod compare;
+mod create;
 mod extract;
+mod folder;
 mod get;
+mod given;
 mod image;
+mod new_image;
 mod output;
+mod pack;
+mod pieces;
 mod progress;
 mod report;
+mod seed;
 mod subcommands;
 mod target;
+mod texts;
 mod trouble;
 
 use crate::output::print;
 use crate::subcommands::serve;
+use crate::texts::TEXTS;
 use crate::trouble::{Thing, no_memory, tell};
 use box_words::{Asked, Help, Status, WordsFault, read, version_line};
 use std::env;
@@ -67,8 +78,22 @@ fn print_page(rt: HostRuntime, page: Option<String>) -> Status {
 /// Does what the words ask for.
 fn done(rt: HostRuntime, asked: Asked<'_>) -> Status {
     match asked {
-        Asked::Help(topic) => { print_page(rt, format!(in rt.alloc(); "{}\n", Help(topic)).ok()) }
-        Asked::Version => { print_page(rt, format!(in rt.alloc(); "{}\n", version_line()).ok()) }
+        Asked::Help(topic) => {
+            print_page(
+                rt,
+                format!(in rt.alloc();
+                    "{}\n",
+                    Help {
+                        texts: TEXTS,
+                        topic
+                    }
+                )
+                .ok(),
+            )
+        }
+        Asked::Version => {
+            print_page(rt, format!(in rt.alloc(); "{}\n", version_line(TEXTS)).ok())
+        }
         Asked::Call(call, common) => serve(rt, &call, &common),
     }
 }

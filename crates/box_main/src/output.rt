@@ -64,6 +64,11 @@ pub fn output(rt: HostRuntime, image: &str, file: &FileId) -> Result<Output, Sta
         let thing = Thing::File("standard output");
         return Err(tell(rt, Status::Path, &thing, wrong, advice));
     }
+    plain_output(rt, image)
+}
+
+/// Standard output, for what is not read of an image. The name is said where memory ran out.
+pub fn plain_output(rt: HostRuntime, name: &str) -> Result<Output, Status> {
     let stream = rt.stdout();
     let clears = stream.is_terminal() && rt.stderr().is_terminal();
     let sink = Cleared {
@@ -73,7 +78,7 @@ pub fn output(rt: HostRuntime, image: &str, file: &FileId) -> Result<Output, Sta
     };
     match GatheredSink::new(rt.alloc(), sink) {
         Ok(sink) => Ok(sink),
-        Err(_) => Err(no_memory(rt, &Thing::File(image))),
+        Err(_) => Err(no_memory(rt, &Thing::File(name))),
     }
 }
 

@@ -4,7 +4,7 @@ use crate::output::say;
 use crate::trouble::cause;
 use box_calls::{Place, say as say_message};
 use box_words::{Common, Message, Spelling, Taken, shown, terminal_text};
-use host_files::{LeftOut, Omitted, Remark, Reporter, Thing};
+use host_files::{LeftOut, Remark, Reporter, Thing};
 use host_folders::NoTarget;
 use path_keys::Path;
 use std::io::{Error, ErrorKind};
@@ -116,8 +116,6 @@ impl Reporter for Reports<'_> {
             say_message(self.rt.alloc(), &message, &mut say(self.rt));
         }
     }
-
-    fn report_omitted(&mut self, _: &Omitted) {}
 }
 
 /// Why something has no place in an image.
@@ -205,6 +203,7 @@ fn advice_after(error: Option<&Error>) -> &'static str {
     };
     match error.kind() {
         ErrorKind::NotFound => "create its parent folder first",
+        ErrorKind::UnexpectedEof => "try again while no program changes the folder",
         ErrorKind::PermissionDenied => "look whether you may read and write there",
         ErrorKind::StorageFull | ErrorKind::QuotaExceeded => "make room on the disk, and try again",
         ErrorKind::AlreadyExists => "give a DIR on a disk that tells such names apart",

@@ -1,13 +1,18 @@
 //! The subcommands: what is opened for each.
 
+use crate::attr::attr;
+use crate::changes::{make, move_to, remove};
 use crate::compare::compare;
+use crate::create::{Order, create};
 use crate::extract::{extract, unpack};
 use crate::get::get;
 use crate::image::{Image, open};
 use crate::output::{output, say};
+use crate::pack::pack;
 use crate::trouble::{Thing, no_memory, tell};
 use box_calls::{MarkForm, Place, Quoted, check_image, draw_map, list_path, print_info};
-use box_words::{Call, Common, Spelling, Status, image_path};
+use box_changes::Removal;
+use box_words::{Call, Common, Shape, Spelling, Status, Taken, image_path};
 use entry_lines::ListForm;
 use path_keys::Path;
 use std::io::IsTerminal;
@@ -105,6 +110,79 @@ fn map(rt: HostRuntime, place: &Place<'_>, common: &Common) -> Result<Status, St
     Ok(ended.status)
 }
 
+/// What is asked for of an image.
+fn order_of(dir: Option<&str>, shape: Shape, is_dry: bool, taken: Taken) -> Order {
+    Order {
+        is_empty: dir.is_none(),
+        is_dry,
+        shape,
+        taken,
+    }
+}
+
+/// How a list is printed.
+fn list_form(
+    rt: HostRuntime,
+    place: &Place<'_>,
+    is_long: bool,
+    is_below: bool,
+    is_zero: bool,
+) -> ListForm {
+    ListForm {
+        is_below,
+        is_long,
+        is_zero,
+        is_visible: rt.stdout().is_terminal(),
+        spelling: place.spelling,
+    }
+}
+
+/// How differences are printed.
+fn mark_form(rt: HostRuntime, place: &Place<'_>, is_zero: bool) -> MarkForm {
+    MarkForm {
+        is_zero,
+        is_visible: rt.stdout().is_terminal(),
+        spelling: place.spelling,
+    }
+}
+
+/// Does what a call asks for that changes an image, and answers how it ends.
+fn change(
+    rt: HostRuntime,
+    place: &Place<'_>,
+    call: &Call<'_>,
+    common: &Common,
+) -> Result<Status, Status> {
+    match call {
+        Call::Rm {
+            paths,
+            list,
+            is_below,
+            is_forced,
+            ..
+        } => {
+            let removal = Removal {
+                recursive: *is_below,
+                forced: *is_forced,
+            };
+            remove(rt, place, common, paths.as_slice(), *list, removal)
+        }
+        Call::Mv {
+            from,
+            to,
+            is_forced,
+            ..
+        } => move_to(rt, place, common, from, to, *is_forced),
+        Call::Mkdir {
+            paths,
+            has_parents,
+            ..
+        } => make(rt, place, common, paths.as_slice(), *has_parents),
+        Call::Attr { path, deed, .. } => attr(rt, place, common, path, deed),
+        _ => Ok(Status::Words),
+    }
+}
+
 /// Does what a call asks for, and answers how it ends.
 fn answer(
     rt: HostRuntime,
@@ -112,9 +190,17 @@ fn answer(
     call: &Call<'_>,
     common: &Common,
 ) -> Result<Status, Status> {
-    let is_visible = rt.stdout().is_terminal();
-    let spelling = place.spelling;
     match call {
+        Call::Create {
+            dir,
+            shape,
+            is_dry,
+            taken,
+            ..
+        } => {
+            let order = order_of(*dir, *shape, *is_dry, *taken);
+            create(rt, place, common, &order)
+        }
         Call::Extract { paths, taken, .. } => extract(rt, place, common, paths.as_slice(), *taken),
         Call::Ls {
             path,
@@ -123,41 +209,38 @@ fn answer(
             is_zero,
             ..
         } => {
-            let form = ListForm {
-                is_below: *is_below,
-                is_long: *is_long,
-                is_zero: *is_zero,
-                is_visible,
-                spelling,
-            };
+            let form = list_form(rt, place, *is_long, *is_below, *is_zero);
             list(rt, place, common, *path, form)
         }
-        Call::Get { path, file, .. } => get(rt, place, common, path, *file),
+        Call::Get { path, file, .. } => get(rt, place, common, *path, *file),
         Call::Compare { taken, is_zero, .. } => {
-            let form = MarkForm {
-                is_zero: *is_zero,
-                is_visible,
-                spelling,
-            };
-            compare(rt, place, common, *taken, form)
+            compare(rt, place, common, *taken, mark_form(rt, place, *is_zero))
         }
         Call::Check { digest, .. } => check(rt, place, common, *digest),
         Call::Info { .. } => info(rt, place, common),
         Call::Map { .. } => map(rt, place, common),
+        Call::Pack { taken, .. } => pack(rt, place, common, *taken),
         Call::Unpack { taken, .. } => unpack(rt, place, common, *taken),
+        call => change(rt, place, call, common),
     }
 }
 
 /// The name of the image of a call, or of what takes its place.
 fn image_of<'a>(call: &Call<'a>) -> &'a str {
     match call {
-        Call::Extract { image, .. }
+        Call::Create { image, .. }
+        | Call::Extract { image, .. }
         | Call::Ls { image, .. }
         | Call::Get { image, .. }
+        | Call::Rm { image, .. }
+        | Call::Mv { image, .. }
+        | Call::Mkdir { image, .. }
+        | Call::Attr { image, .. }
         | Call::Compare { image, .. }
         | Call::Check { image, .. }
         | Call::Info { image }
         | Call::Map { image } => image,
+        Call::Pack { .. } => "standard output",
         Call::Unpack { .. } => "standard input",
     }
 }
@@ -165,10 +248,11 @@ fn image_of<'a>(call: &Call<'a>) -> &'a str {
 /// The name of the file or the folder of the host that a call is about; the empty text for none.
 fn file_of<'a>(call: &Call<'a>) -> &'a str {
     match call {
-        Call::Extract { dir, .. } | Call::Unpack { dir, .. } => dir,
+        Call::Create { dir, .. } => dir.unwrap_or(""),
+        Call::Extract { dir, .. } | Call::Pack { dir, .. } | Call::Unpack { dir, .. } => dir,
         Call::Get { file, .. } => file.unwrap_or(""),
         Call::Compare { other, .. } => other,
-        Call::Ls { .. } | Call::Check { .. } | Call::Info { .. } | Call::Map { .. } => "",
+        _ => "",
     }
 }
 

@@ -63,6 +63,7 @@ pub fn cause(error: &Error) -> &'static str {
         ErrorKind::OutOfMemory => "memory ran out",
         ErrorKind::InvalidFilename => "the name is too long",
         ErrorKind::InvalidInput => "it is not a plain file",
+        ErrorKind::UnexpectedEof => "it became shorter",
         _ => "the system refused it",
     }
 }

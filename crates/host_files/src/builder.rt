@@ -92,25 +92,9 @@ impl<R: Reporter + Drop> HostBuilder<R> {
         self.counts.left_out
     }
 
-    /// How many attributes were left out.
-    pub fn attributes_left_out(&self) -> u64 {
-        self.site.attributes_left_out()
-    }
-
-    /// Reports which attributes were left out.
-    pub fn say_attributes(&mut self) {
-        self.site.say_attributes();
-    }
-
     /// Takes the folder away again where it was made here and nothing stands in it. Nothing is reported.
     pub fn abandon(&mut self) {
         self.site.abandon();
-    }
-
-    /// Gives the reporter back.
-    pub fn into_reporter(self) -> R {
-        let HostBuilder { site, counts: _ } = self;
-        site.into_reporter()
     }
 }
 
@@ -169,12 +153,5 @@ impl<R: Reporter + Drop> Builder for HostBuilder<R> {
         self.site.leave_out(path, why);
     }
 
-    fn leave_attribute_out(
-        &mut self,
-        path: &Path,
-        name: &AttrName,
-        attribute: Option<HostAttribute>,
-    ) {
-        self.site.leave_attribute_out(path, name, attribute);
-    }
+    fn leave_attribute_out(&mut self, _: &Path, _: &AttrName, _: Option<HostAttribute>) {}
 }

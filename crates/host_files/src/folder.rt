@@ -14,9 +14,11 @@ use host_builder::{Links, Wanted};
 use host_folders::{Folder, FolderFault, Found, FoundKind, LinkTarget};
 use host_names::{HostPathFault, host_text, image_path};
 use path_keys::{AttrName, Path, attr_key};
+use std::alloc::Global;
 use std::fs::{self, DirEntry, Metadata, ReadDir};
 use std::io::{self, Error, ErrorKind};
 use std::os::unix::fs::MetadataExt;
+use store_base::NoMemory;
 use tree_pairs::FILE_LIMIT;
 
 /// The bit of a file's mode that lets its owner execute it.
@@ -32,6 +34,8 @@ pub struct StdFolder<R: Reporter> {
     rt: HostRuntime,
     /// The path of the folder on the host.
     folder: String,
+    /// Whether what is reported is named by its path on the host, and not by that in the folder.
+    names_host: bool,
     wanted: Wanted,
     /// Whether a time before 1970 is an obstacle. Else the entry has none.
     minds_old_times: bool,
@@ -62,6 +66,7 @@ impl<R: Reporter + Drop> StdFolder<R> {
         StdFolder {
             rt,
             folder,
+            names_host: false,
             wanted,
             minds_old_times: true,
             own,
@@ -80,6 +85,26 @@ impl<R: Reporter + Drop> StdFolder<R> {
         self.minds_old_times = false;
     }
 
+    /// Where memory comes from.
+    pub(crate) fn alloc(&self) -> Global {
+        self.rt.alloc()
+    }
+
+    /// From now on what is reported is named by its path on the host.
+    pub(crate) fn name_by_host(&mut self) {
+        self.names_host = true;
+    }
+
+    /// From now on it is the folder at another path of the host, or what else stands there: that has the root as path.
+    /// `NoMemory`: nothing is to be asked of it until it is another one.
+    pub(crate) fn enter(&mut self, host: &str) -> Result<(), NoMemory> {
+        self.folder.clear();
+        match self.folder.push_str(host) {
+            Ok(()) => Ok(()),
+            Err(_) => Err(NoMemory),
+        }
+    }
+
     /// How much was left out so far, a folder as one, but for the program's own files and for links that nobody wants.
     pub fn left_out(&self) -> u64 {
         self.left_out
@@ -95,28 +120,20 @@ impl<R: Reporter + Drop> StdFolder<R> {
         self.links_left_out
     }
 
-    /// Gives the reporter back.
-    pub fn into_reporter(self) -> R {
-        let StdFolder {
-            rt: _,
-            folder: _,
-            wanted: _,
-            minds_old_times: _,
-            own: _,
-            reporter,
-            left_out: _,
-            own_left_out: _,
-            links_left_out: _,
-            reading: _,
-            open: _,
-            faults: _,
-        } = self;
-        reporter
+    /// Reports what is said of what stands at a path.
+    fn tell(&mut self, path: &Path, remark: Remark, error: Option<&Error>) {
+        if self.names_host
+            && let Ok(text) = host_text(self.rt.alloc(), self.folder.as_str(), path)
+        {
+            let thing = Thing::Host(text.as_str());
+            return self.reporter.report(&thing, remark, error);
+        }
+        self.reporter.report(&Thing::Path(path), remark, error);
     }
 
     /// Reports what the system did not answer.
     fn report(&mut self, path: &Path, remark: Remark) {
-        self.reporter.report(&Thing::Path(path), remark, None);
+        self.tell(path, remark, None);
     }
 
     /// Counts what is left out.
@@ -125,7 +142,7 @@ impl<R: Reporter + Drop> StdFolder<R> {
     }
 
     /// Says that what stands at a path is left out, and counts it.
-    fn leave_out(&mut self, path: &Path, why: LeftOut) {
+    pub(crate) fn leave_out(&mut self, path: &Path, why: LeftOut) {
         self.report(path, Remark::NotPacked(why));
         match why {
             LeftOut::Own => self.own_left_out = self.own_left_out.saturating_add(1),
@@ -133,6 +150,22 @@ impl<R: Reporter + Drop> StdFolder<R> {
                 self.links_left_out = self.links_left_out.saturating_add(1);
             }
             _ => self.count(),
+        }
+    }
+
+    /// Says that something is left out whose path would be too long, and counts it.
+    pub(crate) fn leave_out_long(&mut self, thing: &Thing<'_>) {
+        let remark = Remark::NotPacked(LeftOut::TooLong);
+        self.reporter.report(thing, remark, None);
+        self.count();
+    }
+
+    /// The same of a name in a folder.
+    fn leave_out_name(&mut self, folder: &Path, entry: &DirEntry) {
+        if self.names_host {
+            self.leave_out_long(&Thing::Host(entry.path().as_str()));
+        } else {
+            self.leave_out_long(&Thing::Name(folder, entry.file_name()));
         }
     }
 
@@ -149,7 +182,11 @@ impl<R: Reporter + Drop> StdFolder<R> {
     }
 
     /// Lists a folder; what cannot be listed is left out, but for the folder that is packed itself.
-    fn list_folder(&mut self, path: &Path, found: &mut Vec<Found>) -> Result<(), FolderFault> {
+    pub(crate) fn list_folder(
+        &mut self,
+        path: &Path,
+        found: &mut Vec<Found>,
+    ) -> Result<(), FolderFault> {
         let text = self.text(path)?;
         let names = match self.names(path, text.as_str()) {
             Ok(names) => names,
@@ -188,10 +225,19 @@ impl<R: Reporter + Drop> StdFolder<R> {
             return Err(FolderFault::Unreadable);
         }
         let remark = Remark::NotPacked(LeftOut::Unreadable);
-        self.reporter
-            .report(&Thing::Path(path), remark, Some(error));
+        self.tell(path, remark, Some(error));
         self.count();
         Ok(())
+    }
+
+    /// Adds what stands at a path to what was found, or leaves it out. Where nothing can be known of it, it cannot be
+    /// read.
+    pub(crate) fn find(&mut self, path: &Path, found: &mut Vec<Found>) -> Result<(), FolderFault> {
+        let text = self.text(path)?;
+        match fs::symlink_metadata(&self.rt, text.as_str()) {
+            Ok(metadata) => self.add_at(*path, text.as_str(), &metadata, found),
+            Err(error) => Err(self.unread(path, &error)),
+        }
     }
 
     /// Adds what stands at a name in a folder, or leaves it out.
@@ -203,20 +249,28 @@ impl<R: Reporter + Drop> StdFolder<R> {
     ) -> Result<(), FolderFault> {
         let name = entry.file_name();
         let Ok(path) = image_path(folder, name.as_bytes()) else {
-            let remark = Remark::NotPacked(LeftOut::TooLong);
-            self.reporter
-                .report(&Thing::Name(folder, name), remark, None);
-            self.count();
+            self.leave_out_name(folder, entry);
             return Ok(());
         };
         let Ok(metadata) = entry.metadata() else {
             self.leave_out(&path, LeftOut::Unreadable);
             return Ok(());
         };
+        self.add_at(path, entry.path().as_str(), &metadata, found)
+    }
+
+    /// Adds what stands at a path, with this one on the host, or leaves it out.
+    fn add_at(
+        &mut self,
+        path: Path,
+        text: &str,
+        metadata: &Metadata,
+        found: &mut Vec<Found>,
+    ) -> Result<(), FolderFault> {
         if self.wanted.links == Links::Made && metadata.is_symlink() {
-            return self.add_link(path, entry, found);
+            return self.add_link(path, text, found);
         }
-        match self.found_at(path, entry, &metadata) {
+        match self.found_at(path, text, metadata) {
             Ok(one) => found.push(one).map_err(|_| FolderFault::NoMemory),
             Err(why) => {
                 self.leave_out(&path, why);
@@ -229,10 +283,10 @@ impl<R: Reporter + Drop> StdFolder<R> {
     fn add_link(
         &mut self,
         path: Path,
-        entry: &DirEntry,
+        text: &str,
         found: &mut Vec<Found>,
     ) -> Result<(), FolderFault> {
-        match read_target(&self.rt, entry.path().as_str()) {
+        match read_target(&self.rt, text) {
             Ok(Ok(_)) => {}
             Ok(Err(why)) => {
                 self.leave_out(&path, LeftOut::Target(why));
@@ -254,12 +308,7 @@ impl<R: Reporter + Drop> StdFolder<R> {
     }
 
     /// What stands at a path, as it is packed: a folder or a file.
-    fn found_at(
-        &self,
-        path: Path,
-        entry: &DirEntry,
-        metadata: &Metadata,
-    ) -> Result<Found, LeftOut> {
+    fn found_at(&self, path: Path, text: &str, metadata: &Metadata) -> Result<Found, LeftOut> {
         if self.own.contains(&FileId::of(metadata)) {
             return Err(LeftOut::Own);
         }
@@ -272,7 +321,7 @@ impl<R: Reporter + Drop> StdFolder<R> {
         if !has_room(&found) {
             return Err(LeftOut::NoRoom);
         }
-        if self.wanted.skips && !can_be_opened(&self.rt, found.kind, entry) {
+        if self.wanted.skips && !can_be_opened(&self.rt, found.kind, text) {
             return Err(LeftOut::Unreadable);
         }
         Ok(found)
@@ -290,21 +339,22 @@ impl<R: Reporter + Drop> StdFolder<R> {
         }
     }
 
-    /// Opens the file at a path, in the place of the one that was open.
-    fn open_file(&mut self, path: &Path) -> Result<(), FolderFault> {
+    /// Opens the file at a path, in the place of the one that was open, and tells how many bytes it has, up to
+    /// 4,294,967,295.
+    pub(crate) fn open_file(&mut self, path: &Path) -> Result<u32, FolderFault> {
         self.open = None;
         let text = self.text(path)?;
         match self.reading.open(&self.rt, text.as_str()) {
-            Ok(()) => {
+            Ok(len) => {
                 self.open = Some(*path);
-                Ok(())
+                Ok(u32::try_from(len).unwrap_or(u32::MAX))
             }
             Err(error) => Err(self.unread(path, &error)),
         }
     }
 
     /// Reads the next bytes of the file that is open.
-    fn read_on(&mut self, into: &mut [u8]) -> Result<usize, FolderFault>
+    pub(crate) fn read_on(&mut self, into: &mut [u8]) -> Result<usize, FolderFault>
         ensures { IfOk result (λ count. count ≤ length into.new) }
     {
         let Some(path) = self.open else {
@@ -317,7 +367,7 @@ impl<R: Reporter + Drop> StdFolder<R> {
     }
 
     /// Where the link at a path leads.
-    fn ask(&mut self, path: &Path) -> Result<LinkTarget, FolderFault>
+    pub(crate) fn ask(&mut self, path: &Path) -> Result<LinkTarget, FolderFault>
         ensures { IfOk result (λ target. IsTrue (is_target target)) }
     {
         let text = self.text(path)?;
@@ -340,8 +390,7 @@ impl<R: Reporter + Drop> StdFolder<R> {
         if error.kind() == ErrorKind::OutOfMemory {
             return FolderFault::NoMemory;
         }
-        self.reporter
-            .report(&Thing::Path(path), Remark::Unreadable, Some(error));
+        self.tell(path, Remark::Unreadable, Some(error));
         FolderFault::Unreadable
     }
 }
@@ -365,8 +414,12 @@ fn can_be_executed(metadata: &Metadata) -> bool {
     metadata.is_file() && metadata.mode() & OWNER_EXECUTES != 0
 }
 
-/// Whether each attribute of what was found has room in an image.
-fn has_room(found: &Found) -> bool {
+/// Whether each attribute of what was found has room in an image. At the root nothing stands but a source, which gets
+/// another path.
+pub(crate) fn has_room(found: &Found) -> bool {
+    if found.path.is_root() {
+        return true;
+    }
     if found.kind == FoundKind::Link {
         let Some(name) = AttrName::parse(b"link") else {
             return false;
@@ -385,8 +438,7 @@ fn has_room(found: &Found) -> bool {
 }
 
 /// Whether a file or a folder can be opened.
-fn can_be_opened(rt: &HostRuntime, kind: FoundKind, entry: &DirEntry) -> bool {
-    let text = entry.path().as_str();
+fn can_be_opened(rt: &HostRuntime, kind: FoundKind, text: &str) -> bool {
     match kind {
         FoundKind::Folder => fs::read_dir(rt, text).is_ok(),
         FoundKind::File(_) => open_plain(rt, text).is_ok(),
@@ -395,7 +447,7 @@ fn can_be_opened(rt: &HostRuntime, kind: FoundKind, entry: &DirEntry) -> bool {
 }
 
 /// The count of failed calls after a call that gave this answer: want of memory is no failure.
-fn counted<T>(faults: u64, answer: &Result<T, FolderFault>) -> u64
+pub(crate) fn counted<T>(faults: u64, answer: &Result<T, FolderFault>) -> u64
     ensures { result ≡ faults_after faults answer.now }
 {
     match answer {
@@ -420,7 +472,7 @@ impl<R: Reporter + Drop> Folder for StdFolder<R> {
         answer
     }
 
-    fn open(&mut self, path: &Path) -> Result<(), FolderFault> {
+    fn open(&mut self, path: &Path) -> Result<u32, FolderFault> {
         let faults = self.faults;
         let answer = self.open_file(path);
         self.faults = counted(faults, &answer);

@@ -34,33 +34,6 @@ pub enum LeftOut {
 }
 
 impl LeftOut {
-    /// What a message says of it.
-    pub fn words(self) -> &'static str {
-        match self {
-            LeftOut::Link => "a link is not packed",
-            LeftOut::Target(NoTarget::Empty) => "a link with an empty target is not packed",
-            LeftOut::Target(NoTarget::TooLong) => {
-                "a link with a target of more than 255 bytes is not packed"
-            }
-            LeftOut::Target(NoTarget::ZeroByte) =>
-                "a link with a zero byte in its target is not packed",
-            LeftOut::Target(NoTarget::NotUtf8) =>
-                "a link with a target that is not UTF-8 is not packed",
-            LeftOut::Pipe => "a pipe is not packed",
-            LeftOut::Socket => "a socket is not packed",
-            LeftOut::Device => "a device is not packed",
-            LeftOut::TooLarge => "a file of more than 16777216 bytes is not packed",
-            LeftOut::TooLong => "a path of more than 120 bytes is not packed",
-            LeftOut::NotUtf8 => "a name in it that is not UTF-8 is not packed",
-            LeftOut::TooOld => "a time before 1970 is not packed",
-            LeftOut::NoRoom => {
-                "its attribute has no room: the path and the attribute's name have more than 118 bytes"
-            }
-            LeftOut::Unreadable => "it cannot be read",
-            LeftOut::Own => "a file that the program itself works on is not packed",
-        }
-    }
-
     /// Why that which is neither a folder nor a plain file is left out.
     pub fn of_kind(kind: FileType) -> LeftOut {
         if kind.is_symlink() {

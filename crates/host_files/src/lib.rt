@@ -1,5 +1,5 @@
-//! The thin edge to the files of the host: a folder that is packed, a folder that is made of a dump, and what
-//! standard input is. Start at `StdFolder` and `HostBuilder`.
+//! The thin edge to the files of the host: a folder that is packed, files and folders that are packed as one, and a
+//! folder that is made of a dump. Start at `StdFolder`, `Sources` and `HostBuilder`.
 //!
 //! This crate assumes that the system's calls do what is asked of them, so nothing here tells what it holds. It is
 //! proved that each call is safe and ends, and, by `host_names`, that each path that is made lies in the folder. The
@@ -8,30 +8,22 @@
 
 mod builder;
 mod folder;
-mod input;
 mod left_out;
-mod messages;
-mod names;
-mod omitted;
 mod opened;
 mod own;
 mod places;
 mod reading;
 mod report;
 mod site;
-mod spelled;
+mod sources;
 mod target;
 mod writing;
 
 pub use builder::HostBuilder;
 pub use folder::StdFolder;
 pub use host_builder::{Links, Wanted};
-pub use input::{place_in, second_look};
 pub use left_out::LeftOut;
-pub use messages::Messages;
-pub use names::NameTaker;
-pub use omitted::{Omitted, OmittedName};
 pub use own::FileId;
 pub use report::{Remark, Reporter, Thing};
 pub use site::NoFolder;
-pub use spelled::Spelled;
+pub use sources::Sources;

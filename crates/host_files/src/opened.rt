@@ -6,9 +6,9 @@ use std::fs::{self, File};
 use std::io::{Error, ErrorKind, Read, Result};
 use std::os::unix::fs::MetadataExt;
 
-/// Opens a plain file, and nothing else. What is no file is not opened, since a pipe would wait for its other end. A
-/// link is not followed. If the path leads to another file by then, that is an error.
-pub fn open_plain(rt: &HostRuntime, path: &str) -> Result<File> {
+/// Opens a plain file, and nothing else, and tells how many bytes it has. What is no file is not opened, since a pipe
+/// would wait for its other end. A link is not followed. If the path leads to another file by then, that is an error.
+pub fn open_plain(rt: &HostRuntime, path: &str) -> Result<(File, u64)> {
     let found = fs::symlink_metadata(rt, path)?;
     if !found.is_file() {
         return Err(Error::from(ErrorKind::InvalidInput));
@@ -18,7 +18,7 @@ pub fn open_plain(rt: &HostRuntime, path: &str) -> Result<File> {
     if !opened.is_file() || opened.dev() != found.dev() || opened.ino() != found.ino() {
         return Err(Error::from(ErrorKind::InvalidInput));
     }
-    Ok(file)
+    Ok((file, opened.len()))
 }
 
 /// Reads once, and again where a read was interrupted.

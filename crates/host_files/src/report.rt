@@ -1,7 +1,6 @@
 //! What is reported of a folder of the host: what could not be read, packed or made, and what was left out.
 
 use crate::left_out::LeftOut;
-use crate::omitted::Omitted;
 use path_keys::Path;
 use std::io::Error;
 
@@ -61,7 +60,4 @@ pub enum Remark {
 pub trait Reporter {
     /// Tells what is said of a thing, and what the system answered, if it was asked.
     fn report(&mut self, thing: &Thing<'_>, remark: Remark, error: Option<&Error>);
-
-    /// Tells which attributes were left out where a folder was made.
-    fn report_omitted(&mut self, omitted: &Omitted);
 }

@@ -1,13 +1,12 @@
 //! A folder of the host in which a tree is made: what asks the system.
 
-use crate::omitted::{Keeper, Omitted};
 use crate::places::Places;
 use crate::report::{Remark, Reporter, Thing};
 use crate::writing::{Writing, set_time};
 use dump_streams::TakerFault;
-use host_builder::{HostAttribute, LeftOut};
+use host_builder::LeftOut;
 use host_names::HostPathFault;
-use path_keys::{AttrName, Path};
+use path_keys::Path;
 use std::fs::{self, File};
 use std::io::{self, Error, ErrorKind};
 use std::os::unix::fs::symlink;
@@ -37,8 +36,6 @@ pub struct Site<R: Reporter> {
     has_left: bool,
     /// The file to which bytes are written.
     writing: Option<Writing>,
-    /// The attributes that were left out.
-    omitted: Omitted,
 }
 
 impl<R: Reporter + Drop> Site<R> {
@@ -53,7 +50,6 @@ impl<R: Reporter + Drop> Site<R> {
                 has_made: false,
                 has_left: false,
                 writing: None,
-                omitted: Omitted::new(rt.alloc()),
             }),
             Err(error) => {
                 let why = no_folder(&error);
@@ -61,30 +57,6 @@ impl<R: Reporter + Drop> Site<R> {
                 Err(why)
             }
         }
-    }
-
-    /// How many attributes were left out.
-    pub fn attributes_left_out(&self) -> u64 {
-        self.omitted.count()
-    }
-
-    /// Reports which attributes were left out.
-    pub fn say_attributes(&mut self) {
-        self.places.reporter().report_omitted(&self.omitted);
-    }
-
-    /// Gives the reporter back.
-    pub fn into_reporter(self) -> R {
-        let Site {
-            rt: _,
-            places,
-            is_new: _,
-            has_made: _,
-            has_left: _,
-            writing: _,
-            omitted: _,
-        } = self;
-        places.into_reporter()
     }
 
     /// Reports what failed.
@@ -160,14 +132,6 @@ impl<R: Reporter + Drop> Site<R> {
                 let _ = fs::remove_file(&self.rt, text);
                 Err(self.failed(path, Remark::NotWritten, &error))
             }
-        }
-    }
-
-    /// Whether bytes are written to the file at this path.
-    fn is_writing(&self, path: &Path) -> bool {
-        match &self.writing {
-            Some(writing) => writing.path() == path,
-            None => false,
         }
     }
 
@@ -314,21 +278,6 @@ impl<R: Reporter + Drop> Site<R> {
                 Err(fault) => self.places.leave_out(path, fault),
             },
         }
-    }
-
-    /// Notes that an attribute of what was made last is left out.
-    pub fn leave_attribute_out(
-        &mut self,
-        path: &Path,
-        name: &AttrName,
-        attribute: Option<HostAttribute>,
-    ) {
-        let keeper = match attribute {
-            Some(HostAttribute::Executes) if self.is_writing(path) => Keeper::Mode,
-            Some(HostAttribute::Time(_)) => Keeper::Mtime,
-            _ => Keeper::Nothing,
-        };
-        self.omitted.add(path, name, keeper);
     }
 }
 

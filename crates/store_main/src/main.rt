@@ -11,12 +11,12 @@
 use disk_model::FileDisk;
 use script_lines::{StdSink, StdSource};
 use std::alloc::Global;
-use std::fs::File;
+use std::fs::{self, File, Metadata};
 use std::io::ErrorKind;
 use std::os::fd::AsRawFd;
 use std::os::unix::fs::MetadataExt;
 use std::process::ExitCode;
-use std::{env, fs, io};
+use std::{env, io};
 use store_base::NoMemory;
 use store_top::{
     Access, FileRequest, Outcome, PairOutcome, Status, Wanted, Words, pair_words, top, top_pair,
@@ -82,8 +82,13 @@ fn lock(file: &File, access: Access) -> io::Result<()> {
     Ok(())
 }
 
+/// Whether two files are one, by whatever paths they were found.
+fn are_one(first: &Metadata, second: &Metadata) -> bool {
+    first.dev() == second.dev() && first.ino() == second.ino()
+}
+
 /// Opens a file, and locks it. What is no file is not opened, since that of a pipe would wait for its other end.
-fn open(rt: &HostRuntime, path: &str, access: Access) -> io::Result<File> {
+fn open_there(rt: &HostRuntime, path: &str, access: Access) -> io::Result<File> {
     if !fs::metadata(rt, path)?.is_file() {
         return Err(io::Error::from(ErrorKind::InvalidInput));
     }
@@ -95,12 +100,31 @@ fn open(rt: &HostRuntime, path: &str, access: Access) -> io::Result<File> {
     Ok(file)
 }
 
+/// Whether a path still leads to a file that was opened there.
+fn leads_to(rt: &HostRuntime, path: &str, file: &File) -> io::Result<bool> {
+    Ok(are_one(&fs::metadata(rt, path)?, &file.metadata()?))
+}
+
+/// Opens a file, and locks it. Where another file took its place until it was locked, that one is opened.
+fn open(rt: &HostRuntime, path: &str, access: Access) -> io::Result<File> {
+    for _ in 0..u64::MAX {
+        let file = open_there(rt, path, access)?;
+        if leads_to(rt, path, &file)? {
+            return Ok(file);
+        }
+    }
+    Err(io::Error::from(ErrorKind::NotFound))
+}
+
 /// Opens a file for writing; where there is none, makes one of so many zeros.
 fn open_or_make(rt: &HostRuntime, path: &str, len: u64) -> io::Result<File> {
     match open(rt, path, Access::Writing) {
         Err(error) if error.kind() == ErrorKind::NotFound => {
             let file = File::create_new(rt, path)?;
             lock(&file, Access::Writing)?;
+            if !leads_to(rt, path, &file)? {
+                return Err(error);
+            }
             file.set_len(len)?;
             Ok(file)
         }
@@ -158,18 +182,12 @@ fn other_of(words: &Words) -> Option<&str> {
     }
 }
 
-/// Whether two open files are one, by whatever paths they were opened.
-fn are_one(first: &File, second: &File) -> io::Result<bool> {
-    let (first, second) = (first.metadata()?, second.metadata()?);
-    Ok(first.dev() == second.dev() && first.ino() == second.ino())
-}
-
 /// Opens the file of an image, only to be read, and that of the other one, which has to be there. Two paths to one file
 /// are an error. The second lock is refused there already, but where the file's system gives a process both.
 fn open_pair(rt: &HostRuntime, image: &str, other: &str) -> io::Result<(FileDisk, FileDisk)> {
     let from = open(rt, image, Access::Reading)?;
     let to = open(rt, other, Access::Writing)?;
-    if are_one(&from, &to)? {
+    if are_one(&from.metadata()?, &to.metadata()?) {
         return Err(io::Error::from(ErrorKind::InvalidInput));
     }
     Ok((disk_of(from)?, disk_of(to)?))
