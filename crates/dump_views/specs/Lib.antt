@@ -1,4 +1,2 @@
 pub mod Contents
-pub mod Entries
 pub mod Texts
-pub mod Groups

@@ -1,8 +1,8 @@
 //! The text of a time.
 
 ghost use Rattle.std.specs.Prelude.{◌≡◌, ◌<◌, ◌≤◌, ◌+◌, ◌/◌, ◌++◌, ℕ, List, IfSome, is_some, length, nat_le};
-ghost use Rattle.dump_views.specs.Texts.{clock_text, date_text, day_of, day_since, time_column, time_text, two_digits};
-ghost use Rattle.dump_views.specs.Texts.{utc_column, utc_text, year_text};
+ghost use Rattle.dump_views.specs.Texts.{clock_text, date_text, day_of, day_since, two_digits, utc_column, utc_text};
+ghost use Rattle.dump_views.specs.Texts.{year_text};
 
 use jiff_core::civil::Date;
 use script_lines::{MAX_TEXT, Text};
@@ -10,44 +10,8 @@ use script_lines::{MAX_TEXT, Text};
 /// The seconds of a day.
 const DAY: u64 = 86_400;
 
-/// The room of a time.
-const NO_TIME: &[u8; 19] = b"                   ";
-
 /// The column of a time where none is known.
 const NO_UTC: &[u8; 20] = b"-                   ";
-
-/// Adds the column of a time, if there is one, 20 bytes at most: spaces where no time is known, or one behind the
-/// year 9999.
-pub(crate) fn push_time(text: &mut Text, has_times: bool, seconds: Option<u64>)
-    requires { length text.old + 20 ≤ MAX_TEXT }
-    ensures value { text.new ≡ text.old ++ time_column has_times seconds }
-    ensures fits { length text.new ≤ length text.old + 20 }
-{
-    if !has_times {
-        return;
-    }
-    text.push(b" ");
-    match seconds {
-        Some(seconds) => push_moment(text, seconds),
-        None => text.push(NO_TIME),
-    }
-}
-
-/// Adds the text of a time, 19 bytes.
-fn push_moment(text: &mut Text, seconds: u64)
-    requires { length text.old + 19 ≤ MAX_TEXT }
-    ensures value { text.new ≡ text.old ++ time_text seconds }
-    ensures fits { length text.new ≡ length text.old + 19 }
-{
-    match day_at(seconds) {
-        Some(date) => {
-            push_date(text, date);
-            text.push(b" ");
-            push_clock(text, (seconds % DAY) as u32);
-        }
-        None => text.push(NO_TIME),
-    }
-}
 
 /// Adds the column of a time by UTC, 20 bytes: as `2026-11-30T12:00:00Z`, and `-` where no time is known, or one behind
 /// the year 9999.
