@@ -2,9 +2,11 @@
 # What a shell completes behind `hstore`: the image as a file, the words, and what is known of their arguments. `hstore
 # --install` puts it where bash looks for it. `bin/texts hstore write` writes the words, which are those of help.
 _hstore() {
-    local words='format format2 run session check scrub wipe upgrade dump load big mirror' choices='' files=''
-    case "$COMP_CWORD ${COMP_WORDS[1]} ${COMP_WORDS[2]-}" in
-        '1 '*) choices='help --help --version --install --uninstall' files=-f ;;
+    local words='format format2 run session check scrub wipe upgrade dump load big mirror' choices='' files='' at=$COMP_CWORD
+    local -a its=("${COMP_WORDS[@]}")
+    [[ $at = 1 || ${its[1]} != --quiet ]] || its=("${its[@]:1}") at=$((at - 1))
+    case "$at ${its[1]} ${its[2]-}" in
+        '1 '*) choices='help --help --version --quiet --install --uninstall' files=-f ;;
         '2 help '*) choices="$words" ;;
         '2 --install '* | '2 --uninstall '*) files=-d ;;
         '2 -h '* | '2 --help '* | '2 --version '*) ;;

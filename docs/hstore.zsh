@@ -2,9 +2,13 @@
 # What a shell completes behind `hstore`, as docs/hstore.bash does. `hstore --install` puts it where zsh looks for it.
 # `bin/texts hstore write` writes the words. .ci/brought tries it where there is a zsh.
 local -a its=(format format2 run session check scrub wipe upgrade dump load big mirror)
+if [[ $CURRENT -gt 2 && $words[2] = --quiet ]]; then
+    shift words
+    ((CURRENT--))
+fi
 case $CURRENT in
     2)
-        compadd -- help --help --version --install --uninstall
+        compadd -- help --help --version --quiet --install --uninstall
         _files
         ;;
     3)
