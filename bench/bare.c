@@ -1,7 +1,8 @@
 // Makes the calls of a log on a file, and nothing else, and prints how many microseconds they took, by the clock
 // and of a processor: cc -O2 -o bare bare.c && ./bare LOG FILE
 //
-// The log has the lines of calls.c without `reply`. What is written are bytes that are not zero.
+// The log has the lines of calls.c without `reply`, and `open PATH`, which reads a whole file. What is written are bytes
+// that are not zero, where no such line stands before.
 #define _GNU_SOURCE
 #include <fcntl.h>
 #include <stdio.h>
@@ -13,7 +14,8 @@
 enum { LONGEST = 1 << 20, MOST_CALLS = 1 << 20, SOME_BYTE = 0x5a };
 
 typedef struct {
-    char kind; // the first letter of the line: r, w, s or f
+    char kind; // the first letter of the line: r, w, s, f or o
+    char *path;
     long long at;
     size_t len;
 } Call;
@@ -26,12 +28,20 @@ static void fail(const char *what) {
     exit(1);
 }
 
+static int read_all(const char *path) {
+    ssize_t came;
+    int file = open(path, O_RDONLY);
+    while ((came = read(file, bytes, sizeof bytes)) > 0) {}
+    return came == 0 && close(file) == 0;
+}
+
 static int make(int file, const Call *call) {
     switch (call->kind) {
     case 'r': return pread(file, bytes, call->len, call->at) == (ssize_t)call->len;
     case 'w': return pwrite(file, bytes, call->len, call->at) == (ssize_t)call->len;
     case 's': return fdatasync(file) == 0;
     case 'f': return fsync(file) == 0;
+    case 'o': return read_all(call->path);
     default: return 0;
     }
 }
@@ -48,10 +58,11 @@ int main(int count, char **words) {
     int file = open(words[2], O_RDWR);
     if (log == NULL || file < 0) fail(words[1]);
     size_t many = 0;
-    for (char line[64]; fgets(line, sizeof line, log) != NULL; many++) {
+    for (char line[4096]; fgets(line, sizeof line, log) != NULL; many++) {
         if (many == MOST_CALLS) fail("too many calls");
         calls[many].kind = line[0];
         sscanf(line, "%*s %lld %zu", &calls[many].at, &calls[many].len);
+        if (line[0] == 'o') calls[many].path = strdup(strtok(line + 5, "\n"));
         if (calls[many].len > LONGEST) fail("too long a call");
     }
     memset(bytes, SOME_BYTE, sizeof bytes);

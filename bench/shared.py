@@ -31,6 +31,9 @@ with open(HERE + "/../docs/SCRIPT.md", encoding="utf-8") as stated:
 PLACES = {"on a disk": HERE + "/out", "in memory": "/dev/shm"}
 KINDS = {"clock": "by the clock", "processor": "of a processor"}
 CHANGES = ("write", "sync", "fsync")
+TOOLS = {"tar cf": lambda archive, tree: ["tar", "cf", archive, "-C", tree, "."],
+         "sqlite3 -Ac": lambda archive, tree: ["sqlite3", archive, "-Ac", tree],
+         "mksquashfs": lambda archive, tree: ["mksquashfs", tree, archive, "-quiet"]}
 say = functools.partial(print, flush=True)
 
 
@@ -66,9 +69,9 @@ def measure(text, parts, rounds=15, **more):
     for name, default in options.items():
         if getattr(words, name) is None:
             setattr(words, name, program_of(default) if default.endswith("_main") else default)
-    words.parts = words.parts or [part for part in parts if part != "older" or words.older]
-    if not set(words.parts) <= set(parts) or ("older" in words.parts and not words.older):
-        parser.error(f"the parts are {', '.join(parts)}; older with --older PROGRAM")
+    words.parts = words.parts or list(parts)
+    if not set(words.parts) <= set(parts):
+        parser.error(f"the parts are {', '.join(parts)}")
     for part in words.parts:
         with room(getattr(words, "folder", "in memory")) as folder:
             parts[part](Bench(words.program, folder), words)
@@ -372,6 +375,13 @@ def listing_of(files):
         if above != (above := name.split("/")[0]):
             yield f"make /{above}"
         yield from (f"write /{name} {at} {found[at:at + 2048].hex() or '-'}" for at in range(0, max(len(found), 1), 2048))
+
+
+def archive(took, bench, tree):
+    """What other tools take to make an archive of a folder, where they are there."""
+    for name, words in TOOLS.items():
+        if shutil.which(words("", "")[0]):
+            took.add(name, timed(words(bench.gone("archive"), tree)))
 
 
 def spread(folder, files):
