@@ -1,7 +1,7 @@
 #compdef hbox
 # What a shell completes behind `hbox`, as docs/hbox.bash does. `hstore --install` puts it where zsh looks for it.
 # `bin/texts hbox write` writes the words. .ci/brought tries it where there is a zsh.
-local -a its=(extract ls get compare check info map unpack)
+local -a its=(create extract ls get rm mv mkdir attr compare check info map pack unpack)
 local -a common=(--help --escaped --quiet --verbose --wait)
 local -a taken=(--skip --no-mode --no-links --mtime --no-mtime)
 if ((CURRENT == 2)); then
@@ -11,6 +11,15 @@ if ((CURRENT == 2)); then
 fi
 case "$words[2] $words[CURRENT-1]" in
     'help '*) ((CURRENT > 3)) || compadd -a its ;;
+    'create --draw') compadd -- ruler sha256 ;;
+    'create --seed') compadd -- random - ;;
+    'create --slots' | 'create --height') ;;
+    'create '*)
+        compadd -- --slots --height --draw --seed --empty --dry-run
+        compadd -a taken
+        compadd -a common
+        _files
+        ;;
     'ls '*)
         compadd -- -l -R -0
         compadd -a common
@@ -22,7 +31,34 @@ case "$words[2] $words[CURRENT-1]" in
         compadd -a common
         _files
         ;;
-    'extract '* | 'unpack '*)
+    'get --paths0-from' | 'rm --paths0-from') _files ;;
+    'attr -d') ;;
+    'rm '*)
+        compadd -- -r -f --paths0-from
+        compadd -a common
+        _files
+        ;;
+    'get '*)
+        compadd -- --paths0-from
+        compadd -a common
+        _files
+        ;;
+    'mv '*)
+        compadd -- -f
+        compadd -a common
+        _files
+        ;;
+    'mkdir '*)
+        compadd -- -p
+        compadd -a common
+        _files
+        ;;
+    'attr '*)
+        compadd -- -d --hex
+        compadd -a common
+        _files
+        ;;
+    'extract '* | 'pack '* | 'unpack '*)
         compadd -a taken
         compadd -a common
         _files
@@ -33,7 +69,7 @@ case "$words[2] $words[CURRENT-1]" in
         compadd -a common
         _files
         ;;
-    'get '* | 'info '* | 'map '*)
+    'info '* | 'map '*)
         compadd -a common
         _files
         ;;
